@@ -1,0 +1,83 @@
+-- The laws of pieces: joining gives the bytes back, no piece holds the separator, and no other list of pieces has both properties.
+-- Assumes nothing.
+use Prim.Native.Nat.{ℕ, _<_}
+use mathlib.Core.Path.{_≡_, refl, sym, ap, _∙_}
+use mathlib.Core.Bool.{Bool, true, false}
+use mathlib.Core.List.{List, [], _∷_, _++_, append-assoc}
+use native.Mathlib.Omega.{arith}
+use lib.Dec.{eqb}
+use lib.ListN.{length}
+use borrow.Author.Tests.{eq-eqb, ne-eqb, eqb-true, eqb-false}
+use Rattle.text.specs.Bytes.{Bytes}
+use Rattle.text.specs.Pieces.{before, pieces, joined, closed, Free, Clean}
+
+-- there is a piece, be it empty
+before-some : (t : Bool) (b : ℕ) (ps : List Bytes) → 0 < length (before t b ps)
+before-some true b ps = omega arith
+before-some false b [] = omega arith
+before-some false b (p ∷ ps) = omega arith
+
+pub pieces-some : (sep : ℕ) (s : Bytes) → 0 < length (pieces sep s)
+pieces-some sep [] = omega arith
+pieces-some sep (b ∷ s) = before-some (eqb b sep) b (pieces sep s)
+
+-- joining gives the bytes back
+joined-before : (sep b : ℕ) (t : Bool) (ps : List Bytes) → eqb b sep ≡ t → 0 < length ps → joined sep (before t b ps) ≡ b ∷ joined sep ps
+joined-before sep b t [] e h = absurd (omega arith)
+joined-before sep b true (p ∷ ps) e h = rw (eqb-true b sep e)
+joined-before sep b false (p ∷ []) e h = refl
+joined-before sep b false (p ∷ (q ∷ ps)) e h = refl
+
+pub joined-pieces : (sep : ℕ) (s : Bytes) → joined sep (pieces sep s) ≡ s
+joined-pieces sep [] = refl
+joined-pieces sep (b ∷ s) =
+    joined-before sep b (eqb b sep) (pieces sep s) refl (pieces-some sep s) ∙ ap (λ (l : Bytes). b ∷ l) (joined-pieces sep s)
+
+-- no piece holds the separator
+clean-before : (sep b : ℕ) (t : Bool) (ps : List Bytes) → eqb b sep ≡ t → Clean sep ps → Clean sep (before t b ps)
+clean-before sep b true ps e c = (tt, c)
+clean-before sep b false [] e c = ((eqb-false b sep e, tt), tt)
+clean-before sep b false (p ∷ ps) e c = ((eqb-false b sep e, c .0), c .1)
+
+pub pieces-clean : (sep : ℕ) (s : Bytes) → Clean sep (pieces sep s)
+pieces-clean sep [] = (tt, tt)
+pieces-clean sep (b ∷ s) = clean-before sep b (eqb b sep) (pieces sep s) refl (pieces-clean sep s)
+
+-- bytes without the separator are one piece
+pub pieces-free : (sep : ℕ) (s : Bytes) → Free sep s → pieces sep s ≡ s ∷ []
+pieces-free sep [] f = refl
+pieces-free sep (b ∷ s) f = rw (ne-eqb b sep (f .0), pieces-free sep s (f .1))
+
+-- what stands before the first separator is the first piece
+pub pieces-cut : (sep : ℕ) (gap rest : Bytes) → Free sep gap → pieces sep (gap ++ sep ∷ rest) ≡ gap ∷ pieces sep rest
+pieces-cut sep [] rest f = rw (eq-eqb sep sep refl)
+pieces-cut sep (b ∷ gap) rest f = rw (ne-eqb b sep (f .0), pieces-cut sep gap rest (f .1))
+
+-- pieces that are closed already come first
+pub pieces-closed : (sep : ℕ) (ps : List Bytes) (rest : Bytes) → Clean sep ps → pieces sep (closed sep ps ++ rest) ≡ ps ++ pieces sep rest
+pieces-closed sep [] rest f = refl
+pieces-closed sep (p ∷ ps) rest f = rw (append-assoc, pieces-cut sep p (closed sep ps ++ rest) (f .0), pieces-closed sep ps rest (f .1))
+
+-- pieces without the separator are cut again where they were joined
+pub pieces-joined : (sep : ℕ) (ps : List Bytes) → 0 < length ps → Clean sep ps → pieces sep (joined sep ps) ≡ ps
+pieces-joined sep [] h c = absurd (omega arith)
+pieces-joined sep (p ∷ []) h c = pieces-free sep p (c .0)
+pieces-joined sep (p ∷ (q ∷ ps)) h c = rw (pieces-cut sep p (joined sep (q ∷ ps)) (c .0), pieces-joined sep (q ∷ ps) (omega arith) (c .1))
+
+-- the cut is the only list of pieces that joins to the bytes and holds no separator
+pub pieces-once : (sep : ℕ) (s : Bytes) (ps : List Bytes) → 0 < length ps → Clean sep ps → joined sep ps ≡ s → ps ≡ pieces sep s
+pieces-once sep s ps h c e = rw (← e) (sym (pieces-joined sep ps h c))
+
+-- one piece more
+pub closed-snoc : (sep : ℕ) (ps : List Bytes) (p : Bytes) → closed sep (ps ++ (p ∷ [])) ≡ closed sep ps ++ (p ++ sep ∷ [])
+closed-snoc sep [] p = refl
+closed-snoc sep (q ∷ ps) p = rw (append-assoc, closed-snoc sep ps p)
+
+pub clean-snoc : (sep : ℕ) (ps : List Bytes) (p : Bytes) → Clean sep ps → Free sep p → Clean sep (ps ++ (p ∷ []))
+clean-snoc sep [] p c f = (f, tt)
+clean-snoc sep (q ∷ ps) p c f = (c .0, clean-snoc sep ps p (c .1) f)
+
+-- one byte more
+pub free-snoc : (sep : ℕ) (s : Bytes) (b : ℕ) → Free sep s → (b ≡ sep → ⊥) → Free sep (s ++ (b ∷ []))
+free-snoc sep [] b f h = (h, tt)
+free-snoc sep (a ∷ s) b f h = (f .0, free-snoc sep s b (f .1) h)

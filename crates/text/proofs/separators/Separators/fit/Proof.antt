@@ -1,0 +1,22 @@
+-- `fit` meets its contract: each of the three may serve, and they differ.
+-- Assumes nothing.
+use native.Mathlib.Omega.{arith}
+use borrow.Author.Needs.{needs}
+use Rattle.text.proofs.separators.Separators.fit.Statement.{statement}
+use Rattle.text.proofs.separators.Separators.fit.Tie as tie
+
+may-serve-requires : tie.Need-may-serve-requires
+may-serve-requires c κs = search needs
+
+may-serve-requires-2 : tie.Need-may-serve-requires-2
+may-serve-requires-2 c κs = search needs
+
+may-serve-requires-3 : tie.Need-may-serve-requires-3
+may-serve-requires-3 c κs = search needs
+
+returns : tie.Need-returns
+returns c = cc
+
+pub fit-spec : {M : Type 1} → statement M
+fit-spec =
+    tie.close (tie.spec may-serve-requires may-serve-requires-2 may-serve-requires-3 returns)

@@ -1,0 +1,41 @@
+-- Where a piece stands, and what the two lookups hand back.
+-- Assumes nothing.
+use Prim.Native.Nat.{ℕ, zero, suc, _+_}
+use mathlib.Core.Path.{_≡_}
+use mathlib.Core.Bool.{cond}
+use mathlib.Core.List.{List, []}
+use lib.Dec.{ltb}
+use lib.ListN.{length, take, drop, getD}
+use denote.Ref.{RefT, ptr, now}
+use Rattle.text.specs.Bytes.{Bytes}
+use Rattle.text.specs.Pieces.{pieces, closed}
+use Rattle.text.specs.declared.lookup.Span.{Span}
+
+abbrev pub span : ℕ → ℕ → Span
+span start len = record { start = start; len = len }
+
+-- piece number n, from 0: it starts behind the pieces before it, each with its separator; "a number past the last gives an empty part at the end"
+unfoldable pub pieceSpan : ℕ → Bytes → ℕ → Span
+pieceSpan sep s n =
+    cond (ltb n (length (pieces sep s)))
+    (span (length (closed sep (take n (pieces sep s)))) (length (getD (pieces sep s) n [])))
+    (span (length s) 0)
+
+-- "Element lookup": the piece with that number, "0 being the tag"
+abbrev pub elementSpan : ℕ → Bytes → ℕ → Span
+elementSpan sep segment n = pieceSpan sep segment n
+
+-- "Component lookup": "numbered from 1; number 0 gives the empty part at the end"
+unfoldable pub componentSpan : ℕ → Bytes → ℕ → Span
+componentSpan sep element zero = span (length element) 0
+componentSpan sep element (suc n) = pieceSpan sep element n
+
+-- the bytes of a span
+abbrev pub partOf : Bytes → Span → Bytes
+partOf s p = take (p .len) (drop (p .start) s)
+
+-- `part` is that span of the lent slice `whole`: the same memory, from the start on, as many bytes as the span has
+pub record PartAt (whole part : RefT Bytes) (p : Span) : Type 0 where
+  pub block : ptr part .0 ≡ ptr whole .0
+  pub place : ptr part .1 ≡ ptr whole .1 + p .start
+  pub content : now part ≡ partOf (now whole) p

@@ -1,0 +1,22 @@
+-- What a search for a byte finds.
+-- Assumes nothing.
+use Prim.Native.Nat.{ℕ, _+_}
+use mathlib.Core.Path.{_≡_}
+use mathlib.Core.List.{List, _∷_, _++_}
+use lib.ListN.{length, drop}
+use Rattle.text.specs.Bytes.{Bytes}
+use Rattle.text.specs.Pieces.{Free}
+use Rattle.text.specs.declared.lookup.Found.{Found}
+use Rattle.text.specs.declared.lookup.Found.the-variants.{At, Nowhere}
+
+-- from `from` on, s is a gap without the byte, then the byte at the place j, then the rest
+pub record Meets (s : Bytes) (from byte j : ℕ) : Type 0 where
+  pub gap : Bytes
+  pub rest : Bytes
+  pub whole : drop from s ≡ gap ++ byte ∷ rest
+  pub free : Free byte gap
+  pub place : j ≡ from + length gap
+
+abbrev pub Finds : Bytes → ℕ → ℕ → Found → Type 0
+Finds s from byte (At j) = Meets s from byte j
+Finds s from byte Nowhere = Free byte (drop from s)

@@ -1,0 +1,55 @@
+-- A segment as it is seen once the separators are gone: its pieces, each a list of components, each a list of bytes.
+-- "Its first piece is the tag, the rest are elements 1, 2, .."
+-- Assumes nothing.
+use Prim.Native.Nat.{ℕ, _-_}
+use mathlib.Core.Bool.{Bool, true, false, not, _&&_}
+use mathlib.Core.List.{List, [], _∷_, map}
+use lib.Dec.{ltb}
+use lib.ListN.{length, getD}
+use Rattle.text.specs.Bytes.{Bytes, every}
+use Rattle.text.specs.Separators.{isSeparator}
+use Rattle.text.specs.Pieces.{pieces, joined}
+use Rattle.text.specs.declared.separators.Separators.{Separators}
+
+-- a piece, as its components
+abbrev pub Piece : Type 0
+Piece = List Bytes
+
+-- a segment, as its pieces
+abbrev pub View : Type 0
+View = List Piece
+
+-- the segment cut at the element separator, and each piece at the component separator
+abbrev pub viewOf : Separators → Bytes → View
+viewOf q segment = map (pieces (q .component)) (pieces (q .element) segment)
+
+-- the view written with separators
+abbrev pub written : Separators → View → Bytes
+written q v = joined (q .element) (map (joined (q .component)) v)
+
+-- no separator is left in the view
+abbrev pub unseparated : Separators → View → Bool
+unseparated q v = every (every (every (λ (b : ℕ). not (isSeparator q b)))) v
+
+-- a view that segments can have: it has a tag, and every piece has a component, be it empty
+abbrev pub wellFormed : View → Bool
+wellFormed v = ltb 0 (length v) && every (λ (p : Piece). ltb 0 (length p)) v
+
+-- an empty piece: one component without bytes
+abbrev pub empty : Piece
+empty = [] ∷ []
+
+-- "An empty element is absent."
+abbrev pub present : Piece → Bool
+present [] = false
+present ([] ∷ []) = false
+present ([] ∷ (c ∷ cs)) = true
+present ((b ∷ bs) ∷ cs) = true
+
+-- element number k, the tag being number 0; past the last it is absent
+abbrev pub elementOf : View → ℕ → Piece
+elementOf v k = getD v k empty
+
+-- how many elements there are, the tag not counted
+abbrev pub elementCount : View → ℕ
+elementCount v = length v - 1

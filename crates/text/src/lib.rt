@@ -1,0 +1,3 @@
+// The ground of a reading: the three separators, and the parts of a segment.
+pub mod lookup;
+pub mod separators;

@@ -1,0 +1,52 @@
+// The three separators of a transaction, the standard set, and which sets are fit.
+ghost use mathlib.Core.Path.{_≡_};
+ghost use Rattle.text.specs.Separators.{mayServe, fitSeparators, standard};
+
+pub struct Separators {
+    pub element: u8,
+    pub component: u8,
+    pub terminator: u8,
+}
+
+impl Separators {
+    pub const ELEMENT: u8 = b'*';
+
+    pub const COMPONENT: u8 = b':';
+
+    pub const TERMINATOR: u8 = b'~';
+
+    // The standard set: `*`, `:` and `~`.
+    pub const STANDARD: Separators = Separators {
+        element: Separators::ELEMENT,
+        component: Separators::COMPONENT,
+        terminator: Separators::TERMINATOR,
+    };
+
+    pub fn standard() -> Separators
+        ensures { λ r. ⌜ r ≡ standard ⌝ }
+    {
+        Separators::STANDARD
+    }
+
+    // Whether each of the three may serve as a separator and they differ.
+    pub fn fit(self) -> bool
+        ensures { λ r. ⌜ r ≡ fitSeparators self ⌝ }
+    {
+        may_serve(self.element)
+            & may_serve(self.component)
+            & may_serve(self.terminator)
+            & (self.element != self.component)
+            & (self.element != self.terminator)
+            & (self.component != self.terminator)
+    }
+}
+
+// A byte 1 to 126 that is no letter, digit, space, '.' or '-'.
+pub(crate) fn may_serve(b: u8) -> bool
+    ensures { λ r. ⌜ r ≡ mayServe b ⌝ }
+{
+    let letter = ((65 <= b) & (b <= 90)) | ((97 <= b) & (b <= 122));
+    let digit = (48 <= b) & (b <= 57);
+    let mark = (b == b' ') | (b == b'.') | (b == b'-');
+    (1 <= b) & (b <= 126) & !(letter | digit | mark)
+}
