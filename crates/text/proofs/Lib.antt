@@ -1,4 +1,7 @@
 pub mod Bools
+pub mod Tables
+pub mod Lists
+pub mod Sames
 pub mod Pieces
 pub mod Searching
 pub mod Spans

@@ -13,7 +13,7 @@ use Rattle.text.specs.Separators.{fitSeparators, isSeparator, printable,
 use Rattle.text.specs.Pieces.{before, pieces, joined, closed, Free, Clean}
 use Rattle.text.specs.View.{Piece, View, viewOf, written, unseparated, wellFormed}
 use Rattle.text.specs.declared.separators.Separators.{Separators}
-use Rattle.text.proofs.Bools.{both, first-of, second-of}
+use Rattle.text.proofs.Bools.{both, first-of, second-of, or-left, or-right, apart}
 use Rattle.text.proofs.Pieces.{pieces-some, joined-pieces, pieces-clean, pieces-joined}
 
 -- the byte stands in no component of the view
@@ -94,31 +94,25 @@ module _ (q : Separators) (x : ℕ) (found : T (isSeparator q x)) where
     unseparated-clean v (second-of (every (every (λ (b : ℕ). not (isSeparator q b))) p) (unseparated q v) h),
   )
 
-or-first : (a b c : Bool) → T a → T (a || b || c)
-or-first true b c h = tt
-or-first false b c h = absurd h
-
-or-second : (a b c : Bool) → T b → T (a || b || c)
-or-second true b c h = tt
-or-second false true c h = tt
-or-second false false c h = absurd h
-
-or-third : (a b c : Bool) → T c → T (a || b || c)
-or-third true b c h = tt
-or-third false true c h = tt
-or-third false false c h = h
-
 module _ (q : Separators) where
+  abbrev e : ℕ
+  e = q .element
+
+  abbrev c : ℕ
+  c = q .component
+
+  abbrev t : ℕ
+  t = q .terminator
+
+  -- each separator is one
   pub element-separates : T (isSeparator q (q .element))
-  element-separates = or-first (eqb (q .element) (q .element)) (eqb (q .element) (q .component)) (eqb (q .element) (q .terminator)) (eqb-refl (q .element))
+  element-separates = or-left (eqb e e || eqb e c) (eqb e t) (or-left (eqb e e) (eqb e c) (eqb-refl e))
 
   pub component-separates : T (isSeparator q (q .component))
-  component-separates =
-      or-second (eqb (q .component) (q .element)) (eqb (q .component) (q .component)) (eqb (q .component) (q .terminator)) (eqb-refl (q .component))
+  component-separates = or-left (eqb c e || eqb c c) (eqb c t) (or-right (eqb c e) (eqb c c) (eqb-refl c))
 
   pub terminator-separates : T (isSeparator q (q .terminator))
-  terminator-separates =
-      or-third (eqb (q .terminator) (q .element)) (eqb (q .terminator) (q .component)) (eqb (q .terminator) (q .terminator)) (eqb-refl (q .terminator))
+  terminator-separates = or-right (eqb t e || eqb t c) (eqb t t) (eqb-refl t)
 
   -- writing a view gives the segment back
   joined-each : (ps : List Bytes) → map (joined (q .component)) (map (pieces (q .component)) ps) ≡ ps
@@ -157,9 +151,6 @@ pub record Fitted (q : Separators) : Type 0 where
   pub element-terminator : q .element ≡ q .terminator → ⊥
   pub component-terminator : q .component ≡ q .terminator → ⊥
 
-differ : (a b : ℕ) → T (not (eqb a b)) → a ≡ b → ⊥
-differ a b n e = T-not (eqb a b) n (rw e (eqb-refl b))
-
 pub fitted : (q : Separators) → T (fitSeparators q) → Fitted q
 fitted q h =
     let a = mayServe (q .element) in
@@ -176,9 +167,9 @@ fitted q h =
       element-serves = first-of a b h2;
       component-serves = second-of a b h2;
       terminator-serves = second-of (a && b) c h3;
-      element-component = differ (q .element) (q .component) (second-of (a && b && c) d h4);
-      element-terminator = differ (q .element) (q .terminator) (second-of (a && b && c && d) e h5);
-      component-terminator = differ (q .component) (q .terminator) (second-of (a && b && c && d && e) f h);
+      element-component = apart (q .element) (q .component) (second-of (a && b && c) d h4);
+      element-terminator = apart (q .element) (q .terminator) (second-of (a && b && c && d) e h5);
+      component-terminator = apart (q .component) (q .terminator) (second-of (a && b && c && d && e) f h);
     }
 
 -- a view without separators is written and seen again as it was, where the separators differ

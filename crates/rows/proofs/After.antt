@@ -1,0 +1,150 @@
+-- The answer of a lookup in the next-row table is the one row that fits.
+-- Assumes nothing.
+use mathlib.Core.Path.{_≡_, refl, sym, subst, _∙_}
+use mathlib.Core.Logic.{by-cases}
+use mathlib.Core.Bool.{Bool, true, false, cond, _&&_}
+use mathlib.Core.List.{List}
+use Prim.Native.Nat.{ℕ, zero, suc, _<_, _≤_}
+use native.Mathlib.Omega.{arith}
+use native.Mathlib.Decide.{decLt}
+use lib.Dec.{T, eqb, eqb→eq, eqb-refl}
+use borrow.Author.Tests.{ne-eqb, le-leb, lt-leb, le-ltb, lt-ltb}
+use Rattle.text.proofs.Bools.{both, first-of, second-of}
+use Rattle.text.proofs.Tables.{tab, tab-at}
+use Rattle.rows.specs.Tags.{tag, tagNumber}
+use Rattle.rows.specs.Rows.{Viable, list842}
+use Rattle.rows.specs.RowList.{rowAt, maxOf}
+use Rattle.rows.specs.Next.{nextOf, nextTable, after, edges842}
+use Rattle.rows.specs.Following.{OneFits, lastOf, twice}
+use Rattle.rows.specs.Lookup.{RowAfter, rowAfterIn, entryAt}
+use Rattle.rows.proofs.Follow.{last-range}
+use Rattle.rows.proofs.Fit.{fits-next, next-fits, fits-range, fits-tag}
+use Rattle.rows.proofs.Table.{entry-next}
+
+-- the computed next row, unless it would be a third
+unfoldable pub stepOf : ℕ → Bool → ℕ → ℕ
+stepOf r again t = cond (again && (eqb (nextOf r t) r && eqb (maxOf r) 2)) 0 (nextOf r t)
+
+module _ (w : List ℕ) (v : Viable list842 w) (t : ℕ) (ht : t < 34) where
+  -- by the step's test: passed, no row with the tag fits; failed, the next row does, unless it is 0
+  by-test : (b : Bool) → (T b → T (twice 0 false w) × (nextOf (lastOf 0 w) t ≡ lastOf 0 w) × (maxOf (lastOf 0 w) ≡ 2))
+      → (T (twice 0 false w) → maxOf (lastOf 0 w) ≡ 2 → nextOf (lastOf 0 w) t ≡ lastOf 0 w → T b)
+      → OneFits w t (cond b 0 (nextOf (lastOf 0 w) t))
+  by-test true passed test = record {
+    fits = λ n. absurd (n refl);
+    alone = λ y f.
+        let o = fits-next w t y f in
+        let z = passed tt in
+        absurd (o .1 (z .0) (z .2) (o .0 ∙ z .1));
+  }
+  by-test false passed test = record {
+    fits = λ n. next-fits w v t ht n (λ p q s. test p q s);
+    alone = λ y f.
+        let e = fits-next w t y f .0 in
+        let k = fits-range w t y f in
+        (e, λ z. omega arith);
+  }
+
+  pub step-fits : OneFits w t (stepOf (lastOf 0 w) (twice 0 false w) t)
+  unfolding stepOf
+  step-fits =
+      let r = lastOf 0 w in
+      let a = twice 0 false w in
+      let b = eqb (nextOf r t) r in
+      let c = eqb (maxOf r) 2 in
+      by-test (a && (b && c))
+      (λ h.
+      let q = second-of a (b && c) h in
+      (first-of a (b && c) h, eqb→eq (nextOf r t) r (first-of b c q), eqb→eq (maxOf r) 2 (second-of b c q)))
+      (λ p m e. both a (b && c) p (both b c (rw e (eqb-refl r)) (rw m tt)))
+
+-- at the start: row 1 for ST, and nothing else
+checked-start : (again : Bool) → tab 34 (λ t. cond (eqb t (tag "ST")) 1 0) ≡ tab 34 (λ t. stepOf 0 again t)
+unfolding tab stepOf nextOf after edges842 list842 tagNumber maxOf rowAt
+checked-start false = refl
+checked-start true = refl
+
+-- the lookup at a row and a tag of the list, in any table
+pub after-entry : (table : List ℕ) (r : ℕ) (again : Bool) (t : ℕ) → 1 ≤ r → r ≤ 79 → t < 34
+    → rowAfterIn table r again t ≡ cond (again && (eqb (entryAt table r t) r && eqb (maxOf r) 2)) 0 (entryAt table r t)
+unfolding rowAfterIn
+after-entry table r again t lo hi ht = rw (ne-eqb r 0 (λ e. omega arith), le-leb r 79 hi, lt-ltb t 34 ht)
+
+-- the lookup's ways, each with its tests
+module _ (table : List ℕ) (r : ℕ) (again : Bool) (t : ℕ) where
+  -- nothing read, and ST
+  pub start-st : r ≡ 0 → t ≡ 0 → 1 ≡ rowAfterIn table r again t
+  unfolding rowAfterIn tagNumber
+  start-st e f = rw (e, f)
+
+  -- nothing read, and another tag
+  pub start-other : r ≡ 0 → (t ≡ 0 → ⊥) → 0 ≡ rowAfterIn table r again t
+  unfolding rowAfterIn tagNumber
+  start-other e n = rw (e, ne-eqb t 0 n)
+
+  -- a row past the last
+  pub row-outside : (r ≡ 0 → ⊥) → 79 < r → 0 ≡ rowAfterIn table r again t
+  unfolding rowAfterIn
+  row-outside n h = rw (ne-eqb r 0 n, lt-leb r 79 h)
+
+  -- a number that is no tag's
+  pub tag-outside : (r ≡ 0 → ⊥) → r ≤ 79 → 34 ≤ t → 0 ≡ rowAfterIn table r again t
+  unfolding rowAfterIn
+  tag-outside n h l = rw (ne-eqb r 0 n, le-leb r 79 h, le-ltb t 34 l)
+
+  module _ (lo : 1 ≤ r) (hi : r ≤ 79) (ht : t < 34) where
+    -- a third of a row of maximum 2
+    pub third-refused : again ≡ true → eqb (entryAt table r t) r ≡ true → eqb (maxOf r) 2 ≡ true → 0 ≡ rowAfterIn table r again t
+    third-refused p q s = sym (after-entry table r again t lo hi ht ∙ rw (p, q, s))
+
+    -- a row of another maximum once more
+    pub other-maximum : again ≡ true → eqb (entryAt table r t) r ≡ true → eqb (maxOf r) 2 ≡ false
+        → entryAt table r t ≡ rowAfterIn table r again t
+    other-maximum p q s = sym (after-entry table r again t lo hi ht ∙ rw (p, q, s))
+
+    -- another row after one that stands twice
+    pub other-row : again ≡ true → eqb (entryAt table r t) r ≡ false → entryAt table r t ≡ rowAfterIn table r again t
+    other-row p q = sym (after-entry table r again t lo hi ht ∙ rw (p, q))
+
+    -- any row after one that stands once
+    pub first-time : again ≡ false → entryAt table r t ≡ rowAfterIn table r again t
+    first-time p = sym (after-entry table r again t lo hi ht ∙ rw p)
+
+-- the lookup in the next-row table is the step
+after-step : (r t : ℕ) (again : Bool) → r ≤ 79 → t < 34 → rowAfterIn nextTable r again t ≡ stepOf r again t
+unfolding rowAfterIn stepOf
+after-step zero t again hi ht =
+    tab-at 34 (λ t. cond (eqb t (tag "ST")) 1 0) (λ t. stepOf 0 again t) (checked-start again) t ht
+after-step (suc k) t again hi ht =
+    rw (after-entry nextTable (suc k) again t (omega arith) hi ht, entry-next (suc k) t (omega arith) hi ht)
+
+-- for a number that is no tag's the answer is 0
+no-tag : (table : List ℕ) (r : ℕ) (again : Bool) (t : ℕ) → 34 ≤ t → 0 ≡ rowAfterIn table r again t
+no-tag table zero again t h = start-other table 0 again t refl (λ e. omega arith)
+no-tag table (suc k) again t h =
+    by-cases (decLt 79 (suc k))
+    (λ past. row-outside table (suc k) again t (λ e. omega arith) past)
+    (λ within. tag-outside table (suc k) again t (λ e. omega arith) (omega arith) h)
+
+-- and nothing fits
+none-fits : (w : List ℕ) (t x : ℕ) → 34 ≤ t → x ≡ 0 → OneFits w t x
+none-fits w t x h e = record {
+  fits = λ n. absurd (n e);
+  alone = λ y f. absurd (let k = fits-tag w t y f in omega arith);
+}
+
+-- an answer as defined keeps the whole promise
+pub answer-means : (table : List ℕ) (r : ℕ) (again : Bool) (t x : ℕ) → x ≡ rowAfterIn table r again t → RowAfter table r again t x
+answer-means table r again t x e = record {
+  answer = e;
+  meaning = λ f w v last second.
+      by-cases (decLt t 34)
+      (λ ht.
+      let hi : r ≤ 79 = subst (λ (k : ℕ). k ≤ 79) last (le-79 w v) in
+      let g : x ≡ stepOf (lastOf 0 w) (twice 0 false w) t = rw (last, second) (e ∙ rw f (after-step r t again hi ht)) in
+      subst (λ (k : ℕ). OneFits w t k) (sym g) (step-fits w v t ht))
+      (λ past. none-fits w t x (omega arith) (e ∙ sym (no-tag table r again t (omega arith))));
+}
+  where
+    le-79 : (w : List ℕ) → Viable list842 w → lastOf 0 w ≤ 79
+    le-79 w v = let h = last-range w v in omega arith

@@ -1,0 +1,13 @@
+pub mod Derive
+pub mod States
+pub mod Local
+pub mod Follow
+pub mod Fit
+pub mod Table
+pub mod Unique
+pub mod Agree
+pub mod TagList
+pub mod Packing
+pub mod After
+pub mod Cases
+pub mod Once

@@ -1,0 +1,49 @@
+-- What may come after what, said with the words of the bracketed row list alone.
+-- Assumes nothing.
+use Prim.Native.Nat.{ℕ}
+use mathlib.Core.Path.{_≡_}
+use mathlib.Core.Logic.{_≢_}
+use mathlib.Core.Bool.{Bool}
+use mathlib.Core.List.{List, [], _∷_, _++_}
+use lib.Dec.{eqb}
+use Rattle.rows.specs.Rows.{Viable, list842}
+use Rattle.rows.specs.RowList.{tagOf, maxOf}
+
+-- "the one row that may follow": somewhere in some word row x stands right after row r
+abbrev pub MayFollow : ℕ → ℕ → Type 0
+MayFollow r x = (w : List ℕ) × Viable list842 (w ++ (r ∷ x ∷ []))
+
+-- row x has the tag and goes on from the rows w
+pub record Fits (w : List ℕ) (t x : ℕ) : Type 0 where
+  pub viable : Viable list842 (w ++ (x ∷ []))
+  pub tagged : tagOf x ≡ t
+
+-- x is the one row with the tag that goes on from the rows w, and 0 exactly if there is none
+pub record OneFits (w : List ℕ) (t x : ℕ) : Type 0 where
+  pub fits : x ≢ 0 → Fits w t x
+  pub alone : (y : ℕ) → Fits w t y → (y ≡ x) × (x ≢ 0)
+
+-- x is the one row with the tag that may follow row r, and 0 exactly if there is none
+pub record OneFollows (r t x : ℕ) : Type 0 where
+  pub follows : x ≢ 0 → MayFollow r x × (tagOf x ≡ t)
+  pub alone : (y : ℕ) → MayFollow r y → tagOf y ≡ t → (y ≡ x) × (x ≢ 0)
+
+-- each row may follow the one before it
+abbrev pub Chain : List ℕ → Type 0
+Chain [] = Unit {0}
+Chain (x ∷ []) = Unit {0}
+Chain (x ∷ y ∷ w) = MayFollow x y × Chain (y ∷ w)
+
+-- "the maximum of 2 is counted apart": no row of maximum 2 stands three times in a row, which is a third time in one pass
+abbrev pub NoThird : List ℕ → Type 0
+NoThird w = (a b : List ℕ) (r : ℕ) → maxOf r ≡ 2 → w ≡ a ++ (r ∷ r ∷ r ∷ b) → ⊥
+
+-- the last row of w, or r where w is empty
+abbrev pub lastOf : ℕ → List ℕ → ℕ
+lastOf r [] = r
+lastOf r (x ∷ w) = lastOf x w
+
+-- the last row of w stands there for the second time in a row, or more; r comes before w, and `already` is the answer for r
+abbrev pub twice : ℕ → Bool → List ℕ → Bool
+twice r already [] = already
+twice r already (x ∷ w) = twice x (eqb x r) w

@@ -1,0 +1,55 @@
+-- Laws of lists that every crate uses.
+-- Assumes nothing.
+use Prim.Native.Nat.{ℕ, _<_}
+use mathlib.Core.Path.{_≡_, refl, ap}
+use mathlib.Core.List.{List, [], _∷_, _++_, map, nil≢cons, head-eq-of-cons-eq, tail-eq-of-cons-eq}
+use native.Mathlib.Omega.{arith}
+use lib.ListN.{length}
+
+pub map-append : {A B : Type 0} (f : A → B) (xs ys : List A) → map f (xs ++ ys) ≡ map f xs ++ map f ys
+map-append f [] ys = refl
+map-append f (x ∷ xs) ys = ap (λ (l : List _). f x ∷ l) (map-append f xs ys)
+
+-- two ways to cut a list in two at the same place are one
+pub same-front : {A : Type 0} (xs ys us vs : List A) → xs ++ ys ≡ us ++ vs → length xs ≡ length us → (xs ≡ us) × (ys ≡ vs)
+same-front [] ys [] vs e l = (refl, e)
+same-front [] ys (u ∷ us) vs e l = absurd (omega arith)
+same-front (x ∷ xs) ys [] vs e l = absurd (omega arith)
+same-front (x ∷ xs) ys (u ∷ us) vs e l =
+    let i = same-front xs ys us vs (tail-eq-of-cons-eq e) (omega arith) in
+    (cc (i .0, head-eq-of-cons-eq e), i .1)
+
+-- a list whose image has an element in its middle has one there
+pub record Splits {A B : Type 0} (f : A → B) (l : List A) (xs : List B) (y : B) : Type 0 where
+  pub front : List A
+  pub mid : A
+  pub back : List A
+  pub whole : l ≡ front ++ (mid ∷ back)
+  pub front-is : map f front ≡ xs
+  pub mid-is : f mid ≡ y
+
+pub splits : {A B : Type 0} (f : A → B) (l : List A) (xs : List B) (y : B) (ys : List B) → map f l ≡ xs ++ (y ∷ ys) → Splits f l xs y
+splits f [] [] y ys e = absurd (nil≢cons e)
+splits f [] (x ∷ xs) y ys e = absurd (nil≢cons e)
+splits f (a ∷ l) [] y ys e = record { front = []; mid = a; back = l; whole = refl; front-is = refl; mid-is = head-eq-of-cons-eq e }
+splits f (a ∷ l) (x ∷ xs) y ys e =
+    let i = splits f l xs y ys (tail-eq-of-cons-eq e) in
+    record {
+      front = a ∷ i .front;
+      mid = i .mid;
+      back = i .back;
+      whole = ap (λ (k : List _). a ∷ k) (i .whole);
+      front-is = cc (i .front-is, head-eq-of-cons-eq e);
+      mid-is = i .mid-is;
+    }
+
+-- a list that is not empty has a last element
+pub record HasLast {A : Type 0} (l : List A) : Type 0 where
+  pub front : List A
+  pub last : A
+  pub whole : l ≡ front ++ (last ∷ [])
+
+pub has-last : {A : Type 0} (l : List A) → 0 < length l → HasLast l
+has-last [] h = absurd (omega arith)
+has-last (x ∷ []) h = record { front = []; last = x; whole = refl }
+has-last (x ∷ (y ∷ l)) h = let i = has-last (y ∷ l) (omega arith) in record { front = x ∷ i .front; last = i .last; whole = ap (λ (k : List _). x ∷ k) (i .whole) }
