@@ -1,9 +1,10 @@
 -- Laws of tests: how `&&`, `||` and `not` regroup, and what a test that passes says.
 -- Assumes nothing.
 use Prim.Native.Nat.{ℕ}
-use mathlib.Core.Path.{_≡_, refl}
+use mathlib.Core.Path.{_≡_, refl, sym}
 use mathlib.Core.Bool.{Bool, true, false, not, cond, _&&_, _||_}
 use lib.Dec.{T, T-not, eqb, eqb-refl}
+use borrow.Author.Tests.{eq-eqb, ne-eqb, eqb-true, eqb-false}
 
 pub or-assoc : (a b c : Bool) → (a || b) || c ≡ a || (b || c)
 or-assoc true b c = refl
@@ -16,6 +17,10 @@ or-false false = refl
 pub and-assoc : (a b c : Bool) → (a && b) && c ≡ a && (b && c)
 and-assoc true b c = refl
 and-assoc false b c = refl
+
+pub and-false : (a : Bool) → a && false ≡ false
+and-false true = refl
+and-false false = refl
 
 pub and-true : (a : Bool) → a && true ≡ a
 and-true true = refl
@@ -65,6 +70,10 @@ pub fails : (a : Bool) → (T a → ⊥) → a ≡ false
 fails true h = absurd (h tt)
 fails false h = refl
 
+pub not-passes : (a : Bool) → T (not a) → a ≡ false
+not-passes true h = absurd h
+not-passes false h = refl
+
 -- equal numbers pass the test
 pub equal-eqb : (m n : ℕ) → m ≡ n → T (eqb m n)
 equal-eqb m n e = rw e (eqb-refl n)
@@ -93,3 +102,11 @@ or-not false b f = tt
 pub cond-cases : {A : Type 0} (P : A → Type 0) (b : Bool) (x y : A) → (T b → P x) → ((T b → ⊥) → P y) → P (cond b x y)
 cond-cases P true x y f g = f tt
 cond-cases P false x y f g = g (λ h. h)
+
+-- the order of two numbers does not matter to the test
+pub eqb-swap : (a b : ℕ) → eqb a b ≡ eqb b a
+eqb-swap a b = by-value (eqb b a) refl
+  where
+    by-value : (t : Bool) → eqb b a ≡ t → eqb a b ≡ t
+    by-value true e = eq-eqb a b (sym (eqb-true b a e))
+    by-value false e = ne-eqb a b (λ q. eqb-false b a e (sym q))

@@ -2,6 +2,7 @@ pub mod Bools
 pub mod Tables
 pub mod Lists
 pub mod Sames
+pub mod Everys
 pub mod Pieces
 pub mod Searching
 pub mod Spans
