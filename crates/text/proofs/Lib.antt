@@ -3,6 +3,7 @@ pub mod Tables
 pub mod Lists
 pub mod Sames
 pub mod Everys
+pub mod Tests
 pub mod Pieces
 pub mod Searching
 pub mod Spans

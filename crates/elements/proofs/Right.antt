@@ -1,0 +1,160 @@
+-- Right notes describe the segment's own view, up to element 31.
+-- Assumes nothing.
+use Prim.Native.Nat.{ℕ, zero, suc, _+_, _-_, _≤_, _<_}
+use mathlib.Core.Path.{_≡_, refl, sym, ap, ap₂, _∙_}
+use mathlib.Core.Logic.{by-cases}
+use mathlib.Core.Bool.{Bool, true, false, cond}
+use mathlib.Core.List.{List, [], _∷_, _++_}
+use native.Mathlib.Omega.{arith}
+use native.Mathlib.Decide.{decLt}
+use native.Mathlib.Nat.{add-sub-cancel-left}
+use lib.Dec.{ltb}
+use lib.ListN.{length, take, drop, getD, length-append, length-drop, length-map, take-append-drop, List·getD-map, List·getD-eq-default}
+use lib.Seq.{take-all, take-suc, take-append-le, drop-append-le, drop-drop}
+use borrow.Author.Tests.{lt-ltb, le-ltb, lt-leb, le-leb}
+use Rattle.text.specs.Bytes.{Bytes}
+use Rattle.text.specs.Pieces.{pieces, joined, closed, Free, Clean}
+use Rattle.text.specs.View.{View, viewOf, elementOf, elementCount}
+use Rattle.text.specs.Lookup.{span, pieceSpan}
+use Rattle.text.specs.declared.separators.Separators.{Separators}
+use Rattle.text.specs.declared.lookup.Span.{Span}
+use Rattle.text.proofs.Pieces.{pieces-some, joined-pieces, pieces-free, closed-snoc}
+use Rattle.text.proofs.Spans.{lies}
+use Rattle.text.proofs.View.{free-pieces}
+use Rattle.elements.specs.Checks.{firstBroken}
+use Rattle.elements.specs.Data.{nonconformance}
+use Rattle.elements.specs.Rules.{ruledChecks}
+use Rattle.elements.specs.Post.{notedElement}
+use Rattle.elements.specs.Noted.{partBetween, notedPiece, notedComponents, notedView, RightNotes}
+use Rattle.elements.proofs.Noting.{part-inside, noted-count, noted-element, noted-at}
+use Rattle.elements.proofs.Deciding.{at-past}
+use Rattle.elements.proofs.Agreement.{ruled-agree}
+
+-- where a piece starts and how long it is
+span-of : (sep : ℕ) (s : Bytes) (n : ℕ) → n < length (pieces sep s)
+    → pieceSpan sep s n ≡ span (length (closed sep (take n (pieces sep s)))) (length (getD (pieces sep s) n []))
+unfolding pieceSpan
+span-of sep s n h = rw (lt-ltb n (length (pieces sep s)) h)
+
+-- one piece more, with its separator
+start-more : (sep : ℕ) (ps : List Bytes) (n : ℕ) → n < length ps
+    → length (closed sep (take (suc n) ps)) ≡ length (closed sep (take n ps)) + length (getD ps n []) + 1
+start-more sep ps n h =
+    rw (take-suc ps n [] h, closed-snoc sep (take n ps) (getD ps n [])) (simp length-append (omega arith))
+
+closed-joined : (sep : ℕ) (ps : List Bytes) → 0 < length ps → length (closed sep ps) ≡ suc (length (joined sep ps))
+closed-joined sep [] l = absurd (omega arith)
+closed-joined sep (p ∷ []) l = simp length-append (omega arith)
+closed-joined sep (p ∷ (q ∷ ps)) l =
+    omega (arith, length-append p (sep ∷ closed sep (q ∷ ps)), length-append p (sep ∷ joined sep (q ∷ ps)), closed-joined sep (q ∷ ps) (omega arith))
+
+module _ (sep : ℕ) (s : Bytes) (n : ℕ) (h : n < length (pieces sep s)) where
+  -- the next piece starts behind the separator; the last ends at the end
+  next-start : suc n < length (pieces sep s) → pieceSpan sep s (suc n) .start ≡ pieceSpan sep s n .start + pieceSpan sep s n .len + 1
+  next-start u = rw (span-of sep s n h, span-of sep s (suc n) u) (start-more sep (pieces sep s) n h)
+
+  last-end : suc n ≡ length (pieces sep s) → pieceSpan sep s n .start + pieceSpan sep s n .len ≡ length s
+  last-end e =
+      rw (span-of sep s n h)
+      (omega (
+        arith,
+        start-more sep (pieces sep s) n h,
+        ap (λ (ps : List Bytes). length (closed sep ps)) (take-all (suc n) (pieces sep s) (omega arith)),
+        closed-joined sep (pieces sep s) (pieces-some sep s),
+        ap length (joined-pieces sep s),
+      ))
+
+-- a part of a part
+part-of-part : (s : Bytes) (at : ℕ) (g : Bytes) (from len : ℕ) → take (length g) (drop at s) ≡ g → from + len ≤ length g
+    → take len (drop (at + from) s) ≡ take len (drop from g)
+part-of-part s at g from len here l =
+    let whole : drop at s ≡ g ++ drop (length g) (drop at s) =
+    sym (take-append-drop (length g) (drop at s)) ∙ ap (λ (x : Bytes). x ++ drop (length g) (drop at s)) here in
+    let room : len ≤ length (drop from g) = rw (length-drop from g) (omega arith) in
+    ap (take len)
+    (sym (drop-drop from at s) ∙ ap (drop from) whole ∙ drop-append-le from g (drop (length g) (drop at s)) (omega arith))
+    ∙ take-append-le len (drop from g) (drop (length g) (drop at s)) room
+
+clean-at : (x : ℕ) (ps : List Bytes) (k : ℕ) → Clean x ps → Free x (getD ps k [])
+clean-at x [] k c = tt
+clean-at x (p ∷ ps) zero c = c .0
+clean-at x (p ∷ ps) (suc k) c = clean-at x ps k (c .1)
+
+module _ {q : Separators} {s : Bytes} {at : ℕ} {segment : Bytes} {starts : List ℕ} {end count : ℕ} {plain : Bool}
+    (right : RightNotes q s at segment starts end count plain) where
+  abbrev ps : List Bytes
+  ps = pieces (q .element) segment
+
+  abbrev view : View
+  view = notedView s starts end count plain (q .component)
+
+  -- piece k lies where the notes say
+  module _ (k : ℕ) (low : k ≤ count) (high : k ≤ 31) where
+    there : k < length ps
+    there = omega (arith, right .counted)
+
+    abbrev place : Span
+    place = pieceSpan (q .element) segment k
+
+    stop : cond (ltb k count) (getD starts (suc k) 0 - 1) end ≡ at + place .start + place .len
+    stop =
+        by-cases (decLt k count)
+        (λ l.
+        rw (lt-ltb k count l)
+        (omega
+        (arith, right .started (suc k) l (omega arith), next-start (q .element) segment k there (omega (arith, right .counted)))))
+        (λ l.
+        rw (le-ltb k count (omega arith))
+        (omega (arith, right .ends, last-end (q .element) segment k there (omega (arith, right .counted)))))
+
+    noted-piece : notedPiece s starts end count k ≡ getD ps k []
+    noted-piece =
+        let lie = lies (q .element) segment k in
+        let from = at + place .start in
+        let to = from + place .len in
+        ap₂ (partBetween s) (right .started k low (omega arith)) stop
+        ∙ sym (part-inside s from to (omega arith) (omega (arith, lie .inside, right .ends, right .inside)))
+        ∙ ap (λ (n : ℕ). take n (drop from s)) (add-sub-cancel-left from (place .len))
+        ∙ part-of-part s at segment (place .start) (place .len) (right .here) (lie .inside)
+        ∙ lie .holds
+
+    noted-pieces : notedComponents plain (q .component) (getD ps k []) ≡ pieces (q .component) (getD ps k [])
+    noted-pieces = by-plain plain (right .plainly)
+      where
+        by-plain : (t : Bool) → (t ≡ true → Free (q .component) segment)
+            → notedComponents t (q .component) (getD ps k []) ≡ pieces (q .component) (getD ps k [])
+        by-plain true f =
+            sym
+            (pieces-free (q .component) (getD ps k []) (clean-at (q .component) ps k (free-pieces (q .element) (q .component) segment (f refl))))
+        by-plain false f = refl
+
+  own-element : (k : ℕ) → elementOf (viewOf q segment) k ≡ pieces (q .component) (getD ps k [])
+  own-element k = List·getD-map (pieces (q .component)) ps k []
+
+  -- the elements agree up to 31, and their numbers do
+  pub noted-right : (k : ℕ) → k ≤ 31 → elementOf view k ≡ elementOf (viewOf q segment) k
+  noted-right k high =
+      by-cases (decLt count k)
+      (λ l.
+      noted-at s starts end count plain (q .component) k ∙ at-past s starts end count plain (q .component) k l
+      ∙ sym (own-element k ∙ ap (pieces (q .component)) (List·getD-eq-default ps [] {n = k} (omega (arith, right .counted)))))
+      (λ l.
+      let low : k ≤ count = omega arith in
+      noted-element s starts end count plain (q .component) k low ∙ ap (notedComponents plain (q .component)) (noted-piece k low high)
+      ∙ noted-pieces k low high ∙ sym (own-element k))
+
+  pub count-right : elementCount view ≡ elementCount (viewOf q segment)
+  count-right =
+      noted-count s starts end count plain (q .component) ∙ omega (arith, right .counted, length-map ps (pieces (q .component)))
+
+  -- so the verdict over right notes is that over the segment
+  pub ruled-right : (tag : ℕ) → firstBroken (ruledChecks nonconformance tag view) ≡ firstBroken (ruledChecks nonconformance tag (viewOf q segment))
+  ruled-right tag = ruled-agree view (viewOf q segment) count-right noted-right tag
+
+  -- and the bytes of an element by right notes are the segment's piece
+  pub text-right : (k : ℕ) → k ≤ 31 → notedElement s starts end count k ≡ getD ps k []
+  unfolding notedElement
+  text-right k high =
+      by-cases (decLt count k)
+      (λ l. rw (lt-leb k count l) (sym (List·getD-eq-default ps [] {n = k} (omega (arith, right .counted)))))
+      (λ l. let low : k ≤ count = omega arith in rw (le-leb k count low) (noted-piece k low high))

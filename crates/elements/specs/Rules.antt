@@ -1,0 +1,119 @@
+-- What makes a segment right by itself: the rules behind answers 5, 6, 9, 8, 10 and 11 over its view, in document 01's words.
+-- Assumes nothing.
+use Prim.Native.Nat.{ℕ, zero, suc}
+use mathlib.Core.Bool.{Bool, true, false, not, cond, _&&_, _||_}
+use mathlib.Core.List.{List, [], _∷_, _++_}
+use lib.Dec.{leb, eqb}
+use lib.ListN.{length, getD}
+use Rattle.text.specs.Bytes.{Bytes, every, any}
+use Rattle.text.specs.Separators.{printable}
+use Rattle.text.specs.View.{Piece, View, present, elementOf, elementCount}
+use Rattle.elements.specs.Types.{fits}
+use Rattle.elements.specs.Data.{Value, Shape, Simple, Composite, Element, Note, Paired, Required, Conditional, Rules, ElementProfile, may}
+use Rattle.elements.specs.Checks.{Check, check, each}
+use Rattle.elements.specs.declared.types.Kind.the-variants.{AN}
+
+-- 5: "byte neither data nor separator", tag 0. A view holds no separator, so its bytes are data exactly if they are printable
+abbrev pub dataPiece : Piece → Bool
+dataPiece p = every (every printable) p
+
+unfoldable pub byteChecks : View → List Check
+byteChecks v = each 5 0 (length v) (λ (k : ℕ). dataPiece (elementOf v k))
+
+-- the last component has a byte
+abbrev pub lastFilled : Piece → Bool
+lastFilled [] = false
+lastFilled (c ∷ []) = leb 1 (length c)
+lastFilled (c ∷ (d ∷ cs)) = lastFilled (d ∷ cs)
+
+-- an element that is present ends with a component that is not empty; one that is absent is not the last
+abbrev pub endsWell : View → ℕ → Bool
+endsWell v k = cond (present (elementOf v k)) (lastFilled (elementOf v k)) (not (eqb k (elementCount v)))
+
+-- 6: "no element; or last element or a last component empty"
+unfoldable pub endChecks : View → List Check
+endChecks v = check 6 0 (leb 1 (elementCount v)) ∷ each 6 1 (elementCount v) (endsWell v)
+
+-- the rule of element k; of a number without a rule, one that nothing is asked of
+abbrev pub unruled : Element
+unruled = may AN 0 0
+
+abbrev pub ruleOf : Rules → ℕ → Element
+ruleOf rules zero = unruled
+ruleOf rules (suc k) = getD (rules .elements) k unruled
+
+-- "too many components": more than a composite has
+abbrev pub fewComponents : Shape → Piece → Bool
+fewComponents (Simple x) p = true
+fewComponents (Composite xs) p = leb (length p) (length xs)
+
+-- 9: "too many elements or components"
+abbrev pub tooManyChecks : Rules → View → List Check
+tooManyChecks rules v =
+    each 9 1 (elementCount v) (λ (k : ℕ). leb k (length (rules .elements)) && fewComponents (ruleOf rules k .shape) (elementOf v k))
+
+-- the first component has a byte
+abbrev pub firstFilled : Piece → Bool
+firstFilled [] = false
+firstFilled (c ∷ cs) = leb 1 (length c)
+
+-- of a composite that is present the first component is mandatory
+abbrev pub headed : Shape → Piece → Bool
+headed (Simple x) p = true
+headed (Composite xs) p = not (present p) || firstFilled p
+
+-- 8: "mandatory one missing"
+abbrev pub missingChecks : Rules → View → List Check
+missingChecks rules v =
+    each 8 1 (length (rules .elements))
+    (λ (k : ℕ). (not (ruleOf rules k .must) || present (elementOf v k)) && headed (ruleOf rules k .shape) (elementOf v k))
+
+-- "Outside NCA05 a ruled element has no component separator": one value is one component
+abbrev pub fitsSimple : Value → Piece → Bool
+fitsSimple x [] = false
+fitsSimple x (s ∷ []) = fits (x .kind) (x .least) (x .most) s
+fitsSimple x (s ∷ (t ∷ p)) = false
+
+-- each component fits its value, or is empty
+abbrev pub fitsEach : List Value → Piece → Bool
+fitsEach xs [] = true
+fitsEach [] (s ∷ p) = false
+fitsEach (x ∷ xs) (s ∷ p) = (eqb (length s) 0 || fits (x .kind) (x .least) (x .most) s) && fitsEach xs p
+
+abbrev pub fitsShape : Shape → Piece → Bool
+fitsShape (Simple x) p = fitsSimple x p
+fitsShape (Composite xs) p = fitsEach xs p
+
+-- 10: "type or length unfit, or ST01 not `842`", of an element that is present
+abbrev pub unfitChecks : Rules → View → List Check
+unfitChecks rules v =
+    each 10 1 (length (rules .elements)) (λ (k : ℕ). not (present (elementOf v k)) || fitsShape (ruleOf rules k .shape) (elementOf v k))
+
+-- whether the note holds, where `there` tells which elements are present
+abbrev pub noteHolds : (ℕ → Bool) → Note → Bool
+noteHolds there (Paired ks) = every there ks || not (any there ks)
+noteHolds there (Required ks) = any there ks
+noteHolds there (Conditional k ks) = not (there k) || every there ks
+
+-- "first element it names"
+abbrev pub namedFirst : Note → ℕ
+namedFirst (Paired ks) = getD ks 0 0
+namedFirst (Required ks) = getD ks 0 0
+namedFirst (Conditional k ks) = k
+
+-- 11: "note broken, first in the order above"
+abbrev pub noteChecks : List Note → View → List Check
+noteChecks [] v = []
+noteChecks (n ∷ ns) v = check 11 (namedFirst n) (noteHolds (λ (k : ℕ). present (elementOf v k)) n) ∷ noteChecks ns v
+
+-- 9, 8, 10 and 11 of a ruled segment
+abbrev pub checksBy : Rules → View → List Check
+checksBy rules v = tooManyChecks rules v ++ missingChecks rules v ++ unfitChecks rules v ++ noteChecks (rules .notes) v
+
+-- of a segment with that tag; a plain segment has none
+abbrev pub checksAmong : List (ℕ × Rules) → ℕ → View → List Check
+checksAmong [] tag v = []
+checksAmong (x ∷ xs) tag v = cond (eqb (x .0) tag) (checksBy (x .1) v) (checksAmong xs tag v)
+
+unfoldable pub ruledChecks : ElementProfile → ℕ → View → List Check
+ruledChecks profile tag v = checksAmong (profile .ruled) tag v

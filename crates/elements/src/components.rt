@@ -1,0 +1,160 @@
+// The components of one element, and what is asked of them.
+ghost use mathlib.Core.Path.{_≡_};
+ghost use mathlib.Core.Bool.{not};
+ghost use Prim.Native.Nat.{ℕ, _≤_, _<_};
+ghost use lib.Dec.{eqb, leb};
+ghost use lib.ListN.{length};
+ghost use Rattle.text.specs.Bytes.{every};
+ghost use Rattle.text.specs.Pieces.{pieces};
+ghost use Rattle.elements.specs.Types.{countOf};
+ghost use Rattle.elements.specs.Data.{value, unitValues};
+ghost use Rattle.elements.specs.Rules.{fitsSimple, fitsEach};
+ghost use Rattle.elements.specs.Noted.{notedComponents};
+ghost use Rattle.elements.specs.Post.{Upto, fitsUnit, elementBy, completeBy, suitsBy};
+use crate::rules::Rule;
+use crate::types;
+use crate::types::Kind;
+
+// Whether no byte of the part is the separator.
+fn is_free(p: &[u8], separator: u8) -> bool
+    ensures { λ r. ⌜ r ≡ every (λ (b : ℕ). not (eqb b separator)) (now (p .entry)) ⌝ }
+{
+    let mut i = 0;
+    while i < p.len() {
+        if p[i] == separator {
+            return false;
+        }
+        i += 1;
+    }
+    true
+}
+
+// How many bytes of the part are the separator.
+fn separator_count(p: &[u8], separator: u8) -> usize
+    ensures { λ r. ⌜ r ≡ countOf (λ (b : ℕ). eqb b separator) (now (p .entry)) ⌝ }
+{
+    let mut n: usize = 0;
+    let mut i = 0;
+    while i < p.len() {
+        if p[i] == separator {
+            n += 1;
+        }
+        i += 1;
+    }
+    n
+}
+
+// Where the component that starts at `from` ends.
+fn component_end(p: &[u8], from: usize, separator: u8) -> usize
+    requires { ⌜ from ≤ length (now p) ⌝ }
+    ensures { λ r. ⌜ Upto (now (p .entry)) from separator r ⌝ }
+{
+    let mut i = from;
+    while i < p.len() {
+        if p[i] == separator {
+            return i;
+        }
+        i += 1;
+    }
+    i
+}
+
+// Whether component j of the units is empty or fits: ID 2/2, R 1/15 and R 1/10 in turn.
+fn fits_unit(j: usize, p: &[u8]) -> bool
+    requires { ⌜ j < 15 ⌝ }
+    ensures { λ r. ⌜ r ≡ fitsUnit j (now (p .entry)) ⌝ }
+{
+    if p.len() == 0 {
+        return true;
+    }
+    if j % 3 == 0 {
+        return types::fits(Kind::ID, 2, 2, p);
+    }
+    if j % 3 == 1 {
+        return types::fits(Kind::R, 1, 15, p);
+    }
+    types::fits(Kind::R, 1, 10, p)
+}
+
+// Whether each component of the units is empty or fits.
+fn fits_units(p: &[u8], separator: u8) -> bool
+    ensures { λ r. ⌜ r ≡ fitsEach unitValues (pieces separator (now (p .entry))) ⌝ }
+{
+    let mut from: usize = 0;
+    let mut j: usize = 0;
+    while j < 15 {
+        let to = component_end(p, from, separator);
+        if !fits_unit(j, &p[from..to]) {
+            return false;
+        }
+        if to == p.len() {
+            return true;
+        }
+        from = to + 1;
+        j += 1;
+    }
+    false
+}
+
+// Whether the units have no more than fifteen components.
+pub(crate) fn few_units(plain: bool, separator: u8, p: &[u8]) -> bool
+    ensures { λ r. ⌜ r ≡ leb (length (notedComponents plain separator (now (p .entry)))) 15 ⌝ }
+{
+    if plain {
+        return true;
+    }
+    separator_count(p, separator) <= 14
+}
+
+// Whether nothing mandatory is missing of an element with that rule.
+pub(crate) fn is_complete(rule: Rule, plain: bool, separator: u8, p: &[u8]) -> bool
+    ensures { λ r. ⌜ r ≡ completeBy (elementBy rule) (notedComponents plain separator (now (p .entry))) ⌝ }
+{
+    if p.len() == 0 {
+        return !rule.must;
+    }
+    if !rule.composite {
+        return true;
+    }
+    if plain {
+        return true;
+    }
+    p[0] != separator
+}
+
+// Whether each component of the units is empty or fits, where the segment may be plain.
+fn suits_units(plain: bool, separator: u8, p: &[u8]) -> bool
+    ensures { λ r. ⌜ r ≡ fitsEach unitValues (notedComponents plain separator (now (p .entry))) ⌝ }
+{
+    if plain {
+        return fits_unit(0, p);
+    }
+    fits_units(p, separator)
+}
+
+// Whether an element of one value is one component, and fits.
+fn suits_value(rule: Rule, plain: bool, separator: u8, p: &[u8]) -> bool
+    ensures { λ r. ⌜ r ≡ fitsSimple (value (rule .kind) (rule .least) (rule .most)) (notedComponents plain separator (now (p .entry))) ⌝ }
+{
+    let kind = rule.kind;
+    if plain {
+        return types::fits(kind, rule.least, rule.most, p);
+    }
+    if !is_free(p, separator) {
+        return false;
+    }
+    types::fits(kind, rule.least, rule.most, p)
+}
+
+// Whether an element with that rule is absent, or its type and length fit.
+pub(crate) fn is_suited(rule: Rule, plain: bool, separator: u8, p: &[u8]) -> bool
+    ensures { λ r. ⌜ r ≡ suitsBy (elementBy rule) (notedComponents plain separator (now (p .entry))) ⌝ }
+{
+    if p.len() == 0 {
+        return true;
+    }
+    if rule.composite {
+        return suits_units(plain, separator, p);
+    }
+    suits_value(rule, plain, separator, p)
+}

@@ -1,0 +1,12 @@
+pub mod Letters
+pub mod Entries
+pub mod Calling
+pub mod Names
+pub mod Seeking
+pub mod Marking
+pub mod Judgements
+pub mod Children
+pub mod Depth
+pub mod Telling
+pub mod Once
+pub mod Cases

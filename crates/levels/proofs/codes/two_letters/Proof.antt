@@ -1,0 +1,21 @@
+-- `two_letters` meets its contract: each test decides one code.
+-- Assumes nothing.
+use mathlib.Core.Path.{sym, _∙_}
+use Rattle.levels.proofs.Letters.{code-letters}
+use Rattle.levels.proofs.codes.two_letters.Statement.{statement}
+use Rattle.levels.proofs.codes.two_letters.Tie as tie
+
+returns : tie.Need-returns
+returns c = sym (code-letters _ _ ∙ rw (c .if1 .taken))
+
+returns-2 : tie.Need-returns-2
+returns-2 c = sym (code-letters _ _ ∙ rw (c .before .if1 .left, c .if2 .taken))
+
+returns-3 : tie.Need-returns-3
+returns-3 c = sym (code-letters _ _ ∙ rw (c .before .before .if1 .left, c .before .if2 .left, c .if3 .taken))
+
+returns-4 : tie.Need-returns-4
+returns-4 c = sym (code-letters _ _ ∙ rw (c .before .before .if1 .left, c .before .if2 .left, c .if3 .left))
+
+pub two-letters-spec : {M : Type 1} → statement M
+two-letters-spec = tie.close (tie.spec returns returns-2 returns-3 returns-4)

@@ -1,0 +1,58 @@
+-- What a profile says of levels: the codes, which may stand without a parent, which may be marked 1, and which may hang under which.
+-- Assumes nothing.
+use Prim.Native.Nat.{ℕ}
+use Prim.Native.String.{String}
+use mathlib.Core.Bool.{Bool, cond, _&&_}
+use mathlib.Core.List.{List, [], _∷_}
+use lib.Dec.{eqb}
+use Rattle.text.specs.Bytes.{Bytes, bytes, any, among, same}
+
+pub record LevelProfile : Type 0 where
+  -- each code's text and number
+  pub codes : List (Bytes × ℕ)
+  -- the codes that may stand without a parent
+  pub alone : List ℕ
+  -- the codes that may be marked 1
+  pub marked : List ℕ
+  -- the permitted pairs, parent and child
+  pub pairs : List (ℕ × ℕ)
+
+-- "RP report, I item, F component, PC product characteristic, SN serial number", numbered "1 to 5 in the order above"
+abbrev pub fiveCodes : List (Bytes × ℕ)
+fiveCodes = (bytes "RP", 1) ∷ (bytes "I", 2) ∷ (bytes "F", 3) ∷ (bytes "PC", 4) ∷ (bytes "SN", 5) ∷ []
+
+-- the number of a code among codes; 0 for bytes that are no code
+abbrev pub codeAmong : List (Bytes × ℕ) → Bytes → ℕ
+codeAmong [] text = 0
+codeAmong (x ∷ xs) text = cond (same (x .0) text) (x .1) (codeAmong xs text)
+
+abbrev pub code : String → ℕ
+code text = codeAmong fiveCodes (bytes text)
+
+abbrev pub pair : String → String → ℕ × ℕ
+pair parent child = (code parent, code child)
+
+-- the one profile: nonconformance reports
+abbrev pub nonconformance : LevelProfile
+nonconformance = record {
+  codes = fiveCodes;
+  -- "HL02 absent: the level must be RP or I."
+  alone = code "RP" ∷ code "I" ∷ [];
+  -- "PC or SN marked `1` is refused at once."
+  marked = code "RP" ∷ code "I" ∷ code "F" ∷ [];
+  -- "RP-I, I-F, I-PC, F-PC, I-SN, F-SN"
+  pairs = pair "RP" "I" ∷ pair "I" "F" ∷ pair "I" "PC" ∷ pair "F" "PC" ∷ pair "I" "SN" ∷ pair "F" "SN" ∷ [];
+}
+
+-- the number of a code; 0 where it is unknown
+unfoldable pub codeOf : LevelProfile → Bytes → ℕ
+codeOf profile text = codeAmong (profile .codes) text
+
+unfoldable pub mayStandAlone : LevelProfile → ℕ → Bool
+mayStandAlone profile c = among (profile .alone) c
+
+unfoldable pub mayBeMarked : LevelProfile → ℕ → Bool
+mayBeMarked profile c = among (profile .marked) c
+
+unfoldable pub mayHang : LevelProfile → ℕ → ℕ → Bool
+mayHang profile parent child = any (λ (p : ℕ × ℕ). eqb (p .0) parent && eqb (p .1) child) (profile .pairs)

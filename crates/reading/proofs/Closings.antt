@@ -1,0 +1,83 @@
+-- Parts compared byte by byte, and the closing tests one after the other.
+-- Assumes nothing.
+use Prim.Native.Nat.{ℕ, suc, _+_, _-_, _≤_, _<_}
+use mathlib.Core.Path.{_≡_, refl, sym, ap, _∙_}
+use mathlib.Core.Bool.{Bool, true, false}
+use mathlib.Core.List.{List, [], _∷_}
+use native.Mathlib.Omega.{arith}
+use native.Mathlib.Numerals.{add-one}
+use lib.Dec.{eqb}
+use lib.ListN.{length, drop, getD, drop-of-length-le}
+use lib.Seq.{drop-cons}
+use borrow.Author.Tests.{eq-eqb, ne-eqb}
+use Rattle.text.specs.Bytes.{Bytes, same}
+use Rattle.text.proofs.Sames.{same-false}
+use Rattle.elements.specs.Checks.{Check, check, firstBroken}
+use Rattle.elements.specs.declared.verdict.Verdict.the-variants.{Holds, Broken}
+use Rattle.levels.specs.Profile.{nonconformance}
+use Rattle.levels.specs.Levels.{Claim, Level}
+use Rattle.levels.specs.Rules.{judged}
+use Rattle.levels.specs.declared.judging.Judged.{Judged}
+
+-- two parts of the same length, alike up to place i
+pub record Alike (a b : Bytes) (i : ℕ) : Type 0 where
+  pub within : i ≤ length a
+  pub long : length a ≡ length b
+  pub rest : same a b ≡ same (drop i a) (drop i b)
+
+pub alike-none : (a b : Bytes) → length a ≡ length b → Alike a b 0
+alike-none a b l = record { within = omega arith; long = l; rest = refl }
+
+module _ {a b : Bytes} {i : ℕ} (p : Alike a b i) where
+  pub alike-more : i < length a → getD a i 0 ≡ getD b i 0 → Alike a b (i + 1)
+  alike-more h e =
+      let hb : i < length b = omega (arith, p .long) in
+      record {
+        within = omega arith;
+        long = p .long;
+        rest = p .rest ∙ rw (add-one, drop-cons a i 0 h, drop-cons b i 0 hb, eq-eqb (getD a i 0) (getD b i 0) e);
+      }
+
+  pub alike-differ : i < length a → (getD a i 0 ≡ getD b i 0 → ⊥) → false ≡ same a b
+  alike-differ h n =
+      let hb : i < length b = omega (arith, p .long) in
+      sym (p .rest ∙ rw (drop-cons a i 0 h, drop-cons b i 0 hb, ne-eqb (getD a i 0) (getD b i 0) n))
+
+  pub alike-all : length a ≤ i → true ≡ same a b
+  alike-all h = sym (p .rest ∙ rw (drop-of-length-le a h, drop-of-length-le b {i = i} (omega (arith, p .long))))
+
+pub other-length : (a b : Bytes) → (length a ≡ length b → ⊥) → false ≡ same a b
+other-length a b n = sym (same-false a b (λ e. n (ap length e)))
+
+-- the closing tests: the first that fails decides. n is the number of SE01, as it was worked out
+module _ {n number : ℕ} (is : n ≡ number) (count : ℕ) (control opening : Bytes) (full : Bool) where
+  abbrev closing : List Check
+  closing = check 16 1 (eqb number (suc count)) ∷ check 16 2 (same control opening) ∷ check 15 0 full ∷ []
+
+  pub no-number : n ≡ 0 → Broken 16 1 ≡ firstBroken closing
+  no-number e = rw (ne-eqb number (suc count) (λ q. omega (arith, q, e, is)))
+
+  pub other-number : (n ≡ 0 → ⊥) → (n - 1 ≡ count → ⊥) → Broken 16 1 ≡ firstBroken closing
+  other-number s m = rw (ne-eqb number (suc count) (λ q. m (omega (arith, q, is))))
+
+  module _ (some : n ≡ 0 → ⊥) (counted : n - 1 ≡ count) where
+    right-number : eqb number (suc count) ≡ true
+    right-number = eq-eqb number (suc count) (omega (arith, some, counted, is))
+
+    pub other-control : same control opening ≡ false → Broken 16 2 ≡ firstBroken closing
+    other-control e = rw (right-number, e)
+
+    pub not-full : same control opening ≡ true → full ≡ false → Broken 15 0 ≡ firstBroken closing
+    not-full e f = rw (right-number, e, f)
+
+    pub all-closed : same control opening ≡ true → full ≡ true → Holds ≡ firstBroken closing
+    all-closed e f = rw (right-number, e, f)
+
+-- a comparison of equal parts
+pub same-by : {r : Bool} {a a′ b b′ : Bytes} → r ≡ same a b → a ≡ a′ → b ≡ b′ → (v : Bool) → r ≡ v → same a′ b′ ≡ v
+same-by e p q v f = sym (e ∙ (λ i. same (p i) (q i))) ∙ f
+
+-- equal elements make equal claims
+pub claims-same : (ls : List Level) (a a′ b b′ c c′ d d′ : Bytes) → a ≡ a′ → b ≡ b′ → c ≡ c′ → d ≡ d′
+    → judged nonconformance ls (record { id = a; parent = b; code = c; mark = d }) ≡ judged nonconformance ls (record { id = a′; parent = b′; code = c′; mark = d′ })
+claims-same ls a a′ b b′ c c′ d d′ p q r s = λ i. judged nonconformance ls (record { id = p i; parent = q i; code = r i; mark = s i })

@@ -1,0 +1,54 @@
+-- `bad_bytes` meets its contract.
+-- Assumes nothing.
+use mathlib.Core.Path.{sym, ap, _∙_}
+use native.Mathlib.Omega.{arith}
+use Rattle.elements.specs.declared.verdict.Verdict.{Verdict}
+use Rattle.reading.specs.Settling.{refusedBy}
+use borrow.Author.Needs.{needs}
+use Rattle.reading.proofs.reading.bad_bytes.Statement.{statement}
+use Rattle.reading.proofs.reading.bad_bytes.Tie as tie
+
+sub-byte-verdict : tie.Need-sub-byte-verdict
+sub-byte-verdict c = search needs
+
+part-byte-verdict-start : tie.Need-part-byte-verdict-start
+part-byte-verdict-start c = search needs
+
+part-byte-verdict-end : tie.Need-part-byte-verdict-end
+part-byte-verdict-end c = search needs
+
+byte-verdict-requires : tie.Need-byte-verdict-requires
+byte-verdict-requires c κs = search needs
+
+enum-known-number : tie.Need-enum-known-number
+enum-known-number c = search needs
+
+add-t14 : tie.Need-add-t14
+add-t14 c = search needs
+
+enum-told : tie.Need-enum-told
+enum-told c = search needs
+
+add-t15 : tie.Need-add-t15
+add-t15 c = search needs
+
+returns : tie.Need-returns
+returns c = ap (λ (d : Verdict). refusedBy d (c .before .before .before .before .before .before .args .count) (c .before .before .before .before .before .before .args .at)) (sym (c .before .number .given .1) ∙ c .before .before .before .byte-verdict .ensures)
+
+returns-2 : tie.Need-returns-2
+returns-2 c = ap (λ (d : Verdict). refusedBy d (c .before .before .before .before .before .args .count) (c .before .before .before .before .before .args .at)) (sym (c .enum-told .given .1) ∙ c .before .before .byte-verdict .ensures)
+
+pub bad-bytes-spec : {M : Type 1} → statement M
+bad-bytes-spec =
+    tie.close
+    (tie.spec
+    sub-byte-verdict
+    part-byte-verdict-start
+    part-byte-verdict-end
+    byte-verdict-requires
+    enum-known-number
+    add-t14
+    enum-told
+    add-t15
+    returns
+    returns-2)

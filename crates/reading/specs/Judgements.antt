@@ -1,0 +1,118 @@
+-- What the reader's judging functions promise each other: the next segment by the notes of one pass, and what a judgement says of it.
+-- Assumes nothing.
+use Prim.Native.Nat.{ℕ, suc, _+_, _-_, _≤_}
+use mathlib.Core.Path.{_≡_}
+use mathlib.Core.Bool.{Bool, true, false, not, cond}
+use mathlib.Core.List.{List, [], _∷_, _++_}
+use lib.Dec.{T, eqb, leb, ltb}
+use lib.ListN.{length, take, drop, getD}
+use Rattle.text.specs.Bytes.{Bytes, same}
+use Rattle.text.specs.Pieces.{Free, pieces}
+use Rattle.text.specs.View.{View, viewOf}
+use Rattle.text.specs.Lookup.{pieceSpan}
+use Rattle.text.specs.Cut.{Placed}
+use Rattle.rows.specs.Following.{Fits}
+use Rattle.elements.specs.Types.{numberOf}
+use Rattle.elements.specs.Checks.{Check, check, firstBroken, Keeps}
+use Rattle.elements.specs.declared.verdict.Verdict.{Verdict}
+use Rattle.elements.specs.declared.verdict.Verdict.the-variants.{Holds, Broken as Faulty}
+use Rattle.elements.specs.Rules.{byteChecks, endChecks}
+use Rattle.elements.specs.Post.{notedElement}
+use Rattle.levels.specs.Levels.{Claim, claimOf, levelOf, recordOf}
+use Rattle.levels.specs.Rules.{filled, judged}
+use Rattle.levels.specs.declared.judging.Judged.{Judged}
+use Rattle.levels.specs.declared.judging.Judged.the-variants.{Entitled, Refused}
+use Rattle.levels.specs.Told.{told}
+use Rattle.reading.specs.Profile.{nonconformance}
+use Rattle.reading.specs.Segments.{tagIn, isHL, isSE, seen, onto, levelsIn}
+use Rattle.reading.specs.Rules.{rules, FirstBroken, Kept}
+use Rattle.reading.specs.declared.how.How.{How}
+use Rattle.reading.specs.declared.judging.Judgement.{Judgement}
+use Rattle.reading.specs.declared.judging.Judgement.the-variants.{Broken, Plain, Level, Last}
+use Rattle.reading.specs.declared.judging.Notes.{Notes}
+use Rattle.reading.specs.declared.judging.State.{State}
+
+-- what an HL says, by the notes
+abbrev pub notedClaim : Bytes → List ℕ → ℕ → ℕ → Claim
+notedClaim s starts end count = record {
+  id = notedElement s starts end count 1;
+  parent = notedElement s starts end count 2;
+  code = notedElement s starts end count 3;
+  mark = notedElement s starts end count 4;
+}
+
+-- the second element of the segment that starts the bytes, by its length in the segment table
+unfoldable pub openingControl : Bytes → ℕ → List ℕ → Bytes
+openingControl s separator segments =
+    cond (ltb (length segments) 3) []
+    (cond (ltb (length s) (getD segments 1 0)) [] (getD (pieces separator (take (getD segments 1 0) s)) 2 []))
+
+-- the closing tests of an SE, by the notes and the tables
+abbrev pub notedClosing : Bytes → ℕ → List ℕ → ℕ → ℕ → List ℕ → List ℕ → ℕ → ℕ → List Check
+notedClosing s separator starts end elements segments levels count known =
+    check 16 1 (eqb (numberOf (notedElement s starts end elements 1)) (suc count))
+    ∷ check 16 2 (same (notedElement s starts end elements 2) (openingControl s separator segments))
+    ∷ check 15 0 (filled (told s separator segments levels known))
+    ∷ []
+
+-- the segment that the notes name lies within the bytes
+pub record Inside (s : Bytes) (notes : Notes) : Type 0 where
+  pub forward : notes .at ≤ notes .end
+  pub within : notes .end ≤ length s
+
+-- and its bytes
+abbrev pub segmentOf : Bytes → Notes → Bytes
+segmentOf s notes = take (notes .end - notes .at) (drop (notes .at) s)
+
+-- a verdict as a judgement, where it does not hold
+abbrev pub brokenBy : Verdict → Judgement
+brokenBy Holds = Broken 6 0
+brokenBy (Faulty number element) = Broken number element
+
+-- what the late rules say, by the notes and the tables
+abbrev pub byLevel : ℕ → Judged → Judgement
+byLevel row (Entitled parent depth code) = Level row parent depth code
+byLevel row (Refused number element) = Broken number element
+
+abbrev pub byClosing : ℕ → Verdict → Judgement
+byClosing row Holds = Last row
+byClosing row (Faulty number element) = Broken number element
+
+abbrev pub lateJudgement : ℕ → Bytes → List ℕ → Notes → State → List ℕ → List ℕ → ℕ → ℕ → Judgement
+lateJudgement separator s starts notes state segments levels tag row =
+    cond (eqb tag 12)
+    (byLevel row (judged (nonconformance .levels) (told s separator segments levels (state .known)) (notedClaim s starts (notes .end) (notes .count))))
+    (cond (eqb tag 33)
+    (byClosing row (firstBroken (notedClosing s separator starts (notes .end) (notes .count) segments levels (state .count) (state .known))))
+    (Plain row))
+
+abbrev pub JudgesLate : ℕ → Bytes → List ℕ → Notes → State → List ℕ → List ℕ → ℕ → ℕ → Judgement → Type 0
+JudgesLate separator s starts notes state segments levels tag row r = r ≡ lateJudgement separator s starts notes state segments levels tag row
+
+-- the notes are right for the segment g, which was cut and has data bytes
+pub record Noted (how : How) (s : Bytes) (starts : List ℕ) (notes : Notes) (g more : Bytes) : Type 0 where
+  pub whole : drop (notes .at) s ≡ g ++ how .separators .terminator ∷ more
+  pub free : Free (how .separators .terminator) g
+  pub place : notes .end ≡ notes .at + length g
+  pub data-only : Keeps (byteChecks (viewOf (how .separators) g))
+  pub elements : length (pieces (how .separators .element) g) ≡ notes .count + 1
+  pub begins : (k : ℕ) → k ≤ 32 → k ≤ notes .count → getD starts k 0 ≡ notes .at + pieceSpan (how .separators .element) g k .start
+  pub room : length starts ≡ 33
+  pub single : T (notes .plain) → Free (how .separators .component) g
+  pub kept : T (notes .ended) → Keeps (endChecks (viewOf (how .separators) g))
+  pub unkept : T (not (notes .ended)) → Keeps (endChecks (viewOf (how .separators) g)) → ⊥
+
+-- every rule holds of the segment, and the row fits
+pub record Sound (rows : List ℕ) (h : List View) (v : View) (r : ℕ) : Type 0 where
+  pub kept : Kept nonconformance h v
+  pub fits : Fits rows (tagIn v) r
+
+-- what a judgement says of the segment with the view v, after the segments h and their rows
+abbrev pub Judges : List ℕ → List View → View → Judgement → Type 0
+Judges rows h v (Broken number element) = FirstBroken (rules nonconformance rows h v) number element
+Judges rows h v (Plain r) = Sound rows h v r × (isHL v ≡ false) × T (not (isSE v))
+Judges rows h v (Level r parent depth code) =
+    Sound rows h v r × (isHL v ≡ true) × T (not (isSE v))
+    × (suc (length h) ∷ parent ∷ depth ∷ code ∷ []
+    ≡ recordOf (levelOf (nonconformance .levels) (suc (length h)) (claimOf v) (levelsIn nonconformance h)))
+Judges rows h v (Last r) = Sound rows h v r × (isHL v ≡ false) × T (isSE v)

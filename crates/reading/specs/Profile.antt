@@ -1,0 +1,14 @@
+-- A profile: what it says of rows, of elements and of levels.
+-- Assumes nothing.
+use Rattle.rows.specs.Profile.{RowProfile, nonconformance as rowsOfReports}
+use Rattle.elements.specs.Data.{ElementProfile, nonconformance as elementsOfReports}
+use Rattle.levels.specs.Profile.{LevelProfile, nonconformance as levelsOfReports}
+
+pub record Profile : Type 0 where
+  pub rows : RowProfile
+  pub elements : ElementProfile
+  pub levels : LevelProfile
+
+-- the one profile: nonconformance reports
+abbrev pub nonconformance : Profile
+nonconformance = record { rows = rowsOfReports; elements = elementsOfReports; levels = levelsOfReports }

@@ -1,0 +1,196 @@
+// The next segment: where it ends, where its elements start, and what its bytes alone tell of it. The bytes are looked at once, 256 at a
+// time: the places of the separators, and of bytes that are no data, go into a lent queue, and a segment visits only those places.
+ghost use mathlib.Core.Path.{_≡_};
+ghost use Prim.Native.Nat.{_+_, _≤_, _<_};
+ghost use lib.Dec.{leb};
+ghost use lib.ListN.{length, set};
+ghost use Rattle.reading.specs.Classes.{classIn, Table, Fills};
+ghost use Rattle.reading.specs.Queue.{bit, Indexed, Reaches, Ready};
+ghost use Rattle.reading.specs.Cutting.{Apart, Cuts, Stops};
+use text::separators::Separators;
+
+// What the bytes hold next.
+pub(crate) enum Next {
+    // No terminator.
+    Open,
+    // A terminator at this place, and before it a byte that is neither data nor separator.
+    Bad(usize),
+    // A segment: the place of its terminator, how many elements it has, whether no component separator stands in it, whether it has an
+    // element and neither the last element nor a last component is empty, and what is left of the queue.
+    Segment {
+        end: usize,
+        count: usize,
+        plain: bool,
+        ended: bool,
+        head: usize,
+        tail: usize,
+        seen: usize,
+    },
+}
+
+// The bytes from `from` to `last` get this class.
+fn fill(classes: &mut [u8; 256], from: usize, last: usize, class: u8)
+    requires { ⌜ length (now classes) ≡ 256 ⌝ }
+    requires { ⌜ from ≤ last ⌝ }
+    requires { ⌜ last < 256 ⌝ }
+    ensures { λ _. ⌜ Fills (now (classes .entry)) from last class (now (classes .exit)) ⌝ }
+{
+    let mut i = from;
+    while i <= last {
+        classes[i] = class;
+        i += 1;
+    }
+}
+
+// The class of every byte: 0 digit, 1 capital, 2 other data, 3 element, 4 component, 5 terminator, 6 none of these.
+pub(crate) fn set_classes(classes: &mut [u8; 256], separators: Separators)
+    requires { ⌜ length (now classes) ≡ 256 ⌝ }
+    ensures { λ _. ⌜ Table separators (now (classes .exit)) ⌝ }
+{
+    fill(classes, 0, 255, 6);
+    fill(classes, 32, 126, 2);
+    fill(classes, 65, 90, 1);
+    fill(classes, 48, 57, 0);
+    classes[separators.element as usize] = 3;
+    classes[separators.component as usize] = 4;
+    classes[separators.terminator as usize] = 5;
+}
+
+// The class of a byte.
+fn class(classes: &[u8; 256], byte: u8) -> u8
+    requires { ⌜ length (now classes) ≡ 256 ⌝ }
+    ensures { λ r. ⌜ r ≡ classIn (now (classes .entry)) byte ⌝ }
+{
+    classes[byte as usize]
+}
+
+// 1 for a class whose places go into the queue, else 0.
+fn special(class: u8) -> usize
+    ensures { λ r. ⌜ r ≡ bit (leb 3 class) ⌝ }
+{
+    if 3 <= class { 1 } else { 0 }
+}
+
+// Puts the special places from `from` up to `to` into the queue and answers how many. Every place is stored, and the next one takes its
+// entry unless it is special: the loops neither branch nor end early.
+fn index(s: &[u8], classes: &[u8; 256], from: usize, to: usize, queue: &mut [usize; 264]) -> usize
+    requires { ⌜ to ≤ length (now s) ⌝ }
+    requires { ⌜ from ≤ to ⌝ }
+    requires { ⌜ to ≤ from + 256 ⌝ }
+    requires { ⌜ length (now classes) ≡ 256 ⌝ }
+    requires { ⌜ length (now queue) ≡ 264 ⌝ }
+    ensures { λ r. ⌜ Indexed (now (classes .entry)) (now (s .entry)) from to r (now (queue .exit)) ⌝ }
+{
+    let mut number: usize = 0;
+    let mut i = from;
+    while i + 8 <= to {
+        let mut j: usize = 0;
+        while j < 8 {
+            queue[number] = i + j;
+            number += special(class(classes, s[i + j]));
+            j += 1;
+        }
+        i += 8;
+    }
+    while i < to {
+        queue[number] = i;
+        number += special(class(classes, s[i]));
+        i += 1;
+    }
+    number
+}
+
+// How far the next index goes: 256 bytes, or up to the end.
+fn reach(seen: usize, len: usize) -> usize
+    requires { ⌜ seen < len ⌝ }
+    ensures { λ r. ⌜ Reaches seen len r ⌝ }
+{
+    if 256 < len - seen { seen + 256 } else { len }
+}
+
+// Keeps where an element starts: the tag, number 0, and the first 32 elements.
+fn note(starts: &mut [usize; 33], number: usize, place: usize)
+    requires { ⌜ length (now starts) ≡ 33 ⌝ }
+    ensures { λ _. ⌜ now (starts .exit) ≡ set (now (starts .entry)) number place ⌝ }
+{
+    if number < 33 {
+        starts[number] = place;
+    }
+}
+
+// The answer where the byte at `from` is bad: `Bad` where a terminator follows, else `Open`.
+fn stop(s: &[u8], from: usize, terminator: u8) -> Next
+    ensures { λ r. ⌜ Stops (now (s .entry)) from terminator r ⌝ }
+{
+    let mut i = from;
+    while i < s.len() {
+        if s[i] == terminator {
+            return Next::Bad(i);
+        }
+        i += 1;
+    }
+    Next::Open
+}
+
+// The next segment from `at` on. `start` is where the last element so far starts, and `behind` the place behind the last component
+// separator, or `at`. An element ends badly where its end is that place; the tag, element 0, may.
+pub(crate) fn next_segment(
+    s: &[u8],
+    classes: &[u8; 256],
+    separators: Separators,
+    at: usize,
+    mut head: usize,
+    mut tail: usize,
+    mut seen: usize,
+    queue: &mut [usize; 264],
+    starts: &mut [usize; 33],
+) -> Next
+    requires { ⌜ Table separators (now classes) ⌝ }
+    requires { ⌜ Apart separators ⌝ }
+    requires { ⌜ Ready (now classes) (now s) at (now queue) head tail seen ⌝ }
+    requires { ⌜ length (now starts) ≡ 33 ⌝ }
+    ensures { λ r. ⌜ Cuts separators (now (classes .entry)) (now (s .entry)) at (now (queue .exit)) (now (starts .exit)) r ⌝ }
+{
+    let mut count: usize = 0;
+    let mut ended = true;
+    let mut start = at;
+    let mut behind = at;
+    starts[0] = at;
+    loop {
+        if head < tail {
+            let place = queue[head];
+            let byte = s[place];
+            head += 1;
+            if byte == separators.element {
+                ended = ended & ((place != behind) | (count == 0));
+                count += 1;
+                start = place + 1;
+                note(starts, count, start);
+                continue;
+            }
+            if byte == separators.terminator {
+                return Next::Segment {
+                    end: place,
+                    count,
+                    plain: behind == at,
+                    ended: ended & (place != behind) & (place != start) & (count != 0),
+                    head,
+                    tail,
+                    seen,
+                };
+            }
+            if byte != separators.component {
+                return stop(s, place, separators.terminator);
+            }
+            behind = place + 1;
+            continue;
+        }
+        if s.len() <= seen {
+            return Next::Open;
+        }
+        let to = reach(seen, s.len());
+        tail = index(s, classes, seen, to, queue);
+        head = 0;
+        seen = to;
+    }
+}

@@ -1,0 +1,255 @@
+// Judging the next segment by the rules, in order.
+ghost use mathlib.Core.Path.{_≡_};
+ghost use mathlib.Core.List.{List, []};
+ghost use Prim.Native.Nat.{ℕ, _+_};
+ghost use Rattle.text.specs.Bytes.{Bytes, same};
+ghost use Rattle.text.specs.View.{viewOf};
+ghost use Rattle.text.specs.Cut.{Placed};
+ghost use Rattle.text.proofs.View.{Fitted};
+ghost use Rattle.rows.specs.Tags.{tagNumber};
+ghost use Rattle.rows.specs.Next.{nextTable};
+ghost use Rattle.elements.specs.Checks.{firstBroken};
+ghost use Rattle.elements.specs.Post.{notedElement};
+ghost use Rattle.elements.specs.Rules.{endChecks};
+ghost use Rattle.levels.specs.Profile.{nonconformance};
+ghost use Rattle.levels.specs.Rules.{judged};
+ghost use Rattle.levels.specs.Told.{told};
+ghost use Rattle.reading.specs.Segments.{seen, onto};
+ghost use Rattle.reading.specs.Records.{Tables};
+ghost use Rattle.reading.specs.Standing.{Standing};
+ghost use Rattle.reading.specs.Judgements.{notedClaim, openingControl, notedClosing, Inside, segmentOf, brokenBy, JudgesLate, Noted, Judges};
+use crate::how::How;
+use elements::ruled;
+use elements::segment;
+use elements::types;
+use elements::verdict::Verdict;
+use levels::filling;
+use levels::judging;
+use levels::judging::Judged;
+use rows::next;
+use rows::tags;
+use text::lookup;
+
+// What the rules say of the next segment.
+pub(crate) enum Judgement {
+    // The first rule that it breaks: the answer's number, and the element it names.
+    Broken(usize, usize),
+    // Its row; it makes no level and does not close the transaction.
+    Plain(u8),
+    // Its row, and the parent, depth and code of the level that it makes.
+    Level(u8, usize, usize, usize),
+    // The row of the SE that closes the transaction.
+    Last(u8),
+}
+
+// The notes of one pass over the segment: where it starts and ends, how many elements it has, whether no component separator stands in
+// it, and whether its ends are well.
+pub(crate) struct Notes {
+    pub at: usize,
+    pub end: usize,
+    pub count: usize,
+    pub plain: bool,
+    pub ended: bool,
+}
+
+// What the reader carries from segment to segment: how many segments were passed, the last row, whether it stands for the second time in a
+// row, and how many levels there are.
+pub(crate) struct State {
+    pub count: usize,
+    pub row: u8,
+    pub again: bool,
+    pub known: usize,
+}
+
+// The number of the segment's tag.
+fn tag_of(s: &[u8], starts: &[usize; 33], notes: Notes) -> u8
+    ensures { λ r. ⌜ r ≡ tagNumber (notedElement (now (s .entry)) (now (starts .entry)) (notes .end) (notes .count) 0) ⌝ }
+{
+    tags::tag_number(ruled::noted_element(s, starts, notes.end, notes.count, 0))
+}
+
+// The answer for an HL.
+fn judge_hl(
+    s: &[u8],
+    separator: u8,
+    starts: &[usize; 33],
+    notes: Notes,
+    segments: &[u64],
+    levels: &[u64],
+    known: usize,
+) -> Judged
+    ensures { λ r. ⌜ r ≡ judged nonconformance (told (now (s .entry)) separator (now (segments .entry)) (now (levels .entry)) known) (notedClaim (now (s .entry)) (now (starts .entry)) (notes .end) (notes .count)) ⌝ }
+{
+    let id = ruled::noted_element(s, starts, notes.end, notes.count, 1);
+    let parent = ruled::noted_element(s, starts, notes.end, notes.count, 2);
+    let code = ruled::noted_element(s, starts, notes.end, notes.count, 3);
+    let mark = ruled::noted_element(s, starts, notes.end, notes.count, 4);
+    judging::judge_level(
+        s,
+        separator,
+        segments,
+        levels,
+        known,
+        id,
+        parent,
+        code,
+        mark,
+    )
+}
+
+// Whether two parts have the same bytes.
+fn same_bytes(a: &[u8], b: &[u8]) -> bool
+    ensures { λ r. ⌜ r ≡ same (now (a .entry)) (now (b .entry)) ⌝ }
+{
+    if a.len() != b.len() {
+        return false;
+    }
+    let mut i: usize = 0;
+    while i < a.len() {
+        if a[i] != b[i] {
+            return false;
+        }
+        i += 1;
+    }
+    true
+}
+
+// The second element of the first segment, which starts with the bytes.
+fn opening_control<'a>(s: &'a [u8], separator: u8, segments: &[u64]) -> &'a [u8]
+    ensures { λ r. ⌜ now r ≡ openingControl (now (s .entry)) separator (now (segments .entry)) ⌝ }
+{
+    if segments.len() < 3 {
+        return &s[0..0];
+    }
+    let len = segments[1] as usize;
+    if s.len() < len {
+        return &s[0..0];
+    }
+    lookup::element(&s[..len], separator, 2)
+}
+
+// The verdict of the closing rules on an SE behind `count` segments.
+fn judge_se(
+    s: &[u8],
+    separator: u8,
+    starts: &[usize; 33],
+    notes: Notes,
+    segments: &[u64],
+    levels: &[u64],
+    count: usize,
+    known: usize,
+) -> Verdict
+    ensures { λ r. ⌜ r ≡ firstBroken (notedClosing (now (s .entry)) separator (now (starts .entry)) (notes .end) (notes .count) (now (segments .entry)) (now (levels .entry)) count known) ⌝ }
+{
+    let total = ruled::noted_element(s, starts, notes.end, notes.count, 1);
+    let told = types::number_of(total);
+    if told == 0 {
+        return Verdict::Broken(16, 1);
+    }
+    if told - 1 != count {
+        return Verdict::Broken(16, 1);
+    }
+    let control = ruled::noted_element(s, starts, notes.end, notes.count, 2);
+    if !same_bytes(control, opening_control(s, separator, segments)) {
+        return Verdict::Broken(16, 2);
+    }
+    if !filling::all_filled(s, separator, segments, levels, known) {
+        return Verdict::Broken(15, 0);
+    }
+    Verdict::Holds
+}
+
+// Rule 6 broken, where the pass found it so: the answer with its element.
+fn bad_end(s: &[u8], how: How, notes: Notes) -> Judgement
+    requires { ⌜ Inside (now s) notes ⌝ }
+    ensures { λ r. ⌜ r ≡ brokenBy (firstBroken (endChecks (viewOf (how .separators) (segmentOf (now (s .entry)) notes)))) ⌝ }
+{
+    let at = notes.at;
+    let end = notes.end;
+    match segment::end_verdict(&s[at..end], how.separators) {
+        Verdict::Broken(number, element) => Judgement::Broken(number, element),
+        Verdict::Holds => Judgement::Broken(6, 0),
+    }
+}
+
+// The rules of levels and of closing, for a segment that keeps all others and has that tag and row.
+fn judge_late(
+    s: &[u8],
+    how: How,
+    starts: &[usize; 33],
+    notes: Notes,
+    state: State,
+    segments: &[u64],
+    levels: &[u64],
+    tag: u8,
+    row: u8,
+) -> Judgement
+    ensures { λ r. ⌜ JudgesLate (how .separators .element) (now (s .entry)) (now (starts .entry)) notes state (now (segments .entry)) (now (levels .entry)) tag row r ⌝ }
+{
+    let separator = how.separators.element;
+    if tag == tags::HL {
+        return match judge_hl(s, separator, starts, notes, segments, levels, state.known) {
+            Judged::Entitled(parent, depth, code) => Judgement::Level(row, parent, depth, code),
+            Judged::Refused(number, element) => Judgement::Broken(number, element),
+        };
+    }
+    if tag == tags::SE {
+        return match judge_se(
+            s,
+            separator,
+            starts,
+            notes,
+            segments,
+            levels,
+            state.count,
+            state.known,
+        ) {
+            Verdict::Holds => Judgement::Last(row),
+            Verdict::Broken(number, element) => Judgement::Broken(number, element),
+        };
+    }
+    Judgement::Plain(row)
+}
+
+// What the rules say of the next segment, after what the reader stands at.
+pub(crate) fn judge(
+    s: &[u8],
+    how: How,
+    table: &[u8; 2686],
+    starts: &[usize; 33],
+    notes: Notes,
+    state: State,
+    segments: &[u64],
+    levels: &[u64],
+) -> Judgement
+    requires { ⌜ now table ≡ nextTable ⌝ }
+    requires { ⌜ Inside (now s) notes ⌝ }
+    ensures { λ r. ⌜ ((before : Tables) (gs : List Placed) (rows : List ℕ) (g more : Bytes)
+        → Fitted (how .separators) → Noted how (now (s .entry)) (now (starts .entry)) notes g more
+        → Standing how before (now (s .entry)) (now (segments .entry)) (now (levels .entry)) (notes .at) (state .count) (state .row) (state .again) (state .known) gs rows
+        → Judges rows (onto [] (seen how gs)) (viewOf (how .separators) g) r) ⌝ }
+{
+    let tag = tag_of(s, starts, notes);
+    if tags::NO_TAG <= tag {
+        return Judgement::Broken(4, 0);
+    }
+    if !notes.ended {
+        return bad_end(s, how, notes);
+    }
+    let row = next::row_after(table, state.row, state.again, tag);
+    if row == 0 {
+        return Judgement::Broken(7, 0);
+    }
+    match ruled::ruled_verdict(
+        s,
+        starts,
+        notes.end,
+        notes.count,
+        notes.plain,
+        how.separators.component,
+        tag,
+    ) {
+        Verdict::Broken(number, element) => Judgement::Broken(number, element),
+        Verdict::Holds => judge_late(s, how, starts, notes, state, segments, levels, tag, row),
+    }
+}

@@ -1,0 +1,176 @@
+// Reading one transaction, segment after segment.
+ghost use mathlib.Core.Path.{_≡_};
+ghost use mathlib.Core.List.{List};
+ghost use Prim.Native.Nat.{ℕ, _≤_};
+ghost use lib.ListN.{length};
+ghost use Rattle.text.specs.Bytes.{Bytes};
+ghost use Rattle.text.specs.View.{viewOf};
+ghost use Rattle.text.proofs.View.{Fitted};
+ghost use Rattle.rows.specs.Next.{nextTable};
+ghost use Rattle.elements.specs.Checks.{firstBroken};
+ghost use Rattle.elements.specs.Rules.{byteChecks};
+ghost use Rattle.reading.specs.Classes.{Table};
+ghost use Rattle.reading.specs.Profile.{nonconformance};
+ghost use Rattle.reading.specs.Records.{Tables};
+ghost use Rattle.reading.specs.Reads.{limit, Read, Reads};
+ghost use Rattle.reading.specs.Settling.{between, refusedBy};
+use crate::answer::Answer;
+use crate::cutting;
+use crate::cutting::Next;
+use crate::how::How;
+use crate::judging;
+use crate::judging::Notes;
+use crate::judging::State;
+use crate::settling;
+use crate::settling::Step;
+use elements::segment;
+use elements::verdict::Verdict;
+use rows::next;
+
+// The longest input.
+pub const LIMIT: usize = 1048576;
+
+// Rule 5 broken by the segment from `at` to `end`, behind `count` segments: the answer with its element.
+fn bad_bytes(s: &[u8], how: How, at: usize, end: usize, count: usize) -> Answer
+    requires { ⌜ at ≤ end ⌝ }
+    requires { ⌜ end ≤ length (now s) ⌝ }
+    requires { ⌜ count ≤ 9000000000000000000 ⌝ }
+    ensures { λ r. ⌜ r ≡ refusedBy (firstBroken (byteChecks (viewOf (how .separators) (between (now (s .entry)) at end)))) count at ⌝ }
+{
+    match segment::byte_verdict(&s[at..end], how.separators) {
+        Verdict::Broken(number, element) => Answer::Refused {
+            number,
+            segment: count + 1,
+            byte: at,
+            element,
+        },
+        Verdict::Holds => Answer::Refused {
+            number: 5,
+            segment: count + 1,
+            byte: at,
+            element: 0,
+        },
+    }
+}
+
+// Reads on with fit separators from the start of bytes that are not too long.
+fn read_on(
+    s: &[u8],
+    how: How,
+    classes: &[u8; 256],
+    table: &[u8; 2686],
+    segments: &mut [u64],
+    levels: &mut [u64],
+) -> Answer
+    requires { ⌜ Fitted (how .separators) ⌝ }
+    requires { ⌜ length (now s) ≤ limit ⌝ }
+    requires { ⌜ Table (how .separators) (now classes) ⌝ }
+    requires { ⌜ now table ≡ nextTable ⌝ }
+    ensures { λ r. ⌜ Read nonconformance how (now (s .entry)) (record { segments = now (segments .entry); levels = now (levels .entry) }) r
+        (record { segments = now (segments .exit); levels = now (levels .exit) }) ⌝ }
+{
+    let mut queue: [usize; 264] = [0; 264];
+    let mut starts: [usize; 33] = [0; 33];
+    let mut at: usize = 0;
+    let mut head: usize = 0;
+    let mut tail: usize = 0;
+    let mut seen: usize = 0;
+    let mut state = State {
+        count: 0,
+        row: 0,
+        again: false,
+        known: 0,
+    };
+    loop {
+        match cutting::next_segment(
+            s,
+            classes,
+            how.separators,
+            at,
+            head,
+            tail,
+            seen,
+            &mut queue,
+            &mut starts,
+        ) {
+            Next::Open => {
+                return Answer::Refused {
+                    number: 3,
+                    segment: state.count + 1,
+                    byte: at,
+                    element: 0,
+                };
+            }
+            Next::Bad(end) => {
+                return bad_bytes(s, how, at, end, state.count);
+            }
+            Next::Segment {
+                end,
+                count,
+                plain,
+                ended,
+                head: left,
+                tail: upto,
+                seen: known,
+            } => {
+                let notes = Notes {
+                    at,
+                    end,
+                    count,
+                    plain,
+                    ended,
+                };
+                let judgement = judging::judge(
+                    s,
+                    how,
+                    table,
+                    &starts,
+                    notes,
+                    state,
+                    segments,
+                    levels,
+                );
+                match settling::settle(judgement, notes, state, segments, levels) {
+                    Step::Done(answer) => {
+                        return answer;
+                    }
+                    Step::Passed(next) => {
+                        state = next;
+                        at = end + 1;
+                        head = left;
+                        tail = upto;
+                        seen = known;
+                    }
+                }
+            }
+        }
+    }
+}
+
+// Reads one transaction from the start of the bytes. The answer, the records in both lent tables: three numbers a segment (start, length,
+// row) and four a level (segment, parent's level, depth, code).
+pub fn read(s: &[u8], how: How, segments: &mut [u64], levels: &mut [u64]) -> Answer
+    ensures { λ r. ⌜ Reads how (now (s .entry)) (record { segments = now (segments .entry); levels = now (levels .entry) }) r
+        (record { segments = now (segments .exit); levels = now (levels .exit) }) ⌝ }
+{
+    if !how.separators.fit() {
+        return Answer::Refused {
+            number: 1,
+            segment: 0,
+            byte: 0,
+            element: 0,
+        };
+    }
+    if LIMIT < s.len() {
+        return Answer::Refused {
+            number: 2,
+            segment: 0,
+            byte: 0,
+            element: 0,
+        };
+    }
+    let mut classes: [u8; 256] = [0; 256];
+    cutting::set_classes(&mut classes, how.separators);
+    let table = next::next_table();
+    read_on(s, how, &classes, &table, segments, levels)
+}

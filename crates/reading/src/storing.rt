@@ -1,0 +1,51 @@
+// Storing the records of a segment and of a level in the lent tables.
+ghost use mathlib.Core.Path.{_≡_};
+ghost use mathlib.Core.List.{[], _∷_};
+ghost use Prim.Native.Nat.{_/_, _<_};
+ghost use lib.Dec.{ltb};
+ghost use lib.ListN.{length};
+ghost use Rattle.levels.specs.Told.{storedAt};
+
+// Whether the segment table has room for one record behind the first n.
+pub(crate) fn segment_room(segments: &[u64], n: usize) -> bool
+    ensures { λ r. ⌜ r ≡ ltb n (length (now (segments .entry)) / 3) ⌝ }
+{
+    n < segments.len() / 3
+}
+
+// Whether the level table has.
+pub(crate) fn level_room(levels: &[u64], n: usize) -> bool
+    ensures { λ r. ⌜ r ≡ ltb n (length (now (levels .entry)) / 4) ⌝ }
+{
+    n < levels.len() / 4
+}
+
+// Start, length and row of a segment, behind the first n records.
+pub(crate) fn put_segment(segments: &mut [u64], n: usize, start: usize, len: usize, row: u8)
+    requires { ⌜ n < length (now segments) / 3 ⌝ }
+    ensures { λ _. ⌜ now (segments .exit) ≡ storedAt 3 (now (segments .entry)) n (start ∷ len ∷ row ∷ []) ⌝ }
+{
+    let at = n * 3;
+    segments[at] = start as u64;
+    segments[at + 1] = len as u64;
+    segments[at + 2] = row as u64;
+}
+
+// Segment number, parent's level number, depth and code of a level, behind the first n records.
+pub(crate) fn put_level(
+    levels: &mut [u64],
+    n: usize,
+    segment: usize,
+    parent: usize,
+    depth: usize,
+    code: usize,
+)
+    requires { ⌜ n < length (now levels) / 4 ⌝ }
+    ensures { λ _. ⌜ now (levels .exit) ≡ storedAt 4 (now (levels .entry)) n (segment ∷ parent ∷ depth ∷ code ∷ []) ⌝ }
+{
+    let at = n * 4;
+    levels[at] = segment as u64;
+    levels[at + 1] = parent as u64;
+    levels[at + 2] = depth as u64;
+    levels[at + 3] = code as u64;
+}
