@@ -5,7 +5,7 @@ use mathlib.Core.Bool.{Bool, true, false, not, cond, _&&_, _||_}
 use mathlib.Core.List.{List, [], _∷_, _++_}
 use lib.Dec.{leb, eqb}
 use lib.ListN.{length, getD}
-use Rattle.text.specs.Bytes.{Bytes, every, any}
+use Rattle.text.specs.Bytes.{every, any}
 use Rattle.text.specs.Separators.{printable}
 use Rattle.text.specs.View.{Piece, View, present, elementOf, elementCount}
 use Rattle.elements.specs.Types.{fits}

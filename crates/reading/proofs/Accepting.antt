@@ -1,26 +1,26 @@
 -- Condition 2 in its prefix form: a reading accepts exactly when some segments begin the bytes, each keeps its rules after those before it,
 -- their rows are a word, and there is room.
 -- Assumes nothing.
-use Prim.Native.Nat.{ℕ, suc, _+_, _<_}
+use Prim.Native.Nat.{ℕ, _+_, _<_}
 use mathlib.Core.Path.{_≡_, refl, sym, ap, _∙_}
-use mathlib.Core.List.{List, [], _∷_, _++_, map}
+use mathlib.Core.List.{List, [], _∷_, _++_}
 use native.Mathlib.Omega.{arith}
-use lib.Dec.{T, eqb-refl}
+use lib.Dec.{eqb-refl}
 use lib.ListN.{length, drop, length-append, length-map}
 use Rattle.text.specs.Bytes.{Bytes}
-use Rattle.text.specs.View.{View, viewOf}
+use Rattle.text.specs.View.{viewOf}
 use Rattle.text.specs.Cut.{Whole, Placed, Leads}
 use Rattle.text.proofs.Lists.{map-append, HasLast, has-last}
 use Rattle.rows.specs.Tags.{tag}
 use Rattle.rows.specs.RowList.{tagOf}
 use Rattle.rows.specs.Following.{Fits}
 use Rattle.reading.specs.Profile.{Profile}
-use Rattle.reading.specs.Segments.{tagIn, isSE, seen, onto, levelsIn}
+use Rattle.reading.specs.Segments.{tagIn, seen, onto, levelsIn}
 use Rattle.reading.specs.Rules.{Kept}
 use Rattle.reading.specs.Records.{Tables, Room}
 use Rattle.reading.specs.Reads.{cutBy, skipBy, Run}
 use Rattle.reading.specs.Conditions.{usedBy}
-use Rattle.reading.specs.declared.answer.Answer.the-variants.{Accepted, Refused}
+use Rattle.reading.specs.declared.answer.Answer.the-variants.{Accepted}
 use Rattle.reading.specs.declared.how.How.{How}
 use Rattle.reading.proofs.Laws.{sound-kept, kept-sound, from-at, onto-append, MeetsFrom}
 use Rattle.reading.proofs.Passing.{numbers, room-fewer}

@@ -1,23 +1,20 @@
 -- SE is row 79, and it stands last and only there: segments that were passed and then an SE are a whole transaction, and the other way round.
 -- Assumes nothing.
-use Prim.Native.Nat.{ℕ, suc, _+_, _<_, _≤_}
+use Prim.Native.Nat.{ℕ, _+_}
 use mathlib.Core.Path.{_≡_, refl, sym, ap, subst, _∙_}
-use mathlib.Core.Bool.{Bool, true, false, not}
+use mathlib.Core.Bool.{not}
 use mathlib.Core.List.{List, [], _∷_, _++_, map, append-assoc, append-nil, head-eq-of-cons-eq}
 use native.Mathlib.Omega.{arith}
-use native.Mathlib.Decide.{decLt}
-use lib.Dec.{T, eqb, eqb→eq, eqb-refl, not-T}
+use lib.Dec.{T, eqb→eq, not-T}
 use lib.ListN.{length, length-append}
-use borrow.Author.Tests.{eq-eqb, eqb-true}
 use Rattle.text.specs.View.{View}
 use Rattle.text.proofs.Lists.{map-append, same-front, splits}
-use Rattle.rows.specs.Tags.{tag, tagNumber}
+use Rattle.rows.specs.Tags.{tag}
 use Rattle.rows.specs.Rows.{Word, Viable, list842}
-use Rattle.rows.specs.RowList.{tagOf, rowAt}
+use Rattle.rows.specs.RowList.{tagOf}
 use Rattle.rows.specs.Following.{Fits, lastOf}
 use Rattle.rows.proofs.Follow.{viable-word, word-last, ends-at-79, nil-no-word}
-use Rattle.rows.proofs.Fit.{viable-before, fits-range}
-use Rattle.text.proofs.Tables.{tab, tab-at}
+use Rattle.rows.proofs.Fit.{viable-before}
 use Rattle.reading.specs.Profile.{Profile}
 use Rattle.reading.specs.Segments.{tagIn, isSE, onto}
 use Rattle.reading.specs.Rules.{Kept, From}

@@ -15,9 +15,8 @@ use Rattle.text.proofs.Sames.{same-false}
 use Rattle.elements.specs.Checks.{Check, check, firstBroken}
 use Rattle.elements.specs.declared.verdict.Verdict.the-variants.{Holds, Broken}
 use Rattle.levels.specs.Profile.{nonconformance}
-use Rattle.levels.specs.Levels.{Claim, Level}
+use Rattle.levels.specs.Levels.{Level}
 use Rattle.levels.specs.Rules.{judged}
-use Rattle.levels.specs.declared.judging.Judged.{Judged}
 
 -- two parts of the same length, alike up to place i
 pub record Alike (a b : Bytes) (i : ℕ) : Type 0 where

@@ -1,7 +1,7 @@
 -- The conditions of acceptance, as theorems about the promise of reading.
 -- Assumes nothing.
-use Prim.Native.Nat.{ℕ, suc, _+_, _*_, _≤_, _<_}
-use mathlib.Core.Path.{_≡_, refl, sym, ap, _∙_}
+use Prim.Native.Nat.{ℕ, _+_, _*_, _≤_}
+use mathlib.Core.Path.{_≡_, refl, ap, _∙_}
 use mathlib.Core.Bool.{Bool, true, false}
 use mathlib.Core.List.{List, [], _∷_, _++_}
 use native.Mathlib.Omega.{arith}
@@ -17,8 +17,8 @@ use Rattle.reading.specs.Answers.{Fault}
 use Rattle.reading.specs.Profile.{nonconformance}
 use Rattle.reading.specs.Segments.{seen, onto}
 use Rattle.reading.specs.Records.{Tables, segmentRoom, levelRoom, recorded}
-use Rattle.reading.specs.Reads.{limit, Run, Read, Untouched, ReadsWithin, ReadsFit, ReadsBy, Reads}
-use Rattle.reading.specs.Conditions.{Numbering, Shows, HasRoom, Larger, upToSegment, Final, Continues}
+use Rattle.reading.specs.Reads.{limit, Run, Read, ReadsWithin, ReadsFit, ReadsBy, Reads}
+use Rattle.reading.specs.Conditions.{Numbering, Shows, HasRoom, upToSegment, Final, Continues}
 use Rattle.reading.specs.declared.answer.Answer.{Answer}
 use Rattle.reading.specs.declared.answer.Answer.the-variants.{Accepted, Refused}
 use Rattle.reading.specs.declared.how.How.{How}

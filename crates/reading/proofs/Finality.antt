@@ -1,7 +1,7 @@
 -- A verdict is final: a fault at a segment stands whatever follows what the cut has looked at and with any larger tables, and so does an
 -- acceptance. It follows from the laws of the cut alone.
 -- Assumes nothing.
-use Prim.Native.Nat.{ℕ, suc, _+_, _/_, _≤_, _<_}
+use Prim.Native.Nat.{ℕ, _+_, _<_}
 use mathlib.Core.Path.{_≡_, refl, sym, ap, subst, _∙_}
 use mathlib.Core.Logic.{_⊎_, inl, inr}
 use mathlib.Core.List.{List, [], _∷_, _++_, append-assoc}
@@ -10,15 +10,14 @@ use lib.ListN.{length, take, drop, length-append}
 use lib.Seq.{take-at, drop-at}
 use Rattle.text.specs.Bytes.{Bytes}
 use Rattle.text.specs.View.{View, viewOf}
-use Rattle.text.specs.Cut.{Cut, Whole, Stop, Placed, Leads}
+use Rattle.text.specs.Cut.{Cut, Whole, Stop, Placed}
 use Rattle.text.proofs.Cutting.{Keeps, Front, leads-front}
 use Rattle.text.proofs.Cuts.{cut-keeps, skip-keeps}
 use Rattle.reading.specs.Answers.{Fault}
 use Rattle.reading.specs.Profile.{Profile}
 use Rattle.reading.specs.Segments.{seen, onto}
-use Rattle.reading.specs.Rules.{FirstBroken}
 use Rattle.reading.specs.Records.{Tables, Room}
-use Rattle.reading.specs.Reads.{cutBy, skipBy, Passed, rulesNext, Stopped, Breaks, Full, Closes, Run}
+use Rattle.reading.specs.Reads.{cutBy, skipBy, Passed, Run}
 use Rattle.reading.specs.Conditions.{Larger, lookedAt, upToSegment}
 use Rattle.reading.specs.declared.answer.Answer.the-variants.{Accepted, Refused}
 use Rattle.reading.specs.declared.how.How.{How}

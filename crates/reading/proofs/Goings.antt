@@ -1,29 +1,26 @@
 -- The reader from the first segment to its answer: what holds at the start, after each segment, and at each end.
 -- Assumes nothing.
-use Prim.Native.Nat.{ℕ, suc, _+_, _-_, _/_, _≤_, _<_}
-use mathlib.Core.Path.{_≡_, refl, sym, ap, subst, _∙_}
+use Prim.Native.Nat.{ℕ, _+_, _-_, _/_, _≤_, _<_}
+use mathlib.Core.Path.{_≡_, ap, subst, _∙_}
 use mathlib.Core.Logic.{inl, inr}
-use mathlib.Core.Bool.{Bool, true, false, not}
-use mathlib.Core.List.{List, [], _∷_, _++_}
+use mathlib.Core.Bool.{Bool, false}
+use mathlib.Core.List.{List, [], _∷_}
 use native.Mathlib.Omega.{arith}
 use native.Mathlib.Nat.{add-sub-cancel-left}
 use lib.ListN.{length, take, drop, length-append, length-drop}
 use lib.Seq.{take-append-seam}
 use Rattle.text.specs.Bytes.{Bytes}
-use Rattle.text.specs.View.{View, viewOf}
+use Rattle.text.specs.View.{viewOf}
 use Rattle.text.specs.Cut.{Placed}
 use Rattle.text.proofs.View.{Fitted}
 use Rattle.elements.specs.Checks.{firstBroken}
 use Rattle.elements.specs.Rules.{byteChecks}
-use Rattle.elements.specs.declared.verdict.Verdict.{Verdict}
-use Rattle.elements.specs.declared.verdict.Verdict.the-variants.{Holds, Broken}
 use Rattle.elements.proofs.Verdicts.{keeps-holds}
 use Rattle.reading.specs.Profile.{nonconformance}
 use Rattle.reading.specs.Segments.{seen, onto}
 use Rattle.reading.specs.Records.{Tables}
 use Rattle.reading.specs.Reads.{Read}
 use Rattle.reading.specs.Standing.{Standing}
-use Rattle.reading.specs.Queue.{Ready}
 use Rattle.reading.specs.Cutting.{Cuts, BadSegment, GoodSegment}
 use Rattle.reading.specs.Judgements.{Inside, Noted, Judges}
 use Rattle.reading.specs.Settling.{between, refusedBy, InRoom, Settling, Stands, Settles}
@@ -39,7 +36,7 @@ use Rattle.reading.specs.declared.settling.Step.the-variants.{Done, Pass
 use Rattle.reading.specs.declared.cutting.Next.{Next}
 use Rattle.reading.specs.declared.cutting.Next.the-variants.{Open, Bad, Segment}
 use Rattle.reading.proofs.RuleOrder.{bad-bytes}
-use Rattle.reading.proofs.CutFacts.{ready-first, ready-within, open-stops, bad-cut, good-cut, end-inside}
+use Rattle.reading.proofs.CutFacts.{ready-first, open-stops, bad-cut, good-cut, end-inside}
 use Rattle.reading.proofs.JudgeSteps.{verdict-cases}
 use Rattle.reading.proofs.Standings.{standing-start, standing-refuses, segments-long, levels-long, history-long}
 

@@ -1,16 +1,16 @@
 -- An HL segment in the bytes: what the level tables need to tell of it later, and that its level lies no deeper than 4.
 -- Assumes nothing.
-use Prim.Native.Nat.{ℕ, suc, _+_, _≤_, _<_}
-use mathlib.Core.Path.{_≡_, refl, sym, ap, subst, _∙_}
-use mathlib.Core.Bool.{Bool, true, false, not, _&&_, _||_}
+use Prim.Native.Nat.{ℕ, _+_, _≤_, _<_}
+use mathlib.Core.Path.{_≡_, refl, sym, ap, _∙_}
+use mathlib.Core.Bool.{not, _&&_, _||_}
 use mathlib.Core.List.{List, [], _∷_, _++_}
 use native.Mathlib.Omega.{arith}
-use lib.Dec.{T, leb, leb→le}
+use lib.Dec.{T}
 use lib.ListN.{length, take, drop, getD, List·getD-eq-default}
 use lib.Seq.{take-append-seam}
-use Rattle.text.specs.Bytes.{Bytes, bytes}
+use Rattle.text.specs.Bytes.{Bytes}
 use Rattle.text.specs.Pieces.{pieces}
-use Rattle.text.specs.View.{Piece, View, viewOf, present, elementOf}
+use Rattle.text.specs.View.{View, viewOf, present, elementOf}
 use Rattle.text.specs.declared.separators.Separators.{Separators}
 use Rattle.text.proofs.Bools.{first-of}
 use Rattle.text.proofs.View.{Fitted}
@@ -19,7 +19,7 @@ use Rattle.rows.proofs.TagList.{tag-of-number}
 use Rattle.elements.specs.Data.{rulesHL}
 use Rattle.elements.specs.Checks.{Keeps}
 use Rattle.elements.specs.Rules.{ruleOf, headed, tooManyChecks, missingChecks, unfitChecks, noteChecks, checksBy, ruledChecks}
-use Rattle.levels.specs.Levels.{Claim, Level, claimOf, levelsOf}
+use Rattle.levels.specs.Levels.{Claim, claimOf}
 use Rattle.levels.proofs.Calling.{Everyone}
 use Rattle.levels.proofs.Depth.{EntitledAll, Within4, depth-at-most-4}
 use Rattle.levels.proofs.Telling.{Written}

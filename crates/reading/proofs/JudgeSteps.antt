@@ -2,16 +2,14 @@
 -- Assumes nothing.
 use Prim.Native.Nat.{ℕ, suc, _+_, _-_, _≤_, _<_}
 use mathlib.Core.Path.{_≡_, refl, sym, ap, subst, _∙_}
-use mathlib.Core.Logic.{_≢_, by-cases}
 use mathlib.Core.Bool.{Bool, true, false, not, cond}
 use mathlib.Core.List.{List, [], _∷_, _++_}
 use native.Mathlib.Omega.{arith}
 use native.Mathlib.Nat.{add-sub-cancel-left}
-use lib.Dec.{T, eqb, eqb→eq, eqb-refl}
-use lib.ListN.{length, take, drop, getD, length-append, length-drop}
+use lib.Dec.{T, eqb, eqb→eq}
+use lib.ListN.{length, take, getD, length-append, length-drop}
 use lib.Seq.{take-append-seam}
-use borrow.Author.Tests.{eq-eqb, ne-eqb, eqb-true, eqb-false}
-use Rattle.text.specs.Bytes.{Bytes, same}
+use Rattle.text.specs.Bytes.{Bytes}
 use Rattle.text.specs.Pieces.{pieces}
 use Rattle.text.specs.View.{View, viewOf, elementOf}
 use Rattle.text.specs.Cut.{Placed}
@@ -33,20 +31,18 @@ use Rattle.elements.specs.declared.verdict.Verdict.{Verdict}
 use Rattle.elements.specs.declared.verdict.Verdict.the-variants.{Holds, Broken as Faulty}
 use Rattle.elements.proofs.Verdicts.{keeps-holds}
 use Rattle.elements.proofs.Right.{ruled-right, text-right}
-use Rattle.levels.specs.Levels.{Claim, claimOf, textOf, Level, levelOf, recordOf}
-use Rattle.levels.specs.Rules.{levelChecks, filled, judged, judgedBy}
+use Rattle.levels.specs.Levels.{claimOf, textOf}
+use Rattle.levels.specs.Rules.{levelChecks, judged}
 use Rattle.levels.specs.Told.{told}
-use Rattle.levels.specs.declared.judging.Judged.{Judged}
-use Rattle.levels.specs.declared.judging.Judged.the-variants.{Entitled, Refused}
 use Rattle.reading.specs.Profile.{nonconformance}
-use Rattle.reading.specs.Segments.{tagIn, isHL, isSE, seen, onto, levelsIn, opening}
-use Rattle.reading.specs.Rules.{closingChecks, rules, FirstBroken, Kept}
+use Rattle.reading.specs.Segments.{tagIn, isHL, isSE, seen, onto, levelsIn}
+use Rattle.reading.specs.Rules.{closingChecks}
 use Rattle.reading.specs.Records.{Tables}
 use Rattle.reading.specs.Standing.{Standing}
-use Rattle.reading.specs.Judgements.{notedClaim, openingControl, notedClosing, segmentOf, brokenBy, byLevel, byClosing, lateJudgement, Noted, Sound, Judges}
+use Rattle.reading.specs.Judgements.{notedClaim, notedClosing, segmentOf, brokenBy, byLevel, byClosing, lateJudgement, Noted, Judges}
 use Rattle.reading.specs.declared.how.How.{How}
 use Rattle.reading.specs.declared.judging.Judgement.{Judgement}
-use Rattle.reading.specs.declared.judging.Judgement.the-variants.{Broken, Plain, Level as Entitles, Last}
+use Rattle.reading.specs.declared.judging.Judgement.the-variants.{Broken, Plain}
 use Rattle.reading.specs.declared.judging.Notes.{Notes}
 use Rattle.reading.specs.declared.judging.State.{State}
 use Rattle.reading.proofs.RuleOrder.{unknown-tag, bad-end, no-row, bad-element, bad-level, bad-closing, no-level, no-closing, its-level, its-closing, all-kept}

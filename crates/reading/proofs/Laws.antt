@@ -2,12 +2,10 @@
 -- Assumes nothing.
 use Prim.Native.Nat.{ℕ}
 use mathlib.Core.Path.{_≡_, refl, sym, _∙_}
-use mathlib.Core.Logic.{_⊎_, inl, inr}
-use mathlib.Core.Bool.{Bool, not}
+use mathlib.Core.Logic.{inl, inr}
 use mathlib.Core.List.{List, [], _∷_, _++_, map}
-use lib.Dec.{T, lt→ltb}
+use lib.Dec.{lt→ltb}
 use Rattle.text.specs.View.{View}
-use Rattle.text.proofs.Lists.{map-append}
 use Rattle.rows.specs.Rows.{Word, Viable, list842}
 use Rattle.rows.specs.RowList.{tagOf}
 use Rattle.rows.specs.Following.{Fits}
@@ -16,7 +14,7 @@ use Rattle.rows.proofs.Unique.{rows-once}
 use Rattle.elements.specs.Checks.{Check, Keeps}
 use Rattle.elements.specs.Rules.{byteChecks, endChecks, ruledChecks}
 use Rattle.reading.specs.Profile.{Profile}
-use Rattle.reading.specs.Segments.{tagIn, isSE, onto}
+use Rattle.reading.specs.Segments.{tagIn, onto}
 use Rattle.reading.specs.Rules.{tagChecks, hlChecks, seChecks, Rule, asRules, rowRules, early, late, rules, Sound, FirstBroken, Kept, From}
 
 -- tests, appended

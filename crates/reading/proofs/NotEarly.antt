@@ -1,19 +1,19 @@
 -- A verdict comes no sooner than it must: the segments before a fault can be continued, as bytes, to a transaction that meets every rule.
 -- Assumes nothing.
-use Prim.Native.Nat.{ℕ, suc, _+_, _≤_, _<_}
+use Prim.Native.Nat.{ℕ, _+_, _≤_, _<_}
 use mathlib.Core.Path.{_≡_, refl, sym, ap, subst, _∙_}
 use mathlib.Core.Logic.{_⊎_, inl, inr}
-use mathlib.Core.Bool.{Bool, true, false, not, _&&_}
+use mathlib.Core.Bool.{Bool, true, false, _&&_}
 use mathlib.Core.List.{List, [], _∷_, _++_, map}
 use native.Mathlib.Omega.{arith}
-use lib.Dec.{T, ltb, ltb→lt, leb, leb→le}
+use lib.Dec.{T, ltb, ltb→lt}
 use lib.ListN.{length, take, drop, getD, length-append, length-map}
 use lib.Seq.{take-at, drop-at}
 use Rattle.text.specs.Bytes.{Bytes, every}
 use Rattle.text.specs.Separators.{fitSeparators, isCapital}
 use Rattle.text.specs.Pieces.{joined, Free}
-use Rattle.text.specs.View.{Piece, View, viewOf, written, unseparated, wellFormed}
-use Rattle.text.specs.Cut.{Cut, Whole, Stop, Placed, Leads, cutOf}
+use Rattle.text.specs.View.{View, viewOf, written, unseparated, wellFormed}
+use Rattle.text.specs.Cut.{Cut, Whole, Stop, Placed, Leads}
 use Rattle.text.specs.declared.separators.Separators.{Separators}
 use Rattle.text.proofs.Bools.{both, first-of, second-of}
 use Rattle.text.proofs.Lists.{map-append}

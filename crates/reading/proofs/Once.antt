@@ -1,16 +1,16 @@
 -- Two answers that the promise of reading allows are equal, with their tables. It follows from the laws of the cut alone.
 -- Assumes nothing.
-use Prim.Native.Nat.{ℕ, suc, _+_, _<_}
-use mathlib.Core.Path.{_≡_, refl, sym, ap, subst, _∙_}
+use Prim.Native.Nat.{ℕ, _+_, _<_}
+use mathlib.Core.Path.{_≡_, sym, ap, _∙_}
 use mathlib.Core.Logic.{_⊎_, inl, inr}
 use mathlib.Core.Bool.{Bool, true, false, not}
-use mathlib.Core.List.{List, [], _∷_, _++_, map}
+use mathlib.Core.List.{List, [], _∷_, _++_}
 use native.Mathlib.Omega.{arith}
 use lib.Dec.{T, T-not, leb}
 use lib.ListN.{length}
 use Rattle.text.specs.Bytes.{Bytes}
 use Rattle.text.specs.Separators.{fitSeparators}
-use Rattle.text.specs.View.{View, viewOf}
+use Rattle.text.specs.View.{viewOf}
 use Rattle.text.specs.Cut.{Cut, Whole, Stop, Placed}
 use Rattle.text.proofs.Lists.{map-append}
 use Rattle.text.proofs.Cutting.{whole-once, leads-longer, leads-once}
@@ -19,7 +19,7 @@ use Rattle.reading.specs.Profile.{Profile}
 use Rattle.reading.specs.Segments.{tagIn, isSE, seen, onto}
 use Rattle.reading.specs.Rules.{Rule, Sound}
 use Rattle.reading.specs.Records.{Tables, Room, recorded}
-use Rattle.reading.specs.Reads.{limit, cutBy, skipBy, Passed, rulesNext, withNext, Stopped, Breaks, Full, Closes, Ends, Run, Read, Untouched, ReadsWithin, ReadsFit, ReadsBy}
+use Rattle.reading.specs.Reads.{limit, cutBy, skipBy, rulesNext, withNext, Stopped, Breaks, Full, Closes, Ends, Run, Read, Untouched, ReadsWithin, ReadsFit, ReadsBy}
 use Rattle.reading.specs.declared.answer.Answer.{Answer}
 use Rattle.reading.specs.declared.answer.Answer.the-variants.{Accepted, Refused}
 use Rattle.reading.specs.declared.how.How.{How}

@@ -1,43 +1,39 @@
 -- What an SE is compared with: its number as it was worked out, and the control number of the ST, found by the segment table.
 -- Assumes nothing.
-use Prim.Native.Nat.{ℕ, zero, suc, _+_, _≤_, _<_}
+use Prim.Native.Nat.{ℕ, _+_, _≤_, _<_}
 use mathlib.Core.Path.{_≡_, refl, sym, ap, subst, _∙_}
-use mathlib.Core.Logic.{_↔_}
-use mathlib.Core.Bool.{Bool, true, false, not, cond, _&&_, _||_}
-use mathlib.Core.List.{List, [], _∷_, _++_, map, head-eq-of-cons-eq}
+use mathlib.Core.Bool.{Bool, not, _&&_, _||_}
+use mathlib.Core.List.{List, [], _∷_, _++_, head-eq-of-cons-eq}
 use native.Mathlib.Omega.{arith}
-use lib.Dec.{T, eqb, leb, leb→le}
-use lib.ListN.{length, take, drop, getD, length-append}
+use lib.Dec.{T}
+use lib.ListN.{length, take, getD, length-append}
 use lib.Seq.{take-append-seam}
-use borrow.Author.Tests.{le-ltb, le-leb, lt-leb}
+use borrow.Author.Tests.{le-ltb}
 use Rattle.text.specs.Bytes.{Bytes, between, every}
 use Rattle.text.specs.Separators.{isDigit}
-use Rattle.text.specs.Pieces.{pieces}
 use Rattle.text.specs.View.{View, viewOf, present, elementOf}
-use Rattle.text.specs.Cut.{Cut, Whole, Placed, Leads}
+use Rattle.text.specs.Cut.{Cut, Whole, Placed}
 use Rattle.text.specs.declared.separators.Separators.{Separators}
-use Rattle.text.proofs.Bools.{first-of, second-of, passes}
+use Rattle.text.proofs.Bools.{first-of, passes}
 use Rattle.text.proofs.Cuts.{Says, cut-says}
 use Rattle.rows.specs.Tags.{tag, tagNumber}
-use Rattle.rows.specs.Rows.{Viable, list842}
+use Rattle.rows.specs.Rows.{list842}
 use Rattle.rows.specs.RowList.{tagOf, rowAt}
 use Rattle.rows.proofs.Follow.{viable-iff}
 use Rattle.elements.specs.Types.{valueOf, numberOf, fits}
-use Rattle.elements.specs.Data.{Value, value, rulesSE}
+use Rattle.elements.specs.Data.{value, rulesSE}
 use Rattle.elements.specs.Checks.{Keeps}
 use Rattle.elements.specs.Rules.{ruleOf, headed, fitsSimple, tooManyChecks, missingChecks, unfitChecks, noteChecks, checksBy, ruledChecks}
 use Rattle.elements.specs.declared.types.Kind.the-variants.{N0}
 use Rattle.levels.specs.Levels.{textOf}
 use Rattle.reading.specs.Profile.{nonconformance}
 use Rattle.reading.specs.Segments.{tagIn, seen, onto, opening}
-use Rattle.reading.specs.Rules.{Kept, From}
-use Rattle.reading.specs.Records.{Tables, segmentRecords, over}
-use Rattle.reading.specs.Reads.{cutBy, skipBy}
+use Rattle.reading.specs.Records.{Tables}
 use Rattle.reading.specs.Standing.{Standing}
 use Rattle.reading.specs.Judgements.{openingControl}
 use Rattle.reading.specs.declared.how.How.{How}
 use Rattle.reading.proofs.Laws.{keeps-split}
-use Rattle.reading.proofs.Texts.{element-piece, each-at, ruled-simple, se-rules, st-control}
+use Rattle.reading.proofs.Texts.{each-at, ruled-simple, se-rules, st-control}
 
 -- the first segment of a history
 opening-onto : (u : View) (h vs : List View) → opening (onto (u ∷ h) vs) ≡ opening (u ∷ h)

@@ -6,23 +6,23 @@ use mathlib.Core.Bool.{Bool, true, false, not}
 use mathlib.Core.List.{List, [], _∷_, _++_, map, append-assoc}
 use native.Mathlib.Omega.{arith}
 use lib.Dec.{T}
-use lib.ListN.{length, drop}
+use lib.ListN.{length}
 use Rattle.text.specs.Bytes.{Bytes}
-use Rattle.text.specs.View.{View, viewOf}
-use Rattle.text.specs.Cut.{Whole, Placed, Leads}
+use Rattle.text.specs.View.{View}
+use Rattle.text.specs.Cut.{Placed}
 use Rattle.text.proofs.Lists.{map-append, splits}
 use Rattle.rows.specs.Rows.{Viable, list842}
 use Rattle.rows.specs.RowList.{tagOf}
 use Rattle.rows.specs.Following.{Fits}
 use Rattle.rows.proofs.Fit.{viable-before}
-use Rattle.levels.specs.Levels.{Level, Claim, claimOf, levelOf, levelsOf}
+use Rattle.levels.specs.Levels.{Claim, levelsOf}
 use Rattle.reading.specs.Profile.{Profile}
 use Rattle.reading.specs.Segments.{tagIn, isHL, isSE, seen, onto, addClaim, claims, levelsIn}
 use Rattle.reading.specs.Rules.{Kept, From}
 use Rattle.reading.specs.Records.{Tables, Room}
-use Rattle.reading.specs.Reads.{cutBy, skipBy, Passed}
+use Rattle.reading.specs.Reads.{Passed}
 use Rattle.reading.specs.declared.how.How.{How}
-use Rattle.reading.proofs.Laws.{from-at, from-append, onto-append, same-rows}
+use Rattle.reading.proofs.Laws.{from-at, from-append, same-rows}
 
 -- rows that number segments, and what each of these keeps: a reading aside from where it stands and what it has room for
 pub record Numbers (profile : Profile) (vs : List View) (rows : List ℕ) : Type 0 where

@@ -5,7 +5,7 @@ use Prim.Native.String.{String}
 use mathlib.Core.Path.{_≡_, refl, sym, ap, subst, _∙_}
 use mathlib.Core.Logic.{_≢_, _⊎_, inl, inr}
 use mathlib.Core.Bool.{Bool, not, _&&_, _||_}
-use mathlib.Core.List.{List, [], _∷_, _++_}
+use mathlib.Core.List.{List}
 use borrow.Author.Tests.{ne-eqb}
 use lib.Dec.{T, eqb, lit<}
 use Rattle.text.proofs.Bools.{or-cases}

@@ -1,23 +1,22 @@
 -- A reading that computes, over the cut and with as many steps as it is given: for the worked cases, and to show that every input has an
 -- answer. Nobody has to believe it: what it gives is proved to be what the promise allows.
 -- Assumes nothing.
-use Prim.Native.Nat.{ℕ, zero, suc, _+_, _≤_, _<_}
-use mathlib.Core.Path.{_≡_, refl, sym, ap, subst, _∙_}
-use mathlib.Core.Logic.{_⊎_, inl, inr, _≢_}
+use Prim.Native.Nat.{ℕ, zero, suc, _+_, _<_}
+use mathlib.Core.Path.{_≡_, refl, ap, subst, _∙_}
+use mathlib.Core.Logic.{inl, inr}
 use mathlib.Core.Bool.{Bool, true, false, not, _&&_}
-use mathlib.Core.List.{List, [], _∷_, _++_, map, append-assoc, append-nil}
+use mathlib.Core.List.{List, [], _∷_, _++_, append-assoc, append-nil}
 use native.Mathlib.Omega.{arith}
 use lib.Dec.{T, leb, ltb→lt, leb→le, le→leb}
 use lib.ListN.{length, drop, length-append, length-drop}
 use Rattle.text.specs.Bytes.{Bytes}
 use Rattle.text.specs.View.{View, viewOf}
-use Rattle.text.specs.Cut.{Cut, Whole, Stop, Placed, Leads}
+use Rattle.text.specs.Cut.{Cut, Whole, Stop, Placed}
 use Rattle.text.proofs.Bools.{both, first-of, second-of}
 use Rattle.text.proofs.Lists.{map-append}
 use Rattle.text.proofs.Cutting.{Keeps}
 use Rattle.text.proofs.Cuts.{cut-keeps}
 use Rattle.rows.specs.Rows.{Viable, list842}
-use Rattle.rows.specs.RowList.{tagOf}
 use Rattle.rows.specs.Following.{Fits, OneFits, lastOf, twice}
 use Rattle.rows.proofs.Follow.{viable-nil}
 use Rattle.rows.proofs.After.{stepOf, step-fits}
@@ -27,7 +26,7 @@ use Rattle.reading.specs.Profile.{Profile}
 use Rattle.reading.specs.Segments.{tagIn, isSE, seen, onto, levelsIn}
 use Rattle.reading.specs.Rules.{tagChecks, Rule, asRules, rowRules, early, late, rules, Sound, FirstBroken, Kept}
 use Rattle.reading.specs.Records.{Tables, Room, segmentRoom, levelRoom}
-use Rattle.reading.specs.Reads.{cutBy, skipBy, Passed, Stopped, Breaks, Full, Run}
+use Rattle.reading.specs.Reads.{cutBy, skipBy, Passed, Run}
 use Rattle.reading.specs.declared.answer.Answer.{Answer}
 use Rattle.reading.specs.declared.answer.Answer.the-variants.{Accepted, Refused}
 use Rattle.reading.specs.declared.how.How.{How}

@@ -2,12 +2,12 @@
 -- segment is sound.
 -- Assumes nothing.
 use Prim.Native.Nat.{ℕ, _≤_, _<_}
-use mathlib.Core.Path.{_≡_, refl, sym, ap, subst, _∙_}
-use mathlib.Core.Logic.{_⊎_, inl, inr}
+use mathlib.Core.Path.{_≡_, refl, ap}
+use mathlib.Core.Logic.{inl, inr}
 use mathlib.Core.Bool.{Bool, true, false, not, cond}
 use mathlib.Core.List.{List, [], _∷_, _++_, append-assoc, append-nil}
 use native.Mathlib.Omega.{arith}
-use lib.Dec.{T, ltb, lt→ltb}
+use lib.Dec.{T, lt→ltb}
 use borrow.Author.Tests.{le-ltb}
 use Rattle.text.specs.View.{View}
 use Rattle.text.proofs.Bools.{passes}
@@ -20,8 +20,8 @@ use Rattle.levels.specs.Levels.{claimOf}
 use Rattle.levels.specs.Rules.{levelChecks}
 use Rattle.reading.specs.Profile.{Profile}
 use Rattle.reading.specs.Segments.{tagIn, isHL, isSE, levelsIn}
-use Rattle.reading.specs.Rules.{tagChecks, hlChecks, closingChecks, seChecks, Rule, asRules, rowRules, early, late, rules, Sound, FirstBroken, Kept}
-use Rattle.reading.proofs.Laws.{keeps-both, kept-sound}
+use Rattle.reading.specs.Rules.{tagChecks, hlChecks, closingChecks, seChecks, Rule, asRules, rowRules, rules, Sound, FirstBroken, Kept}
+use Rattle.reading.proofs.Laws.{kept-sound}
 
 -- the first of some tests that fails is the first of the rules that is broken, whatever rules follow
 pub first-here : (cs : List Check) (rest : List Rule) (n e : ℕ) → firstBroken cs ≡ Broken n e → FirstBroken (asRules cs ++ rest) n e

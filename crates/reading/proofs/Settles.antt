@@ -8,20 +8,17 @@ use mathlib.Core.List.{List, [], _∷_, _++_}
 use native.Mathlib.Omega.{arith}
 use native.Mathlib.Nat.{add-sub-cancel-left}
 use lib.Dec.{T, ltb}
-use lib.ListN.{length, drop}
+use lib.ListN.{length}
 use borrow.Author.Tests.{ltb-true, ltb-false}
 use Rattle.text.specs.Bytes.{Bytes}
 use Rattle.text.specs.View.{View, viewOf}
 use Rattle.text.specs.Cut.{Placed}
-use Rattle.rows.specs.Following.{Fits}
 use Rattle.levels.specs.Told.{storedAt}
 use Rattle.reading.specs.Profile.{nonconformance}
-use Rattle.reading.specs.Segments.{tagIn, isHL, isSE, seen, onto}
-use Rattle.reading.specs.Rules.{Kept}
+use Rattle.reading.specs.Segments.{seen, onto}
 use Rattle.reading.specs.Records.{Tables, Room}
 use Rattle.reading.specs.Judgements.{Judges, Sound}
 use Rattle.reading.specs.Settling.{stateAfter, refusedAt, Settling, Stands, Settles}
-use Rattle.reading.specs.declared.answer.Answer.{Answer}
 use Rattle.reading.specs.declared.answer.Answer.the-variants.{Accepted}
 use Rattle.reading.specs.declared.how.How.{How}
 use Rattle.reading.specs.declared.judging.Judgement.{Judgement}
@@ -29,7 +26,7 @@ use Rattle.reading.specs.declared.judging.Judgement.the-variants.{Broken
 use Rattle.reading.specs.declared.judging.Notes.{Notes}
 use Rattle.reading.specs.declared.judging.State.{State}
 use Rattle.reading.specs.declared.settling.Step.{Step}
-use Rattle.reading.specs.declared.settling.Step.the-variants.{Done, Passed}
+use Rattle.reading.specs.declared.settling.Step.the-variants.{Done}
 use Rattle.reading.proofs.Laws.{kept-sound}
 use Rattle.reading.proofs.Standings.{standing-refuses, no-segment-room, no-level-room, standing-plain, standing-level, standing-closes, history-long}
 

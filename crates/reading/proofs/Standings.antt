@@ -1,18 +1,16 @@
 -- The reader from one segment to the next: what it knows at the start, after a segment that is passed, and where it stops.
 -- Assumes nothing.
-use Prim.Native.Nat.{ℕ, zero, suc, _+_, _*_, _/_, _≤_, _<_}
+use Prim.Native.Nat.{ℕ, suc, _+_, _*_, _/_, _≤_, _<_}
 use mathlib.Core.Path.{_≡_, refl, sym, ap, subst, _∙_}
-use mathlib.Core.Logic.{_⊎_, inl, inr}
 use mathlib.Core.Bool.{Bool, true, false, not}
-use mathlib.Core.List.{List, [], _∷_, _++_, map, append-assoc, append-nil}
+use mathlib.Core.List.{List, [], _∷_, _++_, append-assoc}
 use native.Mathlib.Omega.{arith}
 use lib.Dec.{T, eqb, eqb→eq}
-use lib.ListN.{length, take, drop, length-append, length-drop, length-map, drop-of-length-le}
+use lib.ListN.{length, take, drop, length-append, length-drop, length-map}
 use lib.Seq.{take-at, drop-at, drop-drop}
 use Rattle.text.specs.Bytes.{Bytes}
 use Rattle.text.specs.View.{View, viewOf}
 use Rattle.text.specs.Cut.{Whole, Placed}
-use Rattle.text.proofs.Bools.{passes, not-passes}
 use Rattle.text.proofs.Lists.{map-append}
 use Rattle.text.proofs.View.{Fitted}
 use Rattle.rows.specs.Tags.{tag}
@@ -21,12 +19,12 @@ use Rattle.levels.specs.Levels.{Level, levelOf, recordOf, recordsOf, claimOf}
 use Rattle.levels.specs.Told.{storedAt}
 use Rattle.levels.proofs.Calling.{Everyone}
 use Rattle.levels.proofs.Depth.{Within4}
-use Rattle.levels.proofs.Telling.{Tells, Written, tells-none, told-segment-stored, told-level-stored}
+use Rattle.levels.proofs.Telling.{tells-none, told-segment-stored, told-level-stored}
 use Rattle.reading.specs.Profile.{nonconformance}
 use Rattle.reading.specs.Segments.{tagIn, isHL, isSE, seen, onto, levelsIn}
 use Rattle.reading.specs.Rules.{Kept}
-use Rattle.reading.specs.Records.{Tables, segmentRecord, segmentRecords, levelRecords, Room, over, recorded}
-use Rattle.reading.specs.Reads.{cutBy, skipBy, Passed, Closes, Run, Read}
+use Rattle.reading.specs.Records.{Tables, segmentRecords, levelRecords, Room, over}
+use Rattle.reading.specs.Reads.{cutBy, skipBy, Passed, Read}
 use Rattle.reading.specs.Standing.{Standing}
 use Rattle.reading.specs.declared.answer.Answer.the-variants.{Accepted, Refused}
 use Rattle.reading.specs.declared.how.How.{How}
@@ -35,7 +33,7 @@ use Rattle.reading.proofs.Once.{Fails}
 use Rattle.reading.proofs.HlSegments.{hl-written, depths}
 use Rattle.reading.proofs.LastRow.{last-snoc}
 use Rattle.reading.proofs.Named.{levels-hl, levels-other}
-use Rattle.reading.proofs.Reference.{passed-none, passed-more, seen-more}
+use Rattle.reading.proofs.Reference.{passed-none, passed-more}
 
 -- Tables with records in front
 -- a record stored behind the others is one record more in front

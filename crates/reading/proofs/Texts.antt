@@ -1,27 +1,27 @@
 -- What the reader reads off a segment's bytes is what the rules say of its view: the tag, and the text of an element of one component.
 -- Assumes nothing.
 use Prim.Native.Nat.{ℕ, zero, suc, _+_, _≤_, _<_}
-use mathlib.Core.Path.{_≡_, refl, sym, ap, subst, _∙_}
+use mathlib.Core.Path.{_≡_, refl, subst, _∙_}
 use mathlib.Core.Logic.{by-cases}
-use mathlib.Core.Bool.{Bool, true, false, not, cond, _&&_, _||_}
-use mathlib.Core.List.{List, [], _∷_, _++_, map}
+use mathlib.Core.Bool.{Bool, true, false, not, cond, _||_}
+use mathlib.Core.List.{List, [], _∷_, _++_}
 use native.Mathlib.Omega.{arith}
 use native.Mathlib.Decide.{decLt}
-use lib.Dec.{T, eqb, leb, T-not}
+use lib.Dec.{T}
 use lib.ListN.{length, getD, List·getD-map}
 use Rattle.text.specs.Bytes.{Bytes, bytes, every, among, same, between}
 use Rattle.text.specs.Separators.{isDigit, isCapital, isSmall, mayServe}
 use Rattle.text.specs.Pieces.{pieces, joined, Free}
-use Rattle.text.specs.View.{Piece, View, viewOf, empty, present, elementOf}
+use Rattle.text.specs.View.{Piece, View, viewOf, present, elementOf}
 use Rattle.text.specs.declared.separators.Separators.{Separators}
-use Rattle.text.proofs.Bools.{first-of, second-of, passes}
+use Rattle.text.proofs.Bools.{first-of, second-of}
 use Rattle.text.proofs.Sames.{same-equal}
 use Rattle.text.proofs.Pieces.{joined-pieces, pieces-free}
 use Rattle.text.proofs.View.{Fitted}
 use Rattle.rows.specs.Tags.{tag, tags, placeIn, tagNumber}
 use Rattle.elements.specs.Data.{Value, value, Simple, Rules, rulesHL, rulesSE, rulesST}
 use Rattle.elements.specs.declared.types.Kind.the-variants.{AN, ID, N0}
-use Rattle.elements.specs.Checks.{Check, each, Keeps}
+use Rattle.elements.specs.Checks.{each, Keeps}
 use Rattle.elements.specs.Rules.{ruleOf, fitsSimple, fitsShape, tooManyChecks, missingChecks, unfitChecks, noteChecks, checksBy, ruledChecks}
 use Rattle.levels.specs.Levels.{textOf, claimOf}
 use Rattle.reading.specs.Profile.{nonconformance}

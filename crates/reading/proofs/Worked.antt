@@ -3,8 +3,8 @@
 -- Assumes nothing.
 use Prim.Native.Nat.{ℕ}
 use Prim.Native.String.{String}
-use mathlib.Core.Path.{_≡_, refl, sym, ap, _∙_}
-use mathlib.Core.Bool.{Bool, true, false, not}
+use mathlib.Core.Path.{_≡_, refl, _∙_}
+use mathlib.Core.Bool.{not}
 use mathlib.Core.List.{List, [], _∷_}
 use lib.Dec.{T, leb, leb→le}
 use lib.ListN.{length}
@@ -18,12 +18,11 @@ use Rattle.rows.proofs.After.{stepOf}
 use Rattle.elements.specs.Types.{isReal, daysIn, isDate, isTime, fits}
 use Rattle.elements.specs.Rules.{byteChecks, endChecks, ruledChecks}
 use Rattle.levels.specs.Profile.{codeOf, mayStandAlone, mayBeMarked, mayHang}
-use Rattle.levels.specs.Levels.{recordsOf}
 use Rattle.levels.specs.Rules.{filled}
 use Rattle.reading.specs.Profile.{nonconformance}
-use Rattle.reading.specs.Segments.{tagIn, seen, onto, levelsIn}
+use Rattle.reading.specs.Segments.{tagIn, levelsIn}
 use Rattle.reading.specs.Rules.{tagChecks, hlChecks, seChecks}
-use Rattle.reading.specs.Records.{Tables, segmentRecords, levelRecords, segmentRoom, levelRoom, over, recorded}
+use Rattle.reading.specs.Records.{Tables, segmentRecords, levelRecords, segmentRoom, levelRoom, over}
 use Rattle.reading.specs.Reads.{limit, Read, Reads}
 use Rattle.reading.specs.declared.answer.Answer.{Answer}
 use Rattle.reading.specs.declared.answer.Answer.the-variants.{Accepted, Refused}

@@ -12,7 +12,7 @@ use Rattle.reading.specs.Meets.{Meets}
 use Rattle.reading.specs.Records.{Tables, Room, recorded}
 use Rattle.reading.specs.Reads.{limit, cutBy, skipBy, Reads}
 use Rattle.reading.specs.declared.answer.Answer.{Answer}
-use Rattle.reading.specs.declared.answer.Answer.the-variants.{Accepted, Refused}
+use Rattle.reading.specs.declared.answer.Answer.the-variants.{Accepted}
 use Rattle.reading.specs.declared.how.How.{How}
 
 -- Condition 2

@@ -2,15 +2,14 @@
 -- Assumes nothing.
 use Prim.Native.Nat.{ℕ, suc, _+_, _-_, _≤_}
 use mathlib.Core.Path.{_≡_}
-use mathlib.Core.Bool.{Bool, true, false, not, cond}
+use mathlib.Core.Bool.{true, false, not, cond}
 use mathlib.Core.List.{List, [], _∷_, _++_}
-use lib.Dec.{T, eqb, leb, ltb}
+use lib.Dec.{T, eqb, ltb}
 use lib.ListN.{length, take, drop, getD}
 use Rattle.text.specs.Bytes.{Bytes, same}
 use Rattle.text.specs.Pieces.{Free, pieces}
 use Rattle.text.specs.View.{View, viewOf}
 use Rattle.text.specs.Lookup.{pieceSpan}
-use Rattle.text.specs.Cut.{Placed}
 use Rattle.rows.specs.Following.{Fits}
 use Rattle.elements.specs.Types.{numberOf}
 use Rattle.elements.specs.Checks.{Check, check, firstBroken, Keeps}
@@ -24,7 +23,7 @@ use Rattle.levels.specs.declared.judging.Judged.{Judged}
 use Rattle.levels.specs.declared.judging.Judged.the-variants.{Entitled, Refused}
 use Rattle.levels.specs.Told.{told}
 use Rattle.reading.specs.Profile.{nonconformance}
-use Rattle.reading.specs.Segments.{tagIn, isHL, isSE, seen, onto, levelsIn}
+use Rattle.reading.specs.Segments.{tagIn, isHL, isSE, levelsIn}
 use Rattle.reading.specs.Rules.{rules, FirstBroken, Kept}
 use Rattle.reading.specs.declared.how.How.{How}
 use Rattle.reading.specs.declared.judging.Judgement.{Judgement}

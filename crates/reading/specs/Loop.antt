@@ -1,6 +1,6 @@
 -- What the reader knows before each segment: where it stands, and that the queue serves the next cut.
 -- Assumes nothing.
-use Prim.Native.Nat.{ℕ, _≤_}
+use Prim.Native.Nat.{ℕ}
 use mathlib.Core.Path.{_≡_}
 use mathlib.Core.List.{List}
 use lib.ListN.{length}

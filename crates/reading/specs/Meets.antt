@@ -8,7 +8,7 @@ use mathlib.Core.Bool.{Bool, true, false}
 use mathlib.Core.List.{List, [], _∷_, map}
 use lib.Dec.{T}
 use lib.ListN.{length, getD}
-use Rattle.text.specs.Bytes.{Bytes, bytes}
+use Rattle.text.specs.Bytes.{bytes}
 use Rattle.text.specs.View.{View, elementOf}
 use Rattle.rows.specs.Rows.{Word, list842}
 use Rattle.rows.specs.RowList.{tagOf}

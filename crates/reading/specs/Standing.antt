@@ -1,6 +1,6 @@
 -- What the reader knows between two segments. Its own functions promise each other in these terms; nothing outside the crate is stated with them.
 -- Assumes nothing.
-use Prim.Native.Nat.{ℕ, _+_}
+use Prim.Native.Nat.{ℕ}
 use mathlib.Core.Path.{_≡_}
 use mathlib.Core.Bool.{Bool, false}
 use mathlib.Core.List.{List, []}

@@ -1,42 +1,32 @@
+-- `bad_end` meets its contract.
+-- Assumes nothing.
 use mathlib.Core.Path.{sym, ap, _∙_}
 use Rattle.reading.specs.Judgements.{brokenBy}
-use native.Mathlib.Omega.{arith}
 use borrow.Author.Needs.{needs}
 use Rattle.reading.proofs.judging.bad_end.Statement.{statement}
 use Rattle.reading.proofs.judging.bad_end.Tie as tie
-use Rattle.reading.proofs.judging.bad_end.Reads as reads
-use Rattle.reading.proofs.judging.bad_end.Lts as lts
-use Rattle.elements.proofs.segment.end_verdict.Reads as end-verdict-reads
 
--- src/judging.rt:160:32
 sub-end-verdict : tie.Need-sub-end-verdict
 sub-end-verdict c = search needs
 
--- src/judging.rt:160:32
 part-end-verdict-start : tie.Need-part-end-verdict-start
 part-end-verdict-start c = search needs
 
--- src/judging.rt:160:32
 part-end-verdict-end : tie.Need-part-end-verdict-end
 part-end-verdict-end c = search needs
 
--- src/judging.rt:160:11
 end-verdict-requires : tie.Need-end-verdict-requires
 end-verdict-requires c κs = search needs
 
--- src/judging.rt:161:25
 enum-known-number : tie.Need-enum-known-number
 enum-known-number c = search needs
 
--- src/judging.rt:162:27
 enum-told : tie.Need-enum-told
 enum-told c = search needs
 
--- src/judging.rt:154:1
 returns : tie.Need-returns
 returns c = ap brokenBy (sym (c .before .number .given .1) ∙ c .before .before .before .end-verdict .ensures)
 
--- src/judging.rt:154:1
 returns-2 : tie.Need-returns-2
 returns-2 c = ap brokenBy (sym (c .enum-told .given .1) ∙ c .before .before .end-verdict .ensures)
 

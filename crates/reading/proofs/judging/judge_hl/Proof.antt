@@ -1,35 +1,26 @@
+-- `judge_hl` meets its contract.
+-- Assumes nothing.
 use mathlib.Core.Path.{_∙_}
 use Rattle.reading.proofs.Closings.{claims-same}
-use native.Mathlib.Omega.{arith}
 use borrow.Author.Needs.{needs}
 use Rattle.reading.proofs.judging.judge_hl.Statement.{statement}
 use Rattle.reading.proofs.judging.judge_hl.Tie as tie
-use Rattle.reading.proofs.judging.judge_hl.Reads as reads
-use Rattle.reading.proofs.judging.judge_hl.Lts as lts
-use Rattle.elements.proofs.ruled.noted_element.Reads as noted-element-reads
-use Rattle.levels.proofs.judging.judge_level.Reads as judge-level-reads
 
--- src/judging.rt:79:9
 noted-element-requires : tie.Need-noted-element-requires
 noted-element-requires c κs = search needs
 
--- src/judging.rt:80:9
 noted-element-requires-2 : tie.Need-noted-element-requires-2
 noted-element-requires-2 c κs = search needs
 
--- src/judging.rt:81:9
 noted-element-requires-3 : tie.Need-noted-element-requires-3
 noted-element-requires-3 c κs = search needs
 
--- src/judging.rt:82:9
 noted-element-requires-4 : tie.Need-noted-element-requires-4
 noted-element-requires-4 c κs = search needs
 
--- src/judging.rt:83:5
 judge-level-requires : tie.Need-judge-level-requires
 judge-level-requires c κs = search needs
 
--- src/judging.rt:68:1
 returns : tie.Need-returns
 returns c = c .judge-level .ensures ∙ claims-same _ _ _ _ _ _ _ _ _ (c .before .before .before .before .noted-element .ensures) (c .before .before .before .noted-element2 .ensures) (c .before .before .noted-element3 .ensures) (c .before .noted-element4 .ensures)
 

@@ -1,3 +1,5 @@
+-- `judge_se` meets its contract.
+-- Assumes nothing.
 use mathlib.Core.Path.{sym, ap, _∙_}
 use mathlib.Core.Bool.{true, false}
 use borrow.Author.Tests.{not-true, not-false}
@@ -7,68 +9,48 @@ use Rattle.levels.specs.Rules.{filled}
 use Rattle.levels.specs.Told.{told}
 use Rattle.reading.specs.Judgements.{openingControl}
 use Rattle.reading.proofs.Closings.{no-number, other-number, other-control, not-full, all-closed, same-by}
-use native.Mathlib.Omega.{arith}
 use borrow.Author.Needs.{needs}
 use Rattle.reading.proofs.judging.judge_se.Statement.{statement}
 use Rattle.reading.proofs.judging.judge_se.Tie as tie
-use Rattle.reading.proofs.judging.judge_se.Reads as reads
-use Rattle.reading.proofs.judging.judge_se.Lts as lts
-use Rattle.elements.proofs.ruled.noted_element.Reads as noted-element-reads
-use Rattle.elements.proofs.types.number_of.Reads as number-of-reads
-use Rattle.levels.proofs.filling.all_filled.Reads as all-filled-reads
-use Rattle.reading.proofs.judging.opening_control.Reads as opening-control-reads
-use Rattle.reading.proofs.judging.same_bytes.Reads as same-bytes-reads
 
--- src/judging.rt:130:9
 noted-element-requires : tie.Need-noted-element-requires
 noted-element-requires c κs = search needs
 
--- src/judging.rt:131:9
 number-of-requires : tie.Need-number-of-requires
 number-of-requires c κs = search needs
 
--- src/judging.rt:133:9
 returns : tie.Need-returns
 returns c = no-number (c .before .number-of .ensures ∙ ap numberOf (c .before .before .noted-element .ensures)) (c .before .before .before .before .before .before .args .count) (notedElement (c .before .before .before .before .before .before .args .s .now) (c .before .before .before .before .before .before .args .starts .now) (c .before .before .before .before .before .before .args .notes .end) (c .before .before .before .before .before .before .args .notes .count) 2) (openingControl (c .before .before .before .before .before .before .args .s .now) (c .before .before .before .before .before .before .args .separator) (c .before .before .before .before .before .before .args .segments .now)) (filled (told (c .before .before .before .before .before .before .args .s .now) (c .before .before .before .before .before .before .args .separator) (c .before .before .before .before .before .before .args .segments .now) (c .before .before .before .before .before .before .args .levels .now) (c .before .before .before .before .before .before .args .known))) (c .if1 .taken)
 
--- src/judging.rt:135:8
 sub-if2 : tie.Need-sub-if2
 sub-if2 c = search needs
 
--- src/judging.rt:136:9
 returns-2 : tie.Need-returns-2
 returns-2 c = other-number (c .before .before .number-of .ensures ∙ ap numberOf (c .before .before .before .noted-element .ensures)) (c .before .before .before .before .before .before .before .args .count) (notedElement (c .before .before .before .before .before .before .before .args .s .now) (c .before .before .before .before .before .before .before .args .starts .now) (c .before .before .before .before .before .before .before .args .notes .end) (c .before .before .before .before .before .before .before .args .notes .count) 2) (openingControl (c .before .before .before .before .before .before .before .args .s .now) (c .before .before .before .before .before .before .before .args .separator) (c .before .before .before .before .before .before .before .args .segments .now)) (filled (told (c .before .before .before .before .before .before .before .args .s .now) (c .before .before .before .before .before .before .before .args .separator) (c .before .before .before .before .before .before .before .args .segments .now) (c .before .before .before .before .before .before .before .args .levels .now) (c .before .before .before .before .before .before .before .args .known))) (c .before .if1 .left) (c .if2 .taken)
 
--- src/judging.rt:138:9
 noted-element-requires-2 : tie.Need-noted-element-requires-2
 noted-element-requires-2 c κs = search needs
 
--- src/judging.rt:139:29
 opening-control-requires : tie.Need-opening-control-requires
 opening-control-requires c κs = search needs
 
--- src/judging.rt:139:9
 same-bytes-requires : tie.Need-same-bytes-requires
 same-bytes-requires c κs = search needs
 
--- src/judging.rt:140:9
 returns-3 : tie.Need-returns-3
 returns-3 c =
     other-control (c .before .before .before .before .before .before .number-of .ensures ∙ ap numberOf (c .before .before .before .before .before .before .before .noted-element .ensures)) (c .before .before .before .before .before .before .before .before .before .before .before .args .count) (notedElement (c .before .before .before .before .before .before .before .before .before .before .before .args .s .now) (c .before .before .before .before .before .before .before .before .before .before .before .args .starts .now) (c .before .before .before .before .before .before .before .before .before .before .before .args .notes .end) (c .before .before .before .before .before .before .before .before .before .before .before .args .notes .count) 2) (openingControl (c .before .before .before .before .before .before .before .before .before .before .before .args .s .now) (c .before .before .before .before .before .before .before .before .before .before .before .args .separator) (c .before .before .before .before .before .before .before .before .before .before .before .args .segments .now)) (filled (told (c .before .before .before .before .before .before .before .before .before .before .before .args .s .now) (c .before .before .before .before .before .before .before .before .before .before .before .args .separator) (c .before .before .before .before .before .before .before .before .before .before .before .args .segments .now) (c .before .before .before .before .before .before .before .before .before .before .before .args .levels .now) (c .before .before .before .before .before .before .before .before .before .before .before .args .known))) (c .before .before .before .before .before .if1 .left) (c .before .before .before .before .if2 .left)
     (same-by (c .before .same-bytes .ensures) (c .before .before .before .noted-element2 .ensures) (c .before .before .opening-control .ensures) false (not-true _ (c .if3 .taken)))
 
--- src/judging.rt:142:9
 all-filled-requires : tie.Need-all-filled-requires
 all-filled-requires c κs = search needs
 
--- src/judging.rt:143:9
 returns-4 : tie.Need-returns-4
 returns-4 c =
     not-full (c .before .before .before .before .before .before .before .before .number-of .ensures ∙ ap numberOf (c .before .before .before .before .before .before .before .before .before .noted-element .ensures)) (c .before .before .before .before .before .before .before .before .before .before .before .before .before .args .count) (notedElement (c .before .before .before .before .before .before .before .before .before .before .before .before .before .args .s .now) (c .before .before .before .before .before .before .before .before .before .before .before .before .before .args .starts .now) (c .before .before .before .before .before .before .before .before .before .before .before .before .before .args .notes .end) (c .before .before .before .before .before .before .before .before .before .before .before .before .before .args .notes .count) 2) (openingControl (c .before .before .before .before .before .before .before .before .before .before .before .before .before .args .s .now) (c .before .before .before .before .before .before .before .before .before .before .before .before .before .args .separator) (c .before .before .before .before .before .before .before .before .before .before .before .before .before .args .segments .now)) (filled (told (c .before .before .before .before .before .before .before .before .before .before .before .before .before .args .s .now) (c .before .before .before .before .before .before .before .before .before .before .before .before .before .args .separator) (c .before .before .before .before .before .before .before .before .before .before .before .before .before .args .segments .now) (c .before .before .before .before .before .before .before .before .before .before .before .before .before .args .levels .now) (c .before .before .before .before .before .before .before .before .before .before .before .before .before .args .known))) (c .before .before .before .before .before .before .before .if1 .left) (c .before .before .before .before .before .before .if2 .left)
     (same-by (c .before .before .before .same-bytes .ensures) (c .before .before .before .before .before .noted-element2 .ensures) (c .before .before .before .before .opening-control .ensures) true (not-false _ (c .before .before .if3 .left)))
     (sym (c .before .all-filled .ensures) ∙ not-true _ (c .if4 .taken))
 
--- src/judging.rt:118:1
 returns-5 : tie.Need-returns-5
 returns-5 c =
     all-closed (c .before .before .before .before .before .before .before .before .number-of .ensures ∙ ap numberOf (c .before .before .before .before .before .before .before .before .before .noted-element .ensures)) (c .before .before .before .before .before .before .before .before .before .before .before .before .before .args .count) (notedElement (c .before .before .before .before .before .before .before .before .before .before .before .before .before .args .s .now) (c .before .before .before .before .before .before .before .before .before .before .before .before .before .args .starts .now) (c .before .before .before .before .before .before .before .before .before .before .before .before .before .args .notes .end) (c .before .before .before .before .before .before .before .before .before .before .before .before .before .args .notes .count) 2) (openingControl (c .before .before .before .before .before .before .before .before .before .before .before .before .before .args .s .now) (c .before .before .before .before .before .before .before .before .before .before .before .before .before .args .separator) (c .before .before .before .before .before .before .before .before .before .before .before .before .before .args .segments .now)) (filled (told (c .before .before .before .before .before .before .before .before .before .before .before .before .before .args .s .now) (c .before .before .before .before .before .before .before .before .before .before .before .before .before .args .separator) (c .before .before .before .before .before .before .before .before .before .before .before .before .before .args .segments .now) (c .before .before .before .before .before .before .before .before .before .before .before .before .before .args .levels .now) (c .before .before .before .before .before .before .before .before .before .before .before .before .before .args .known))) (c .before .before .before .before .before .before .before .if1 .left) (c .before .before .before .before .before .before .if2 .left)

@@ -1,63 +1,49 @@
+-- `opening_control` meets its contract.
+-- Assumes nothing.
 use mathlib.Core.Path.{sym, _∙_}
 use lib.Seq.{length-take-le}
 use borrow.Author.Tests.{lt-ltb, le-ltb}
 use Rattle.text.proofs.Spans.{lies}
 use Rattle.reading.specs.Judgements.{openingControl}
-use native.Mathlib.Omega.{arith}
 use borrow.Author.Needs.{needs}
 use Rattle.reading.proofs.judging.opening_control.Statement.{statement}
 use Rattle.reading.proofs.judging.opening_control.Tie as tie
-use Rattle.reading.proofs.judging.opening_control.Reads as reads
-use Rattle.reading.proofs.judging.opening_control.Lts as lts
-use Rattle.text.proofs.lookup.element.Reads as element-reads
 
--- src/judging.rt:108:16
 sub-result : tie.Need-sub-result
 sub-result c = search needs
 
--- src/judging.rt:108:16
 part-result-start : tie.Need-part-result-start
 part-result-start c = search needs
 
--- src/judging.rt:108:16
 part-result-end : tie.Need-part-result-end
 part-result-end c = search needs
 
--- src/judging.rt:108:9
 returns : tie.Need-returns
 unfolding openingControl
 returns c = rw (lt-ltb _ _ (c .before .if1 .taken))
 
--- src/judging.rt:110:15
 shared-slice-read-len : tie.Need-shared-slice-read-len
 shared-slice-read-len c = search needs
 
--- src/judging.rt:112:16
 sub-result-2 : tie.Need-sub-result-2
 sub-result-2 c = search needs
 
--- src/judging.rt:112:16
 part-result-start-2 : tie.Need-part-result-start-2
 part-result-start-2 c = search needs
 
--- src/judging.rt:112:16
 part-result-end-2 : tie.Need-part-result-end-2
 part-result-end-2 c = search needs
 
--- src/judging.rt:112:9
 returns-2 : tie.Need-returns-2
 unfolding openingControl
 returns-2 c = rw (le-ltb _ _ (c .before .before .before .if1 .left), lt-ltb _ _ (c .before .if2 .taken))
 
--- src/judging.rt:114:21
 slice-aggregate-element : tie.Need-slice-aggregate-element
 slice-aggregate-element c = sym (length-take-le _ _ (c .before .if2 .left))
 
--- src/judging.rt:114:5
 element-requires : tie.Need-element-requires
 element-requires c κs = search needs
 
--- src/judging.rt:104:1
 returns-3 : tie.Need-returns-3
 unfolding openingControl
 returns-3 c =

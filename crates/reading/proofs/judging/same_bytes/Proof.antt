@@ -1,12 +1,11 @@
+-- `same_bytes` meets its contract.
+-- Assumes nothing.
 use Prim.Native.Nat.{_-_}
 use lib.ListN.{length}
 use Rattle.reading.proofs.Closings.{Alike, alike-none, alike-more, alike-differ, alike-all, other-length}
-use native.Mathlib.Omega.{arith}
 use borrow.Author.Needs.{needs}
 use Rattle.reading.proofs.judging.same_bytes.Statement.{statement}
 use Rattle.reading.proofs.judging.same_bytes.Tie as tie
-use Rattle.reading.proofs.judging.same_bytes.Reads as reads
-use Rattle.reading.proofs.judging.same_bytes.Lts as lts
 
 abbrev Inv-loop : tie.InvT-loop
 Inv-loop a b i₀ i = Alike a b i
@@ -14,39 +13,30 @@ Inv-loop a b i₀ i = Alike a b i
 abbrev μ-loop : tie.MeasureT-loop
 μ-loop a b i₀ i = length a - i
 
--- src/judging.rt:91:9
 returns : tie.Need-returns Inv-loop μ-loop
 returns c = other-length (c .before .args .a .now) (c .before .args .b .now) (c .if1 .taken)
 
--- src/judging.rt:94:5
 loop-holds : tie.Need-loop-holds Inv-loop μ-loop
 loop-holds c = alike-none (c .before .args .a .now) (c .before .args .b .now) (c .if1 .left)
 
--- src/judging.rt:95:12
 shared-slice-read-if2 : tie.Need-shared-slice-read-if2 Inv-loop μ-loop
 shared-slice-read-if2 c = search needs
 
--- src/judging.rt:95:20
 shared-slice-read-if2-2 : tie.Need-shared-slice-read-if2-2 Inv-loop μ-loop
 shared-slice-read-if2-2 c = search needs
 
--- src/judging.rt:96:13
 returns-2 : tie.Need-returns-2 Inv-loop μ-loop
 returns-2 c = alike-differ (c .before .before .before .before .loop .inv) (c .before .before .before .loop-test .taken) (c .if2 .taken)
 
--- src/judging.rt:98:9
 add-i : tie.Need-add-i Inv-loop μ-loop
 add-i c = search needs
 
--- src/judging.rt:94:5
 loop-less : tie.Need-loop-less Inv-loop μ-loop
 loop-less c = search needs
 
--- src/judging.rt:94:5
 loop-again : tie.Need-loop-again Inv-loop μ-loop
 loop-again c = alike-more (c .before .before .before .before .loop .inv) (c .before .before .before .loop-test .taken) (c .if2 .left)
 
--- src/judging.rt:87:1
 returns-3 : tie.Need-returns-3 Inv-loop μ-loop
 returns-3 c = alike-all (c .before .loop .inv) (c .loop-test .left)
 

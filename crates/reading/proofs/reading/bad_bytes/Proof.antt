@@ -1,7 +1,6 @@
 -- `bad_bytes` meets its contract.
 -- Assumes nothing.
 use mathlib.Core.Path.{sym, ap, _∙_}
-use native.Mathlib.Omega.{arith}
 use Rattle.elements.specs.declared.verdict.Verdict.{Verdict}
 use Rattle.reading.specs.Settling.{refusedBy}
 use borrow.Author.Needs.{needs}

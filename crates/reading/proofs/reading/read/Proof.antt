@@ -1,7 +1,5 @@
 -- `read` meets its contract.
 -- Assumes nothing.
-use mathlib.Core.Path.{sym}
-use native.Mathlib.Omega.{arith}
 use borrow.Author.Needs.{needs}
 use Rattle.text.proofs.View.{fitted}
 use Rattle.reading.proofs.Openings.{passed-test, unfit-refuses, long-refuses, segments-decide}
