@@ -13,6 +13,7 @@ use Rattle.elements.specs.Checks.{firstBroken}
 use Rattle.elements.specs.Data.{nonconformance}
 use Rattle.elements.specs.Rules.{byteChecks, endChecks, ruledChecks}
 use Rattle.elements.specs.Noted.{notedView}
+use Rattle.elements.specs.Post.{notedText}
 use Rattle.elements.specs.declared.types.Kind.{Kind}
 use Rattle.elements.specs.declared.verdict.Verdict.{Verdict}
 
@@ -34,3 +35,6 @@ pub ruled-once : (s : Bytes) (starts : List ℕ) (end count : ℕ) (plain : Bool
     → x ≡ firstBroken (ruledChecks nonconformance tag (notedView s starts end count plain component))
     → y ≡ firstBroken (ruledChecks nonconformance tag (notedView s starts end count plain component)) → x ≡ y
 ruled-once s starts end count plain component tag x y p q = equation-once p q
+
+pub noted-once : (s : Bytes) (starts : List ℕ) (end count k : ℕ) (x y : Bytes) → x ≡ notedText s starts end count k → y ≡ notedText s starts end count k → x ≡ y
+noted-once s starts end count k x y p q = equation-once p q
