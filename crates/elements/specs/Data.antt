@@ -23,7 +23,7 @@ pub record Element : Type 0 where
   pub must : Bool
   pub shape : Shape
 
--- "P: all or none present. R: at least one. C: if the first is present, so are the others."
+-- P asks for all of its elements or none, R for one or more, C for the rest where the first is there
 pub data Note : Type 0 where
   Paired : List ℕ → Note
   Required : List ℕ → Note
@@ -102,7 +102,7 @@ rulesNCA = record {
 abbrev pub rulesSE : Rules
 rulesSE = record { elements = must N0 1 10 ∷ must AN 4 9 ∷ []; notes = [] }
 
--- what a profile says of elements: the ruled segments by their tags. "Other segments are plain"
+-- what a profile says of elements: the ruled segments by their tags; every other segment is plain
 pub record ElementProfile : Type 0 where
   pub ruled : List (ℕ × Rules)
 

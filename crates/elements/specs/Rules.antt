@@ -13,7 +13,7 @@ use Rattle.elements.specs.Data.{Value, Shape, Simple, Composite, Element
 use Rattle.elements.specs.Checks.{Check, check, each}
 use Rattle.elements.specs.declared.types.Kind.the-variants.{AN}
 
--- 5: "byte neither data nor separator", tag 0. A view holds no separator, so its bytes are data exactly if they are printable
+-- 5, a byte that is neither data nor a separator; the tag is element 0. A view holds no separator, so its bytes are data exactly if they are printable
 abbrev pub dataPiece : Piece → Bool
 dataPiece p = every (every printable) p
 
@@ -30,7 +30,7 @@ lastFilled (c ∷ (d ∷ cs)) = lastFilled (d ∷ cs)
 abbrev pub endsWell : View → ℕ → Bool
 endsWell v k = cond (present (elementOf v k)) (lastFilled (elementOf v k)) (not (eqb k (elementCount v)))
 
--- 6: "no element; or last element or a last component empty"
+-- 6: there is no element, or the last element is empty, or an element ends with an empty component
 unfoldable pub endChecks : View → List Check
 endChecks v = check 6 0 (leb 1 (elementCount v)) ∷ each 6 1 (elementCount v) (endsWell v)
 
@@ -42,12 +42,12 @@ abbrev pub ruleOf : Rules → ℕ → Element
 ruleOf rules zero = unruled
 ruleOf rules (suc k) = getD (rules .elements) k unruled
 
--- "too many components": more than a composite has
+-- more components than a composite has
 abbrev pub fewComponents : Shape → Piece → Bool
 fewComponents (Simple x) p = true
 fewComponents (Composite xs) p = leb (length p) (length xs)
 
--- 9: "too many elements or components"
+-- 9: an element past the last ruled one, or a component too many
 abbrev pub tooManyChecks : Rules → View → List Check
 tooManyChecks rules v =
     each 9 1 (elementCount v) (λ (k : ℕ). leb k (length (rules .elements)) && fewComponents (ruleOf rules k .shape) (elementOf v k))
@@ -62,13 +62,13 @@ abbrev pub headed : Shape → Piece → Bool
 headed (Simple x) p = true
 headed (Composite xs) p = not (present p) || firstFilled p
 
--- 8: "mandatory one missing"
+-- 8: an element that must be there is not
 abbrev pub missingChecks : Rules → View → List Check
 missingChecks rules v =
     each 8 1 (length (rules .elements))
     (λ (k : ℕ). (not (ruleOf rules k .must) || present (elementOf v k)) && headed (ruleOf rules k .shape) (elementOf v k))
 
--- "Outside NCA05 a ruled element has no component separator": one value is one component
+-- a ruled element that is no composite has one component
 abbrev pub fitsSimple : Value → Piece → Bool
 fitsSimple x [] = false
 fitsSimple x (s ∷ []) = fits (x .kind) (x .least) (x .most) s
@@ -84,7 +84,7 @@ abbrev pub fitsShape : Shape → Piece → Bool
 fitsShape (Simple x) p = fitsSimple x p
 fitsShape (Composite xs) p = fitsEach xs p
 
--- 10: "type or length unfit, or ST01 not `842`", of an element that is present
+-- 10: an element that is there and does not fit its type or length; ST01 has one value, `842`
 abbrev pub unfitChecks : Rules → View → List Check
 unfitChecks rules v =
     each 10 1 (length (rules .elements)) (λ (k : ℕ). not (present (elementOf v k)) || fitsShape (ruleOf rules k .shape) (elementOf v k))
@@ -95,13 +95,13 @@ noteHolds there (Paired ks) = every there ks || not (any there ks)
 noteHolds there (Required ks) = any there ks
 noteHolds there (Conditional k ks) = not (there k) || every there ks
 
--- "first element it names"
+-- the element that a note names first
 abbrev pub namedFirst : Note → ℕ
 namedFirst (Paired ks) = getD ks 0 0
 namedFirst (Required ks) = getD ks 0 0
 namedFirst (Conditional k ks) = k
 
--- 11: "note broken, first in the order above"
+-- 11: the first note, as they are listed, that does not hold
 abbrev pub noteChecks : List Note → View → List Check
 noteChecks [] v = []
 noteChecks (n ∷ ns) v = check 11 (namedFirst n) (noteHolds (λ (k : ℕ). present (elementOf v k)) n) ∷ noteChecks ns v

@@ -10,7 +10,7 @@ use Rattle.text.specs.Separators.{isDigit, isCapital}
 use Rattle.elements.specs.declared.types.Kind.{Kind}
 use Rattle.elements.specs.declared.types.Kind.the-variants.{AN, ID, Set842, N0, R, DT, TM}
 
--- "ID, `A`-`Z` and `0`-`9`."
+-- ID: capital letters and digits
 abbrev pub isId : Bytes → Bool
 isId s = every (λ (b : ℕ). isCapital b || isDigit b) s
 
@@ -35,7 +35,7 @@ abbrev pub countOf : (ℕ → Bool) → Bytes → ℕ
 countOf f [] = 0
 countOf f (b ∷ s) = cond (f b) (suc (countOf f s)) (countOf f s)
 
--- "an optional leading `-`": the bytes after it
+-- the bytes behind the sign, if there is one
 abbrev pub unsigned : Bytes → Bytes
 unsigned [] = []
 unsigned (b ∷ s) = cond (eqb b 45) s (b ∷ s)
@@ -44,11 +44,11 @@ unsigned (b ∷ s) = cond (eqb b 45) s (b ∷ s)
 abbrev pub isFigure : ℕ → Bool
 isFigure b = isDigit b || eqb b 46
 
--- "R, an optional leading `-`, digits, at most one `.`, at least one digit"
+-- R: a sign or none, then digits, one or more, with one point or none
 unfoldable pub isReal : Bytes → Bool
 isReal s = every isFigure (unsigned s) && leb (countOf (eqb 46) (unsigned s)) 1 && leb 1 (countOf isDigit s)
 
--- "leap years divisible by 4 and not by 100 unless by 400"
+-- every fourth year is a leap year; of the hundreds only every fourth
 abbrev pub isLeap : ℕ → Bool
 isLeap year = eqb (year % 4) 0 && (not (eqb (year % 100) 0) || eqb (year % 400) 0)
 
@@ -64,16 +64,16 @@ daysIn year month = cond (eqb month 2 && isLeap year) 29 (getD (0 ∷ monthDays)
 abbrev pub figures : ℕ → ℕ → Bytes → ℕ
 figures i n s = valueOf (take n (drop i s))
 
--- "DT, eight digits CCYYMMDD, years 0000 to 9999, a real Gregorian date"
+-- DT: eight digits, four of the year, two of the month, two of the day, that name a day of the Gregorian calendar
 unfoldable pub isDate : Bytes → Bool
 isDate s = eqb (length s) 8 && every isDigit s && between 1 (daysIn (figures 0 4 s) (figures 4 2 s)) (figures 6 2 s)
 
--- "TM, 4, 6, 7 or 8 digits, hours 00-23, minutes and seconds 00-59."
+-- TM: 4, 6, 7 or 8 digits; hours below 24, minutes and, where given, seconds below 60
 unfoldable pub isTime : Bytes → Bool
 isTime s =
     among (4 ∷ 6 ∷ 7 ∷ 8 ∷ []) (length s) && every isDigit s && leb (figures 0 2 s) 23 && leb (figures 2 2 s) 59 && leb (figures 4 2 s) 59
 
--- the value is of the type; `Set842` is ID that is "equal to `842`"
+-- the value is of the type; `Set842` is the ID `842`
 abbrev pub isOf : Kind → Bytes → Bool
 isOf AN s = true
 isOf ID s = isId s
@@ -83,7 +83,7 @@ isOf R s = isReal s
 isOf DT s = isDate s
 isOf TM s = isTime s
 
--- the length that counts: of R "only digits count for length"
+-- the length that counts: of R, the digits
 abbrev pub sizeOf : Kind → Bytes → ℕ
 sizeOf AN s = length s
 sizeOf ID s = length s

@@ -1,4 +1,4 @@
--- "No level lies deeper than 4": each permitted pair raises the rank of the code, and a level lies no deeper than its code's rank.
+-- No level lies deeper than 4: each permitted pair raises the rank of the code, and a level lies no deeper than its code's rank.
 -- Assumes nothing.
 use Prim.Native.Nat.{ℕ, zero, suc, _≤_, _<_}
 use mathlib.Core.Path.{_≡_, refl, sym, subst}

@@ -10,7 +10,7 @@ use Rattle.levels.specs.Profile.{LevelProfile, mayStandAlone, mayBeMarke
 use Rattle.levels.specs.Levels.{Level}
 use Rattle.levels.specs.Rules.{absent}
 
--- "HL04 is absent, `0` or `1`", and `1` only of a code that may be marked
+-- a mark is none, `0`, or, of a code that may be marked, `1`
 abbrev pub markFits : LevelProfile → ℕ → Bytes → Bool
 markFits profile code mark = absent mark || same mark (bytes "0") || (same mark (bytes "1") && mayBeMarked profile code)
 

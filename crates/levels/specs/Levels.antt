@@ -37,7 +37,7 @@ pub record Level : Type 0 where
   pub depth : ℕ
   pub code : ℕ
 
--- no level: "Depth is 1 without a parent, else the parent's plus one"
+-- no level, at depth 0: what has no parent has depth 1
 abbrev pub nobody : Level
 nobody = record { id = []; mark = []; segment = 0; parent = 0; depth = 0; code = 0 }
 
@@ -52,7 +52,7 @@ abbrev pub levelAt : ℕ → List Level → Level
 levelAt n [] = nobody
 levelAt n (l ∷ ls) = cond (eqb n (suc (length ls))) l (levelAt n ls)
 
--- the parent's level number: "the text of an earlier HL01", 0 where HL02 is absent
+-- the parent's level number: of the earlier level that has HL02 as its HL01; 0 where HL02 is absent
 abbrev pub parentOf : Claim → List Level → ℕ
 parentOf c ls = cond (eqb (length (c .parent)) 0) 0 (called (c .parent) ls)
 
@@ -72,7 +72,7 @@ abbrev pub levelsOf : LevelProfile → List (ℕ × Claim) → List Level
 levelsOf profile [] = []
 levelsOf profile (h ∷ hs) = levelOf profile (h .0) (h .1) (levelsOf profile hs) ∷ levelsOf profile hs
 
--- "four numbers a level: segment number, parent's level number (0 for none), depth, code"
+-- the four numbers of a level: its segment, its parent's level or 0, its depth, its code
 abbrev pub recordOf : Level → List ℕ
 recordOf l = l .segment ∷ l .parent ∷ l .depth ∷ l .code ∷ []
 

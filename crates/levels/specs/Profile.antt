@@ -17,7 +17,7 @@ pub record LevelProfile : Type 0 where
   -- the permitted pairs, parent and child
   pub pairs : List (ℕ × ℕ)
 
--- "RP report, I item, F component, PC product characteristic, SN serial number", numbered "1 to 5 in the order above"
+-- the codes with their numbers: 1 report, 2 item, 3 component, 4 product characteristic, 5 serial number
 abbrev pub fiveCodes : List (Bytes × ℕ)
 fiveCodes = (bytes "RP", 1) ∷ (bytes "I", 2) ∷ (bytes "F", 3) ∷ (bytes "PC", 4) ∷ (bytes "SN", 5) ∷ []
 
@@ -36,11 +36,11 @@ pair parent child = (code parent, code child)
 abbrev pub nonconformance : LevelProfile
 nonconformance = record {
   codes = fiveCodes;
-  -- "HL02 absent: the level must be RP or I."
+  -- which levels may stand without a parent: RP and I
   alone = code "RP" ∷ code "I" ∷ [];
-  -- "PC or SN marked `1` is refused at once."
+  -- which levels may promise a child: all but PC and SN
   marked = code "RP" ∷ code "I" ∷ code "F" ∷ [];
-  -- "RP-I, I-F, I-PC, F-PC, I-SN, F-SN"
+  -- which level may hang under which
   pairs = pair "RP" "I" ∷ pair "I" "F" ∷ pair "I" "PC" ∷ pair "F" "PC" ∷ pair "I" "SN" ∷ pair "F" "SN" ∷ [];
 }
 

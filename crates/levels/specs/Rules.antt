@@ -21,21 +21,21 @@ absent s = eqb (length s) 0
 -- the tests of an HL after the levels ls
 abbrev pub levelChecks : LevelProfile → List Level → Claim → List Check
 levelChecks profile ls c =
-    -- 12: "HL01 used before"
+    -- 12: another level has that HL01
     check 12 1 (eqb (called (c .id) ls) 0)
-    -- 13: "HL02 names no earlier level"
+    -- 13: no earlier level has HL02 as its HL01
     ∷ check 13 2 (absent (c .parent) || leb 1 (called (c .parent) ls))
-    -- 14: "code unknown, or level may not stand without a parent"
+    -- 14: no such code, or one that needs a parent and has none
     ∷ check 14 3 (leb 1 (codeOf profile (c .code)) && (not (absent (c .parent)) || mayStandAlone profile (codeOf profile (c .code))))
-    -- 14: "pair not permitted"
+    -- 14: this code may not hang under the parent's
     ∷ check 14 2 (absent (c .parent) || mayHang profile (levelAt (parentOf c ls) ls .code) (codeOf profile (c .code)))
-    -- 15: "parent marked 0"
+    -- 15: the parent is marked as having no child
     ∷ check 15 2 (absent (c .parent) || not (same (levelAt (parentOf c ls) ls .mark) (bytes "0")))
-    -- 15: "own mark unfit": "HL04 is absent, `0` or `1`", and `1` only of a code that may be marked
+    -- 15: its own mark is none of those that its code may have
     ∷ check 15 4 (absent (c .mark) || same (c .mark) (bytes "0") || (same (c .mark) (bytes "1") && mayBeMarked profile (codeOf profile (c .code))))
     ∷ []
 
--- "A `1` without a child is refused at SE": every level marked 1 has a child among those after it
+-- what SE asks: every level marked 1 has a child among those after it
 abbrev pub filledFrom : List Level → List Level → Bool
 filledFrom all [] = true
 filledFrom all (l ∷ ls) = (not (same (l .mark) (bytes "1")) || any (λ (child : Level). eqb (child .parent) (suc (length ls))) all) && filledFrom all ls

@@ -89,7 +89,7 @@ refusal-final how s before n k b e after f x more short u larger r′ after′ y
     only-answer how (upToSegment how s b ++ more) u (Refused n k b e) (p .read .kept) (p .read .numbers) (p .fit) short
     (refusal-stands nonconformance how before u larger s n k b e (p .read .kept) (p .read .numbers) f (p .read .run) more) r′ after′ y
 
--- "An acceptance likewise stands under more bytes, within the length limit, and more room"
+-- an acceptance stands under more bytes within the limit and under more room
 pub acceptance-final : (how : How) (s : Bytes) (before : Tables) (a l b : ℕ) (after : Tables) → Reads how s before (Accepted a l b) after
     → Final how before (take b s) (Accepted a l b)
 acceptance-final how s before a l b after x more short u larger r′ after′ y =
@@ -97,7 +97,7 @@ acceptance-final how s before a l b after x more short u larger r′ after′ y 
     only-answer how (take b s ++ more) u (Accepted a l b) (p .read .kept) (p .read .numbers) (p .fit) short
     (acceptance-stands nonconformance how before u larger s a l b (p .read .kept) (p .read .numbers) (p .read .run) more) r′ after′ y
 
--- "comes no sooner than it must": the segments before the fault can be continued to a transaction that meets every rule
+-- a refusal comes no sooner than it must: the segments before the fault can be continued to a transaction that meets every rule
 pub refusal-not-early : (how : How) (s : Bytes) (before : Tables) (n k b e : ℕ) (after : Tables) → Fault n → Reads how s before (Refused n k b e) after
     → Continues how s k b
 refusal-not-early how s before n k b e after f x =

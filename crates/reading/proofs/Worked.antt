@@ -197,10 +197,10 @@ all-shown (c ∷ cs) k = (
 -- W1 to W12
 pub record Worked : Type 0 where
   pub reports : AllShown cases
-  -- W11 "dates: 20240229 real, 20230229 not"
+  -- W11: a leap day in a leap year and in another
   pub real-date : T (isDate (bytes "20240229"))
   pub unreal-date : T (not (isDate (bytes "20230229")))
-  -- W12 "times: 2359 fits, 23595 not"
+  -- W12: a time of four digits and one of five
   pub fit-time : T (isTime (bytes "2359"))
   pub unfit-time : T (not (isTime (bytes "23595")))
 

@@ -5,13 +5,13 @@ use mathlib.Core.List.{List, [], _∷_}
 use Rattle.reading.specs.declared.answer.Answer.{Answer}
 use Rattle.reading.specs.declared.answer.Answer.the-variants.{Accepted, Refused}
 
--- the four numbers of an answer: "0 accepted; gives segments, levels, bytes used"; "Every answer carries segment number, byte where that
--- segment starts, and element number."
+-- the four numbers of an answer: 0 with segments, levels and bytes; or the refusal with the segment, the byte where it starts, and the
+-- element
 abbrev pub numbersOf : Answer → List ℕ
 numbersOf (Accepted segments levels bytes) = 0 ∷ segments ∷ levels ∷ bytes ∷ []
 numbersOf (Refused number segment byte element) = number ∷ segment ∷ byte ∷ element ∷ []
 
--- "a fault (answers 4 to 16)"
+-- the answers that blame a segment for a broken rule
 pub record Fault (number : ℕ) : Type 0 where
   pub from : 4 ≤ number
   pub upto : number ≤ 16

@@ -29,7 +29,7 @@ usedBy [] = 0
 usedBy (g ∷ []) = g .at + length (g .segment) + 1
 usedBy (g ∷ (h ∷ gs)) = usedBy (h ∷ gs)
 
--- the answer accepts these segments, and "the tables then show that numbering"
+-- the answer accepts these segments, and the tables show their rows and levels
 pub record Shows (how : How) (before : Tables) (gs : List Placed) (rows : List ℕ) (r : Answer) (after : Tables) : Type 0 where
   pub answer : r ≡ Accepted (length gs) (length (levelsIn nonconformance (onto [] (seen how gs)))) (usedBy gs)
   pub tables : after ≡ recorded nonconformance how before gs rows
@@ -53,13 +53,12 @@ lookedAt how (Stop number element upto more) = upto
 abbrev pub upToSegment : How → Bytes → ℕ → Bytes
 upToSegment how s b = take b s ++ lookedAt how (cutBy how (drop b s))
 
--- "the same refusal stands whatever bytes follow that segment within the length limit and with any larger tables"; "An acceptance likewise":
--- bytes that begin with `front` give this answer, whatever follows
+-- an answer is final where bytes that begin with `front` get it, whatever follows within the limit, also with larger tables
 abbrev pub Final : How → Tables → Bytes → Answer → Type 0
 Final how t front r = (more : Bytes) → length (front ++ more) ≤ limit → (u : Tables) → Larger t u
     → (r′ : Answer) (after : Tables) → Reads how (front ++ more) u r′ after → r′ ≡ r
 
--- "the segments before k can be continued to a transaction that meets every rule, with length and room set aside"
+-- the segments before k are the start of some transaction that meets every rule; its length and the room for it do not count
 pub record Continues (how : How) (s : Bytes) (k b : ℕ) : Type 0 where
   -- the segments before k
   pub passed : List Placed

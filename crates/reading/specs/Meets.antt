@@ -1,5 +1,5 @@
--- The whole of condition 2, said at once over all segments and a numbering of them, with no order of reading: "its segments can be numbered
--- by rows of the published 842 table so that every byte, loop, element, level and closing rule of document 01 holds".
+-- The whole of condition 2, said at once over all segments and a numbering of them, with no order of reading: the rows
+-- form a word of the bracketed list, and every rule of bytes, elements, levels and closing holds.
 -- Assumes nothing.
 use Prim.Native.Nat.{ℕ, _<_}
 use mathlib.Core.Path.{_≡_}
@@ -38,28 +38,28 @@ hls (v ∷ vs) = putIf (isHL v) (claimOf v) (hls vs)
 abbrev pub hlAt : List Claim → ℕ → Claim
 hlAt cs i = getD cs i (record { id = []; parent = []; code = []; mark = [] })
 
--- level j hangs under the earlier level i, and may: "it must equal an earlier HL01, and (parent, child) must be one of" the pairs, and
--- the parent is not marked 0
+-- level j hangs under the earlier level i, and may: it names it, the pair of codes is permitted, and the parent is
+-- not marked 0
 pub record Under (profile : LevelProfile) (cs : List Claim) (i j : ℕ) : Type 0 where
   pub earlier : i < j
   pub named : hlAt cs i .id ≡ hlAt cs j .parent
   pub pair : T (mayHang profile (codeOf profile (hlAt cs i .code)) (codeOf profile (hlAt cs j .code)))
   pub open-to-children : hlAt cs i .mark ≡ bytes "0" → ⊥
 
--- the rules of "Levels", over all HL segments
+-- the rules of levels, over all HL segments
 pub record LevelsMeet (profile : LevelProfile) (cs : List Claim) : Type 0 where
-  -- "HL01 is compared with every earlier HL01, byte for byte, and must differ from all."
+  -- its HL01 is no earlier level's
   pub distinct : (i j : ℕ) → i < j → j < length cs → hlAt cs i .id ≡ hlAt cs j .id → ⊥
   -- a code of the list
   pub coded : (j : ℕ) → j < length cs → codeOf profile (hlAt cs j .code) ≡ 0 → ⊥
-  -- "HL02 absent: the level must be RP or I."
+  -- without HL02 its code may stand alone
   pub alone : (j : ℕ) → j < length cs → hlAt cs j .parent ≡ [] → T (mayStandAlone profile (codeOf profile (hlAt cs j .code)))
-  -- "Present: it must equal an earlier HL01", with a permitted pair and a parent not marked 0
+  -- with HL02 it hangs under an earlier level, as it may
   pub parented : (j : ℕ) → j < length cs → (hlAt cs j .parent ≡ [] → ⊥) → (i : ℕ) × Under profile cs i j
-  -- "HL04 is absent, `0` or `1`."; 1 only of a code that may be marked
+  -- its mark is none, 0, or, of a code that may be marked, 1
   pub marked : (j : ℕ) → j < length cs
       → (hlAt cs j .mark ≡ []) ⊎ ((hlAt cs j .mark ≡ bytes "0") ⊎ ((hlAt cs j .mark ≡ bytes "1") × T (mayBeMarked profile (codeOf profile (hlAt cs j .code)))))
-  -- "A `1` without a child is refused at SE."
+  -- a level marked 1 has a child
   pub filled : (i : ℕ) → i < length cs → hlAt cs i .mark ≡ bytes "1"
       → (j : ℕ) × (j < length cs) × (hlAt cs j .parent ≡ [] → ⊥) × (hlAt cs i .id ≡ hlAt cs j .parent)
 

@@ -22,7 +22,7 @@ use Rattle.reading.specs.declared.answer.Answer.{Answer}
 use Rattle.reading.specs.declared.answer.Answer.the-variants.{Accepted, Refused}
 use Rattle.reading.specs.declared.how.How.{How}
 
--- "Input is at most 1,048,576 bytes."
+-- the longest input
 abbrev pub limit : ℕ
 limit = 1048576
 
@@ -65,7 +65,7 @@ module _ (profile : Profile) (how : How) (t : Tables) (gs : List Placed) (rows :
     pub next : cutBy how rest ≡ Whole segment more
     pub first : FirstBroken (rulesNext segment) number element
 
-  -- 17: "rules hold but no room for this segment's records"
+  -- 17: every rule holds, and a table has no room for a record
   pub record Full (number element : ℕ) : Type 0 where
     pub segment : Bytes
     pub more : Bytes
@@ -75,7 +75,7 @@ module _ (profile : Profile) (how : How) (t : Tables) (gs : List Placed) (rows :
     pub number-is : number ≡ 17
     pub element-is : element ≡ 0
 
-  -- 0: the next segment is an SE, every rule holds, and there is room; "The transaction ends with the terminator of the first accepted SE"
+  -- 0: the next segment is an SE, every rule holds, and there is room; its terminator ends the transaction
   pub record Closes (kept : List Placed) (numbers : List ℕ) (segments levels bytes : ℕ) : Type 0 where
     pub segment : Bytes
     pub more : Bytes
@@ -107,19 +107,19 @@ pub record Run (profile : Profile) (how : How) (t : Tables) (s : Bytes) (r : Ans
   pub passed : Passed profile how t s gs rows end rest
   pub ends : Ends profile how t gs rows end rest r kept numbers
 
--- the answer and the tables: "A refusal at segment k leaves the records of segments 1 to k-1, exactly as an accepted reading would"
+-- the answer and the tables: the records of the segments that were kept, whatever the answer is
 pub record Read (profile : Profile) (how : How) (s : Bytes) (before : Tables) (r : Answer) (after : Tables) : Type 0 where
   pub kept : List Placed
   pub numbers : List ℕ
   pub run : Run profile how before s r kept numbers
   pub tables : after ≡ recorded profile how before kept numbers
 
--- "Answers 1 and 2 have segment and byte 0, and write nothing."
+-- 1 and 2 name no segment and leave the tables as they were
 pub record Untouched (number : ℕ) (before : Tables) (r : Answer) (after : Tables) : Type 0 where
   pub answer : r ≡ Refused number 0 0 0
   pub unchanged : after ≡ before
 
--- "Answers 1 and 2 come before anything": 1 "separators unfit", 2 "input too long"
+-- before anything else: 1 where the separators are unfit, 2 where the input is too long
 abbrev pub ReadsWithin : (short : Bool) → Profile → How → Bytes → Tables → Answer → Tables → Type 0
 ReadsWithin true profile how s before r after = Read profile how s before r after
 ReadsWithin false profile how s before r after = Untouched 2 before r after

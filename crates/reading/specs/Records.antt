@@ -15,14 +15,14 @@ pub record Tables : Type 0 where
   pub segments : List ℕ
   pub levels : List ℕ
 
--- "three numbers a segment", "four numbers a level"
+-- how many numbers a record has
 abbrev pub segmentWidth : ℕ
 segmentWidth = 3
 
 abbrev pub levelWidth : ℕ
 levelWidth = 4
 
--- "start, length without terminator, row", of a segment after those before it
+-- where a segment starts, how long it is up to its terminator, and its row; after the segments before it
 abbrev pub segmentRecord : List View → View → Placed → ℕ → List ℕ
 segmentRecord h v g row = g .at ∷ length (g .segment) ∷ row ∷ []
 
@@ -37,7 +37,7 @@ segmentRecords how h (g ∷ gs) (r ∷ rows) =
 abbrev pub levelRecords : Profile → How → List Placed → List ℕ
 levelRecords profile how gs = recordsOf (levelsIn profile (onto [] (seen how gs)))
 
--- "Room is the lent length divided by 3 or by 4, rounded down."
+-- how many whole records a table holds
 abbrev pub segmentRoom : Tables → ℕ
 segmentRoom t = length (t .segments) / segmentWidth
 
@@ -49,7 +49,7 @@ pub record Room (profile : Profile) (t : Tables) (h : List View) : Type 0 where
   pub segments-fit : length h ≤ segmentRoom t
   pub levels-fit : length (levelsIn profile h) ≤ levelRoom t
 
--- records at the front of a table; "every other number in both tables keeps what it held"
+-- records at the front of a table; what lies behind them is as it was
 abbrev pub over : List ℕ → List ℕ → List ℕ
 over table records = records ++ drop (length records) table
 

@@ -19,7 +19,7 @@ use Rattle.levels.specs.Rules.{levelChecks, filled}
 use Rattle.reading.specs.Profile.{Profile}
 use Rattle.reading.specs.Segments.{tagIn, isHL, isSE, levelsIn, opening}
 
--- 4: "tag not among the 34"
+-- 4: the tag is none of the 34
 unfoldable pub tagChecks : View → List Check
 tagChecks v = check 4 0 (ltb (tagIn v) 34) ∷ []
 
@@ -27,8 +27,7 @@ tagChecks v = check 4 0 (ltb (tagIn v) 34) ∷ []
 unfoldable pub hlChecks : Profile → List View → View → List Check
 hlChecks profile h v = cond (isHL v) (levelChecks (profile .levels) (levelsIn profile h) (claimOf v)) []
 
--- 16: "SE01 wrong: 1; SE02 wrong: 2"; 15: "at SE, a mark 1 unfilled: 0". "SE01 is the number of segments, ST and SE counted, as a number
--- (leading zeros allowed). SE02 equals ST02."
+-- 16 and 15 of an SE: SE01, taken as a number, counts all segments with the SE; SE02 is the ST's ST02; every level marked 1 has a child
 abbrev pub closingChecks : Profile → List View → View → List Check
 closingChecks profile h v =
     check 16 1 (eqb (valueOf (textOf (elementOf v 1))) (suc (length h)))
@@ -49,7 +48,7 @@ abbrev pub asRules : List Check → List Rule
 asRules [] = []
 asRules (c ∷ cs) = record { number = c .number; element = c .element; Holds = T (c .holds) } ∷ asRules cs
 
--- 7: "no row fits here": some row with this tag goes on from the rows so far
+-- 7 asks that some row with this tag goes on from the rows so far
 abbrev pub rowRules : List ℕ → View → List Rule
 rowRules w v = record { number = 7; element = 0; Holds = (r : ℕ) × Fits w (tagIn v) r } ∷ []
 

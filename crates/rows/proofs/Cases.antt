@@ -24,7 +24,7 @@ whole = runs-word _ (test-runs (1 ∷ 2 ∷ 18 ∷ 18 ∷ 46 ∷ 64 ∷ 79 ∷ [
 abbrev pwk : List ℕ
 pwk = 1 ∷ 2 ∷ 9 ∷ []
 
--- "Giving a REF after PWK to the heading's row 3. Row 3 has been passed; it is row 10."
+-- a REF behind a PWK of the heading has row 10, not row 3, which was passed
 pub ref-after-pwk : Fits pwk (tag "REF") 10
 unfolding followers state tagOf maxOf rowAt after edges842 list842 tagNumber
 ref-after-pwk = record { viable = runs-viable (pwk ++ (10 ∷ [])) (test-runs (pwk ++ (10 ∷ [])) 0 false tt); tagged = refl }
@@ -37,7 +37,7 @@ ref-not-row-3 f = let e = fits-once pwk (tag "REF") 3 10 f ref-after-pwk in omeg
 abbrev two-n2 : List ℕ
 two-n2 = 1 ∷ 2 ∷ 12 ∷ 13 ∷ 13 ∷ []
 
--- "Accepting a third N2 because the table lists N2 after N2."
+-- a third N2 fits nowhere, although N2 may follow N2
 pub no-third-n2 : (x : ℕ) → Fits two-n2 (tag "N2") x → ⊥
 unfolding nextOf maxOf rowAt after edges842 list842 tagNumber
 no-third-n2 x f = let n = fits-next two-n2 (tag "N2") x f in n .1 tt refl (n .0)

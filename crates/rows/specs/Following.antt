@@ -9,7 +9,7 @@ use lib.Dec.{eqb}
 use Rattle.rows.specs.Rows.{Viable, list842}
 use Rattle.rows.specs.RowList.{tagOf, maxOf}
 
--- "the one row that may follow": somewhere in some word row x stands right after row r
+-- row x may follow row r: somewhere in some word it stands right behind it
 abbrev pub MayFollow : ℕ → ℕ → Type 0
 MayFollow r x = (w : List ℕ) × Viable list842 (w ++ (r ∷ x ∷ []))
 
@@ -34,7 +34,7 @@ Chain [] = Unit {0}
 Chain (x ∷ []) = Unit {0}
 Chain (x ∷ y ∷ w) = MayFollow x y × Chain (y ∷ w)
 
--- "the maximum of 2 is counted apart": no row of maximum 2 stands three times in a row, which is a third time in one pass
+-- no row of maximum 2 stands three times in a row, which is a third time in one pass
 abbrev pub NoThird : List ℕ → Type 0
 NoThird w = (a b : List ℕ) (r : ℕ) → maxOf r ≡ 2 → w ≡ a ++ (r ∷ r ∷ r ∷ b) → ⊥
 

@@ -80,6 +80,6 @@ abbrev pub gridOf : ℕ → ℕ → (ℕ → ℕ → ℕ) → List ℕ
 gridOf zero m f = []
 gridOf (suc n) m f = lineOf m (f 0) ++ gridOf n m (λ k. f (suc k))
 
--- "a constant next-row table with 79 by 34 entries"
+-- the next-row table, 79 rows by 34 tags
 unfoldable pub nextTable : List ℕ
 nextTable = gridOf 79 34 (λ r t. nextOf (suc r) t)

@@ -7,7 +7,7 @@ use lib.ListN.{getD}
 use Rattle.rows.specs.Rows.{Items, end, row, loop, list842}
 use Rattle.rows.specs.declared.list.Row.{Row}
 
--- "the 79 rows with tag, maximum, mandatory mark and enclosing loop", in this order. A loop is named by the row that opens it, 0 for none;
+-- The 79 rows: tag, maximum, whether mandatory, enclosing loop. A loop is named by the row that opens it, 0 for none;
 -- that row has the loop's mark, stands once in each pass, and is enclosed by the loop around its own
 abbrev pub rowsWithin : ℕ → Items → List Row
 rowsWithin around end = []

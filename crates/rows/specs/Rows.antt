@@ -15,12 +15,12 @@ pub data Items : Type 0 where
   row : (number tag maximum : ℕ) (mandatory : Bool) (rest : Items) → Items
   loop : (number tag : ℕ) (mandatory : Bool) (body rest : Items) → Items
 
--- "`/1`, `/2` give a maximum, `!` marks a mandatory row": this many occurrences of a row are permitted
+-- this many occurrences of a row are permitted, by its maximum and by whether it is mandatory
 pub record Allowed (maximum : ℕ) (mandatory : Bool) (count : ℕ) : Type 0 where
   pub within : (maximum ≡ 0 → ⊥) → count ≤ maximum
   pub present : T mandatory → 1 ≤ count
 
--- "Rows stand in this order within one pass of a loop": a row its permitted number of times in a row; a loop in any number of passes, at
+-- The rows of a pass stand in order: a row its permitted number of times in a row; a loop in any number of passes, at
 -- least one if mandatory, each its opening row once and then a word of the body
 pub data Word : Items → List ℕ → Type 0 where
   done : Word end []
@@ -38,7 +38,7 @@ Viable items w = (more : List ℕ) × Word items (w ++ more)
 abbrev pub _>>_ : (Items → Items) → Items → Items
 _>>_ item rest = item rest
 
--- "repeat freely"
+-- any number of times
 abbrev pub free : ℕ
 free = 0
 
@@ -50,15 +50,15 @@ abbrev pub /1 : ℕ
 abbrev pub /2 : ℕ
 /2 = 2
 
--- "`!` marks a mandatory row"
+-- a mandatory row
 abbrev pub must : Bool
 must = true
 
--- "Unmarked rows are optional"
+-- an optional row
 abbrev pub may : Bool
 may = false
 
--- the 79 rows, "Brackets are loops"
+-- the 79 rows, a loop in brackets
 unfoldable pub list842 : Items
 unfolding tagNumber
 list842 = do

@@ -6,7 +6,7 @@ use mathlib.Core.Bool.{cond}
 use mathlib.Core.List.{List, [], _∷_}
 use Rattle.text.specs.Bytes.{Bytes, bytes, same}
 
--- "There are 34 tags", here in the order of their first row
+-- the 34 tags, in the order of their first row
 abbrev pub tags : List Bytes
 tags =
     bytes "ST" ∷ bytes "BNR" ∷ bytes "REF" ∷ bytes "DTM" ∷ bytes "PID" ∷ bytes "MEA" ∷ bytes "PWK"

@@ -21,12 +21,12 @@ abbrev pub push : ℕ → Cut → Cut
 push b (Whole segment more) = Whole (b ∷ segment) more
 push b (Stop number element upto more) = Stop number element (b ∷ upto) more
 
--- "A segment runs to the next terminator." Answer 3: "no terminator from here on"
+-- a segment ends before the next terminator; 3 where there is none
 abbrev pub cutOf : Separators → Bytes → Cut
 cutOf q [] = Stop 3 0 [] []
 cutOf q (b ∷ s) = cond (eqb b (q .terminator)) (Whole [] s) (push b (cutOf q s))
 
--- how many bytes are skipped between a terminator and the next segment: "Line ends are not skipped."
+-- how many bytes are skipped between a terminator and the next segment: none, not even line ends
 abbrev pub skipOf : Separators → Bytes → ℕ
 skipOf q s = 0
 

@@ -14,18 +14,18 @@ use Rattle.text.specs.declared.lookup.Span.{Span}
 abbrev pub span : ℕ → ℕ → Span
 span start len = record { start = start; len = len }
 
--- piece number n, from 0: it starts behind the pieces before it, each with its separator; "a number past the last gives an empty part at the end"
+-- piece number n, from 0: it starts behind the pieces before it, each with its separator; behind the last piece there is an empty part, at the end
 unfoldable pub pieceSpan : ℕ → Bytes → ℕ → Span
 pieceSpan sep s n =
     cond (ltb n (length (pieces sep s)))
     (span (length (closed sep (take n (pieces sep s)))) (length (getD (pieces sep s) n [])))
     (span (length s) 0)
 
--- "Element lookup": the piece with that number, "0 being the tag"
+-- an element is the piece with that number; the tag is number 0
 abbrev pub elementSpan : ℕ → Bytes → ℕ → Span
 elementSpan sep segment n = pieceSpan sep segment n
 
--- "Component lookup": "numbered from 1; number 0 gives the empty part at the end"
+-- components count from 1; number 0 is the empty part at the end
 unfoldable pub componentSpan : ℕ → Bytes → ℕ → Span
 componentSpan sep element zero = span (length element) 0
 componentSpan sep element (suc n) = pieceSpan sep element n

@@ -15,17 +15,17 @@ isCapital b = between 65 90 b
 abbrev pub isSmall : ℕ → Bool
 isSmall b = between 97 122 b
 
--- "a byte 1 to 126, not a letter, digit, space, `.` or `-`"
+-- which bytes may serve: 1 to 126, and none that stands in plain values (letters, digits, space, `.`, `-`)
 unfoldable pub mayServe : ℕ → Bool
 mayServe b = between 1 126 b && not (isCapital b || isSmall b || isDigit b || among (bytes " .-") b)
 
--- "Each must be" such a byte, "and the three must differ."
+-- three such bytes, no two the same
 abbrev pub fitSeparators : Separators → Bool
 fitSeparators q =
     mayServe (q .element) && mayServe (q .component) && mayServe (q .terminator)
     && not (eqb (q .element) (q .component)) && not (eqb (q .element) (q .terminator)) && not (eqb (q .component) (q .terminator))
 
--- "The standard set `*`, `:`, `~`"
+-- the standard set
 abbrev pub standard : Separators
 standard = record { element = 42; component = 58; terminator = 126 }
 
@@ -36,6 +36,6 @@ isSeparator q b = eqb b (q .element) || eqb b (q .component) || eqb b (q .termin
 abbrev pub printable : ℕ → Bool
 printable b = between 32 126 b
 
--- "Data bytes are 32 to 126 other than separators."
+-- data: a printable byte that is no separator
 abbrev pub isData : Separators → ℕ → Bool
 isData q b = printable b && not (isSeparator q b)

@@ -1,5 +1,5 @@
 -- A segment as it is seen once the separators are gone: its pieces, each a list of components, each a list of bytes.
--- "Its first piece is the tag, the rest are elements 1, 2, .."
+-- The first piece is the tag; the others are its elements, from 1 on.
 -- Assumes nothing.
 use Prim.Native.Nat.{ℕ, _-_}
 use mathlib.Core.Bool.{Bool, true, false, not, _&&_}
@@ -39,7 +39,7 @@ wellFormed v = ltb 0 (length v) && every (λ (p : Piece). ltb 0 (length p)) v
 abbrev pub empty : Piece
 empty = [] ∷ []
 
--- "An empty element is absent."
+-- an element without bytes counts as absent
 abbrev pub present : Piece → Bool
 present [] = false
 present ([] ∷ []) = false
