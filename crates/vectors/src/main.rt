@@ -1,0 +1,199 @@
+// Runs the cases of each file that the arguments name, and prints what comes of each. A case is a header of sixteen bytes and its input:
+//   0        1 a reading, 3 an element lookup, 4 a component lookup
+//   1 to 3   element, component, terminator; of a lookup the separator alone
+//   7, 9     how many numbers the segment table and the level table have, two bytes each, the lower first
+//   11       the number that a lookup asks for, two bytes
+//   13       how long the input is, three bytes
+ghost use mathlib.Core.Path.{_≡_};
+ghost use Prim.Native.Nat.{_<_, _≤_};
+ghost use lib.ListN.{length};
+use reading::answer::Answer;
+use reading::how::How;
+use text::lookup;
+use text::lookup::Span;
+use text::separators::Separators;
+
+fn word(bytes: &[u8]) {
+    io::write_all(1, bytes);
+}
+
+fn number(n: u64) {
+    io::print_decimal(1, n);
+}
+
+// A number behind a space.
+fn next(n: u64) {
+    word(b" ");
+    number(n);
+}
+
+// A byte of a header; 0 past its end.
+fn byte_at(header: &[u8], at: usize) -> u8 {
+    if at < header.len() { header[at] } else { 0 }
+}
+
+// Two bytes of a header as a number.
+fn two_at(header: &[u8], at: usize) -> usize
+    requires { ⌜ at < 16 ⌝ }
+    ensures { λ r. ⌜ r < 65536 ⌝ }
+{
+    let low = byte_at(header, at) as usize;
+    let high = byte_at(header, at + 1) as usize;
+    low + 256 * high
+}
+
+// Three bytes.
+fn three_at(header: &[u8], at: usize) -> usize
+    requires { ⌜ at < 16 ⌝ }
+    ensures { λ r. ⌜ r < 16777216 ⌝ }
+{
+    let top = byte_at(header, at + 2) as usize;
+    two_at(header, at) + 65536 * top
+}
+
+// What a table holds before a case.
+fn lend(table: &mut [u64; 120], first: u64)
+    requires { ⌜ length (now table) ≡ 120 ⌝ }
+    requires { ⌜ first < 1000000 ⌝ }
+    ensures { λ _. ⌜ length (now (table .exit)) ≡ 120 ⌝ }
+{
+    let mut i: usize = 0;
+    while i < 120 {
+        table[i] = first + i as u64;
+        i += 1;
+    }
+}
+
+// The numbers of a table, on one line.
+fn list(name: &[u8], table: &[u64; 120], count: usize) {
+    word(name);
+    let mut i: usize = 0;
+    while i < count {
+        if i < 120 {
+            next(table[i]);
+        }
+        i += 1;
+    }
+    word(b"\n");
+}
+
+// The four numbers of an answer.
+fn four(a: usize, b: usize, c: usize, d: usize) {
+    number(a as u64);
+    next(b as u64);
+    next(c as u64);
+    next(d as u64);
+    word(b"\n");
+}
+
+fn print_answer(answer: Answer) {
+    match answer {
+        Answer::Accepted {
+            segments,
+            levels,
+            bytes,
+        } => four(0, segments, levels, bytes),
+        Answer::Refused {
+            number: answer,
+            segment,
+            byte,
+            element,
+        } => four(answer, segment, byte, element),
+    }
+}
+
+fn least(a: usize, b: usize) -> usize
+    ensures { λ r. ⌜ r ≤ b ⌝ }
+{
+    if a < b { a } else { b }
+}
+
+// A reading, with tables of the sizes that the header has.
+fn read_case(header: &[u8], input: &[u8]) {
+    let element = byte_at(header, 1);
+    let component = byte_at(header, 2);
+    let terminator = byte_at(header, 3);
+    let how = How {
+        separators: Separators {
+            element,
+            component,
+            terminator,
+        },
+    };
+    let segment_numbers = least(two_at(header, 7), 120);
+    let level_numbers = least(two_at(header, 9), 120);
+    let mut segments = [0u64; 120];
+    let mut levels = [0u64; 120];
+    lend(&mut segments, 700000);
+    lend(&mut levels, 800000);
+    print_answer(reading::reading::read(
+        input,
+        how,
+        &mut segments[..segment_numbers],
+        &mut levels[..level_numbers],
+    ));
+    list(b"segments", &segments, segment_numbers);
+    list(b"levels", &levels, level_numbers);
+}
+
+fn print_span(span: Span) {
+    word(b"span ");
+    number(span.start as u64);
+    next(span.len as u64);
+    word(b"\n");
+}
+
+// One case.
+fn run_case(header: &[u8], input: &[u8]) {
+    let separator = byte_at(header, 1);
+    let asked = two_at(header, 11);
+    match byte_at(header, 0) {
+        1 => read_case(header, input),
+        3 => print_span(lookup::element_span(input, separator, asked)),
+        4 => print_span(lookup::component_span(input, separator, asked)),
+        _ => word(b"no such kind\n"),
+    }
+}
+
+// The cases of a file, one after the other.
+fn run_cases(file: &[u8]) {
+    let mut at: usize = 0;
+    while 16 <= file.len() - at {
+        let len = three_at(&file[at..at + 16], 13);
+        if file.len() - at - 16 < len {
+            word(b"cut off\n");
+            return;
+        }
+        run_case(&file[at..at + 16], &file[at + 16..at + 16 + len]);
+        at += 16 + len;
+    }
+}
+
+// One file: false where there is no such argument.
+fn run_file(k: usize) -> bool {
+    let mut path = io::buffer();
+    let length = os::arg(k, &mut path);
+    if os::errno() != 0 {
+        return false;
+    }
+    let fd = os::open_read(&path[..length]);
+    if fd < 0 {
+        os::fail(&path[..length]);
+        return false;
+    }
+    let mut file = io::large_buffer();
+    let n = io::read_full(fd, &mut file);
+    libc::close(fd);
+    word(b"file ");
+    word(&path[..length]);
+    word(b"\n");
+    run_cases(&file[..n]);
+    true
+}
+
+fn main() {
+    let mut k: usize = 1;
+    while k < 1000 && run_file(k) {
+        k += 1;
+    }
+}

@@ -1,0 +1,26 @@
+//! A reader of X12 842 nonconformance reports, written from the rules of document 01 alone, to
+//! compare another reader with: the same answers, the same tables, the same output.
+//!
+//! `read` is made for speed: one pass, no allocation. `plain::read_plain` says the same in the
+//! plainest way, from the words of the paper, and the tests hold the two together.
+
+mod answer;
+mod cut;
+mod elements;
+pub mod generator;
+mod levels;
+mod lookup;
+pub mod plain;
+mod read;
+mod rewrite;
+pub mod rows;
+mod separators;
+mod types;
+pub mod vectors;
+
+pub use answer::Answer;
+pub use levels::CODES;
+pub use lookup::{component_span, element_span};
+pub use read::{read, LONGEST};
+pub use rewrite::rewrite;
+pub use separators::Separators;

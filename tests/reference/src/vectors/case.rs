@@ -1,0 +1,162 @@
+//! One case: how it is written into a file, and what is printed for it.
+
+use crate::{component_span, element_span, read, rewrite, Answer, Separators};
+
+/// One case.
+#[derive(Clone, Debug)]
+pub enum Case {
+    /// Kind 1.
+    Read {
+        /// The lent bytes.
+        input: Vec<u8>,
+        /// The separators.
+        separators: Separators,
+        /// How many numbers each table has, segments first.
+        rooms: (usize, usize),
+    },
+    /// Kind 2.
+    Rewrite {
+        /// The lent bytes.
+        input: Vec<u8>,
+        /// The separators to read with.
+        separators: Separators,
+        /// The separators to write with.
+        new: Separators,
+        /// How many numbers each table has, segments first.
+        rooms: (usize, usize),
+        /// How many bytes the output has.
+        output: usize,
+    },
+    /// Kind 3.
+    Element {
+        /// The segment's bytes.
+        segment: Vec<u8>,
+        /// The element separator.
+        separator: u8,
+        /// The number asked for.
+        number: usize,
+    },
+    /// Kind 4.
+    Component {
+        /// The element's bytes.
+        element: Vec<u8>,
+        /// The component separator.
+        separator: u8,
+        /// The number asked for.
+        number: usize,
+    },
+}
+
+/// A case, with the answer's four numbers where they are known without any reader.
+#[derive(Clone, Debug)]
+pub struct Told {
+    /// The case.
+    pub case: Case,
+    /// The four numbers, if told.
+    pub answer: Option<[u64; 4]>,
+}
+
+impl From<Case> for Told {
+    fn from(case: Case) -> Told {
+        Told { case, answer: None }
+    }
+}
+
+/// What a table holds before a case.
+pub fn lent_numbers(first: u64, length: usize) -> Vec<u64> {
+    (0..length as u64).map(|at| first + at).collect()
+}
+
+/// What an output holds before a case.
+pub fn lent_bytes(length: usize) -> Vec<u8> {
+    (0..length).map(|at| ((at * 7 + 3) % 256) as u8).collect()
+}
+
+/// The low bytes of a number, the lowest first.
+fn little(number: usize, bytes: usize) -> Vec<u8> {
+    assert!(number < 1 << (8 * bytes), "{number} does not fit in {bytes} bytes");
+    number.to_le_bytes()[..bytes].to_vec()
+}
+
+impl Case {
+    /// The header of sixteen bytes and the input.
+    pub fn encode(&self, file: &mut Vec<u8>) {
+        let none = Separators::new(0, 0, 0);
+        let (kind, old, new, rooms, asked, input) = match self {
+            Case::Read { input, separators, rooms } => (1, *separators, none, *rooms, 0, input),
+            Case::Rewrite { input, separators, new, rooms, output } => {
+                (2, *separators, *new, *rooms, *output, input)
+            }
+            Case::Element { segment, separator, number } => {
+                (3, Separators::new(*separator, 0, 0), none, (0, 0), *number, segment)
+            }
+            Case::Component { element, separator, number } => {
+                (4, Separators::new(*separator, 0, 0), none, (0, 0), *number, element)
+            }
+        };
+        file.extend([kind, old.element, old.component, old.terminator]);
+        file.extend([new.element, new.component, new.terminator]);
+        file.extend(little(rooms.0, 2));
+        file.extend(little(rooms.1, 2));
+        file.extend(little(asked, 2));
+        file.extend(little(input.len(), 3));
+        file.extend(input);
+    }
+
+    /// Runs the case and prints what comes of it.
+    pub fn print(&self, out: &mut String) {
+        match self {
+            Case::Read { input, separators, rooms } => {
+                let mut tables = Tables::lent(*rooms);
+                let answer = read(input, *separators, &mut tables.segments, &mut tables.levels);
+                print_answer(out, answer, &tables);
+            }
+            Case::Rewrite { input, separators, new, rooms, output } => {
+                let mut tables = Tables::lent(*rooms);
+                let mut output = lent_bytes(*output);
+                let (segments, levels) = (&mut tables.segments, &mut tables.levels);
+                let answer = rewrite(input, *separators, *new, segments, levels, &mut output);
+                print_answer(out, answer, &tables);
+                print_line(out, "output", &output);
+            }
+            Case::Element { segment, separator, number } => {
+                print_span(out, element_span(segment, *separator, *number));
+            }
+            Case::Component { element, separator, number } => {
+                print_span(out, component_span(element, *separator, *number));
+            }
+        }
+    }
+}
+
+/// The two lent tables.
+struct Tables {
+    segments: Vec<u64>,
+    levels: Vec<u64>,
+}
+
+impl Tables {
+    fn lent(rooms: (usize, usize)) -> Tables {
+        Tables { segments: lent_numbers(700_000, rooms.0), levels: lent_numbers(800_000, rooms.1) }
+    }
+}
+
+fn print_answer(out: &mut String, answer: Answer, tables: &Tables) {
+    let [number, first, second, third] = answer.numbers();
+    out.push_str(&format!("{number} {first} {second} {third}\n"));
+    print_line(out, "segments", &tables.segments);
+    print_line(out, "levels", &tables.levels);
+}
+
+fn print_line<T: ToString>(out: &mut String, name: &str, numbers: &[T]) {
+    out.push_str(name);
+    for number in numbers {
+        out.push(' ');
+        out.push_str(&number.to_string());
+    }
+    out.push('\n');
+}
+
+fn print_span(out: &mut String, (start, length): (usize, usize)) {
+    out.push_str(&format!("span {start} {length}\n"));
+}

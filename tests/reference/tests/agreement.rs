@@ -1,0 +1,215 @@
+//! The fast reader against the plain one, on generated reports.
+
+use reference::generator::{report, Case};
+use reference::plain::read_plain;
+use reference::{read, rewrite, Answer, LONGEST};
+use std::collections::{BTreeMap, BTreeSet};
+
+fn tables(case: &Case) -> (Vec<u64>, Vec<u64>) {
+    let segments = (0..case.segment_numbers as u64).map(|at| 700_000 + at).collect();
+    let levels = (0..case.level_numbers as u64).map(|at| 800_000 + at).collect();
+    (segments, levels)
+}
+
+/// Reads both ways; both tables must be the same to the last number.
+fn both(case: &Case) -> (Answer, Vec<u64>, Vec<u64>) {
+    let (mut segments, mut levels) = tables(case);
+    let (mut plain_segments, mut plain_levels) = tables(case);
+    let answer = read(&case.input, case.separators, &mut segments, &mut levels);
+    let plain = read_plain(&case.input, case.separators, &mut plain_segments, &mut plain_levels);
+    assert_eq!(answer, plain, "seed {}", case.seed);
+    assert_eq!(segments, plain_segments, "seed {}", case.seed);
+    assert_eq!(levels, plain_levels, "seed {}", case.seed);
+    (answer, segments, levels)
+}
+
+const CASES: u64 = 60_000;
+
+#[test]
+fn both_readers_agree_and_every_answer_and_row_comes() {
+    let mut answers: BTreeMap<(u64, u64), usize> = BTreeMap::new();
+    let mut rows = BTreeSet::new();
+    println!("seeds 0 to {}", CASES - 1);
+    for seed in 0..CASES {
+        let case = report(seed);
+        let (answer, segments, _) = both(&case);
+        assert!(!case.valid || matches!(answer, Answer::Accepted { .. }), "seed {seed}: {answer:?}");
+        let [number, ..] = answer.numbers();
+        let element = if number == 0 { 0 } else { answer.numbers()[3] };
+        *answers.entry((number, element)).or_default() += 1;
+        if let Answer::Accepted { segments: count, .. } = answer {
+            rows.extend(segments.chunks(3).take(count).map(|record| record[2]));
+        }
+    }
+    println!("{answers:?}");
+    assert_eq!(rows, (1..=79).collect::<BTreeSet<u64>>());
+    for number in 0..=17 {
+        assert!(answers.keys().any(|key| key.0 == number), "answer {number} never came");
+    }
+    for key in [(14, 2), (14, 3), (15, 0), (15, 2), (15, 4), (16, 1), (16, 2), (9, 5), (8, 5), (10, 5)] {
+        assert!(answers.contains_key(&key), "answer {key:?} never came");
+    }
+}
+
+#[test]
+#[ignore = "a longer run, asked for by name"]
+fn both_readers_agree_on_many_more() {
+    for seed in 1_000_000..1_500_000 {
+        both(&report(seed));
+    }
+}
+
+#[test]
+fn the_same_seed_gives_the_same_case() {
+    for seed in 0..200 {
+        assert_eq!(report(seed), report(seed));
+        assert_ne!(report(seed).input, report(seed + 1).input);
+    }
+}
+
+#[test]
+fn both_readers_agree_with_every_room() {
+    for seed in 0..400 {
+        let mut case = report(seed);
+        for segment_numbers in 0..20 {
+            for level_numbers in 0..10 {
+                (case.segment_numbers, case.level_numbers) = (segment_numbers, level_numbers);
+                both(&case);
+            }
+        }
+    }
+}
+
+#[test]
+fn both_readers_agree_on_every_cut_and_every_changed_byte() {
+    for seed in (0..2000).filter(|seed| report(*seed).valid).take(12) {
+        let whole = report(seed);
+        for at in 0..whole.input.len().min(300) {
+            let mut case = whole.clone();
+            case.input.truncate(at);
+            both(&case);
+            for byte in [0, b'0', b'1', b'A', b' ', b'.', b'-', b'X', 127, 128, 255] {
+                let mut case = whole.clone();
+                case.input[at] = byte;
+                both(&case);
+            }
+            let separators = whole.separators;
+            for byte in [separators.element, separators.component, separators.terminator] {
+                let mut case = whole.clone();
+                case.input[at] = byte;
+                both(&case);
+            }
+        }
+    }
+}
+
+/// The elements of the segments: pieces of pieces of pieces.
+fn elements(bytes: &[u8], set: reference::Separators) -> Vec<Vec<Vec<Vec<u8>>>> {
+    bytes[..bytes.len() - 1]
+        .split(|byte| *byte == set.terminator)
+        .map(|segment| {
+            segment
+                .split(|byte| *byte == set.element)
+                .map(|element| element.split(|byte| *byte == set.component).map(<[u8]>::to_vec).collect())
+                .collect()
+        })
+        .collect()
+}
+
+#[test]
+fn rewriting_keeps_its_laws() {
+    let mut came = BTreeMap::new();
+    for seed in 0..20_000 {
+        let case = report(seed);
+        let (reading, segments, levels) = both(&case);
+        let (mut own_segments, mut own_levels) = tables(&case);
+        let before: Vec<u8> = (0..case.output_length).map(|at| (at * 7 + 3) as u8).collect();
+        let mut output = before.clone();
+        let answer =
+            rewrite(&case.input, case.separators, case.new, &mut own_segments, &mut own_levels, &mut output);
+        let [number, _, _, element] = answer.numbers();
+        *came.entry((number, if number == 0 { 0 } else { element.min(3) })).or_insert(0) += 1;
+        if number == 1 {
+            assert_eq!((own_segments, own_levels), tables(&case));
+            assert_eq!(element, u64::from(case.separators.fit()));
+            assert!(!case.separators.fit() || !case.new.fit());
+            assert_eq!(output, before);
+            continue;
+        }
+        assert_eq!((own_segments, own_levels), (segments, levels), "seed {seed}");
+        let Answer::Accepted { bytes, .. } = reading else {
+            assert_eq!(answer, reading);
+            assert_eq!(output, before);
+            continue;
+        };
+        let used = &case.input[..bytes];
+        let collides = used.iter().any(|byte| case.new.holds(*byte) && !case.separators.holds(*byte));
+        match number {
+            18 => assert!(collides),
+            19 => assert!(!collides && case.output_length < bytes && answer.numbers() == [19, 0, 0, 0]),
+            _ => assert!(!collides && case.output_length >= bytes && answer == reading),
+        }
+        if number != 0 {
+            assert_eq!(output, before);
+            continue;
+        }
+        assert_eq!(output[bytes..], before[bytes..]);
+        assert_eq!(elements(used, case.separators), elements(&output[..bytes], case.new));
+        if case.new == case.separators {
+            assert_eq!(output[..bytes], *used);
+        }
+        let rewritten = Case { input: output[..bytes].to_vec(), separators: case.new, ..case.clone() };
+        let (again, segments_again, levels_again) = both(&rewritten);
+        let (segments, levels) = (both(&case).1, both(&case).2);
+        assert_eq!((again, segments_again, levels_again), (reading, segments, levels), "seed {seed}");
+    }
+    println!("{came:?}");
+    for key in [(0, 0), (1, 0), (1, 1), (18, 1), (18, 2), (18, 3), (19, 0)] {
+        assert!(came.contains_key(&key), "{key:?} never came");
+    }
+    // A tag has only letters and digits, which no separator is.
+    assert!(!came.contains_key(&(18, 0)));
+}
+
+#[test]
+fn a_refusal_stands_whatever_follows_and_with_more_room() {
+    for seed in 0..4000 {
+        let case = report(seed);
+        let (answer, ..) = both(&case);
+        let [number, ..] = answer.numbers();
+        let fault = (4..=16).contains(&number) || number == 0;
+        if !fault || case.input.len() > 10_000 {
+            continue;
+        }
+        let end = match answer {
+            Answer::Accepted { bytes, .. } => bytes,
+            Answer::Refused { byte, .. } => {
+                let rest = &case.input[byte..];
+                byte + rest.iter().position(|byte| *byte == case.separators.terminator).unwrap() + 1
+            }
+        };
+        for tail in [&b""[..], b"~", b"SE*4*0001~", b"\0\xFF garbage"] {
+            let mut other = case.clone();
+            other.input.truncate(end);
+            other.input.extend_from_slice(tail);
+            other.segment_numbers += 7;
+            other.level_numbers += 9;
+            assert_eq!(both(&other).0, answer, "seed {seed}");
+        }
+    }
+}
+
+#[test]
+fn the_limit_is_the_whole_lent_input() {
+    let valid = (0..).map(report).find(|case| case.valid).unwrap();
+    for (length, accepted) in [(LONGEST, true), (LONGEST + 1, false)] {
+        let mut case = valid.clone();
+        case.input.resize(length, b'X');
+        let (answer, segments, levels) = both(&case);
+        assert_eq!(matches!(answer, Answer::Accepted { .. }), accepted);
+        if !accepted {
+            assert_eq!(answer.numbers(), [2, 0, 0, 0]);
+            assert_eq!((segments, levels), tables(&case));
+        }
+    }
+}

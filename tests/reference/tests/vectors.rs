@@ -1,0 +1,209 @@
+//! The vectors keep their limits, say what the paper says, and read back to the same text.
+
+use reference::plain::read_plain;
+use reference::vectors::{generated, groups, Case, FILE_BYTES, OUTPUT_BYTES, TABLE_NUMBERS};
+use reference::{component_span, element_span, rewrite, Answer, Separators};
+use std::collections::BTreeSet;
+
+#[test]
+fn told_answers_are_given() {
+    let mut told_count = 0;
+    for group in groups() {
+        for (at, told) in group.cases.iter().enumerate() {
+            let mut printed = String::new();
+            told.case.print(&mut printed);
+            if let Some(answer) = told.answer {
+                told_count += 1;
+                let line = answer.map(|number| number.to_string()).join(" ");
+                let case = format!("{} case {at}: {:?}", group.name, told.case);
+                assert_eq!(printed.lines().next(), Some(line.as_str()), "{case}");
+            }
+        }
+    }
+    println!("{told_count} told answers");
+}
+
+#[test]
+fn names_and_limits() {
+    let names: Vec<String> = groups().into_iter().map(|group| group.name).collect();
+    assert_eq!(
+        names,
+        [
+            "answers", "astray", "bounds", "lookups", "pairs", "rewriting", "rooms", "rowsa", "rowsb",
+            "rowsc", "rowsd", "separators", "truncated", "worked"
+        ]
+    );
+    let mut names: Vec<String> = Vec::new();
+    for group in groups().into_iter().chain(generated(0, 2000)) {
+        let size = group.file().len();
+        println!("{}: {} cases, {size} bytes", group.name, group.cases.len());
+        assert!(size < FILE_BYTES, "{} has {size} bytes", group.name);
+        assert!(group.name.bytes().all(|byte| byte.is_ascii_lowercase()));
+        let fits = |rooms: (usize, usize)| rooms.0 <= TABLE_NUMBERS && rooms.1 <= TABLE_NUMBERS;
+        for told in &group.cases {
+            match told.case {
+                Case::Read { rooms, .. } => assert!(fits(rooms)),
+                Case::Rewrite { rooms, output, .. } => assert!(fits(rooms) && output <= OUTPUT_BYTES),
+                _ => {}
+            }
+        }
+        if group.name.starts_with("generated") {
+            assert!(names.iter().all(|name| *name < group.name));
+            names.push(group.name);
+        }
+    }
+}
+
+/// Takes a number of so many bytes, the lowest first.
+fn number(bytes: &[u8]) -> usize {
+    bytes.iter().rev().fold(0, |number, byte| number << 8 | usize::from(*byte))
+}
+
+fn line(name: &str, numbers: impl Iterator<Item = u64>) -> String {
+    let numbers: String = numbers.map(|number| format!(" {number}")).collect();
+    format!("{name}{numbers}\n")
+}
+
+/// What a program prints for a file, with the plain reader.
+fn played(name: &str, mut file: &[u8]) -> String {
+    let mut out = format!("file {name}\n");
+    while !file.is_empty() {
+        let (header, rest) = file.split_at(16);
+        let (input, rest) = rest.split_at(number(&header[13..16]));
+        file = rest;
+        let old = Separators::new(header[1], header[2], header[3]);
+        let new = Separators::new(header[4], header[5], header[6]);
+        let asked = number(&header[11..13]);
+        if header[0] >= 3 {
+            assert_eq!(header[2..11], [0; 9]);
+            let (start, length) = match header[0] {
+                3 => element_span(input, header[1], asked),
+                _ => component_span(input, header[1], asked),
+            };
+            out += &format!("span {start} {length}\n");
+            continue;
+        }
+        let mut segments: Vec<u64> = (0..number(&header[7..9]) as u64).map(|at| 700_000 + at).collect();
+        let mut levels: Vec<u64> = (0..number(&header[9..11]) as u64).map(|at| 800_000 + at).collect();
+        let mut output: Vec<u8> = (0..asked).map(|at| ((at * 7 + 3) % 256) as u8).collect();
+        let answer = if header[0] == 1 {
+            assert_eq!(header[4..7], [0; 3]);
+            assert_eq!(asked, 0);
+            read_plain(input, old, &mut segments, &mut levels)
+        } else {
+            plain_rewrite(input, old, new, &mut segments, &mut levels, &mut output)
+        };
+        out += &answer.numbers().map(|number| number.to_string()).join(" ");
+        out += "\n";
+        out += &line("segments", segments.into_iter());
+        out += &line("levels", levels.into_iter());
+        if header[0] == 2 {
+            out += &line("output", output.into_iter().map(u64::from));
+        }
+    }
+    out
+}
+
+/// Rewriting said plainly once more.
+fn plain_rewrite(
+    input: &[u8],
+    old: Separators,
+    new: Separators,
+    segments: &mut [u64],
+    levels: &mut [u64],
+    output: &mut [u8],
+) -> Answer {
+    let refused = |number, segment, byte, element| Answer::Refused { number, segment, byte, element };
+    if !old.fit() {
+        return refused(1, 0, 0, 0);
+    }
+    if !new.fit() {
+        return refused(1, 0, 0, 1);
+    }
+    let answer = read_plain(input, old, segments, levels);
+    let Answer::Accepted { segments: count, bytes, .. } = answer else { return answer };
+    for segment in 0..count {
+        let (start, length) = (segments[3 * segment] as usize, segments[3 * segment + 1] as usize);
+        let pieces = input[start..start + length].split(|byte| *byte == old.element);
+        for (element, piece) in pieces.enumerate() {
+            let data = |byte: &&u8| **byte != old.component;
+            if piece
+                .iter()
+                .filter(data)
+                .any(|byte| [new.element, new.component, new.terminator].contains(byte))
+            {
+                return refused(18, segment + 1, start, element);
+            }
+        }
+    }
+    if output.len() < bytes {
+        return refused(19, 0, 0, 0);
+    }
+    for at in 0..bytes {
+        output[at] = input[at];
+        if input[at] == old.element {
+            output[at] = new.element;
+        }
+        if input[at] == old.component {
+            output[at] = new.component;
+        }
+        if input[at] == old.terminator {
+            output[at] = new.terminator;
+        }
+    }
+    answer
+}
+
+#[test]
+fn files_read_back_and_the_plain_reader_prints_the_same() {
+    for group in groups().into_iter().chain(generated(0, 2000)) {
+        let mut printed = String::new();
+        group.print(&mut printed);
+        assert_eq!(played(&group.name, &group.file()), printed);
+    }
+}
+
+#[test]
+fn the_rows_files_have_every_row_and_tag() {
+    let cases: usize =
+        groups().iter().filter(|group| group.name.starts_with("rows")).map(|group| group.cases.len()).sum();
+    // Every tag before ST and after each of the rows 1 to 78; after SE nothing is looked at.
+    assert_eq!(cases, 79 * 34);
+}
+
+#[test]
+fn plain_rewriting_agrees_on_generated_reports() {
+    for seed in 0..8000 {
+        let case = reference::generator::report(seed);
+        let lent = || {
+            let segments: Vec<u64> = (0..case.segment_numbers as u64).collect();
+            let levels: Vec<u64> = (0..case.level_numbers as u64).collect();
+            (segments, levels, vec![0xA5; case.output_length])
+        };
+        let (mut a, mut b) = (lent(), lent());
+        let fast = rewrite(&case.input, case.separators, case.new, &mut a.0, &mut a.1, &mut a.2);
+        let plain = plain_rewrite(&case.input, case.separators, case.new, &mut b.0, &mut b.1, &mut b.2);
+        assert_eq!((fast, a), (plain, b), "seed {seed}");
+    }
+}
+
+#[test]
+fn the_answers_file_has_every_answer_with_each_of_its_elements() {
+    let group = groups().into_iter().find(|group| group.name == "answers").unwrap();
+    let came: BTreeSet<(u64, u64)> = group
+        .cases
+        .iter()
+        .filter_map(|told| told.answer)
+        .map(|answer| (answer[0], if answer[0] == 0 { 0 } else { answer[3] }))
+        .collect();
+    let mut wanted = vec![(0, 0), (1, 0), (1, 1), (3, 0), (4, 0), (6, 0), (7, 0), (12, 1), (13, 2)];
+    wanted.extend([(14, 2), (14, 3), (15, 0), (15, 2), (15, 4), (16, 1), (16, 2), (17, 0)]);
+    wanted.extend((0..=5).map(|element| (5, element)));
+    wanted.extend((1..=5).map(|element| (6, element)));
+    wanted.extend([3, 5, 6, 7, 32].map(|element| (9, element)));
+    wanted.extend([1, 2, 3, 5].map(|element| (8, element)));
+    wanted.extend((1..=31).map(|element| (10, element)));
+    wanted
+        .extend([2, 3, 4, 5, 6, 8, 10, 12, 14, 16, 18, 20, 22, 24, 26, 28, 30].map(|element| (11, element)));
+    assert_eq!(came, wanted.into_iter().collect());
+}
