@@ -38,3 +38,4 @@ pub mod JudgeSteps
 pub mod Settles
 pub mod Goings
 pub mod Openings
+pub mod Listing

@@ -15,3 +15,8 @@ numbersOf (Refused number segment byte element) = number ∷ segment ∷ byte �
 pub record Fault (number : ℕ) : Type 0 where
   pub from : 4 ≤ number
   pub upto : number ≤ 16
+
+-- the list of a reading's answers: acceptance, and refusals 1 to 17
+abbrev pub Listed : Answer → Type 0
+Listed (Accepted segments levels bytes) = Unit {0}
+Listed (Refused number segment byte element) = (1 ≤ number) × (number ≤ 17)
