@@ -6,7 +6,7 @@ use mathlib.Core.Logic.{_⊎_}
 use mathlib.Core.Bool.{Bool, true, false, not}
 use mathlib.Core.List.{List, [], _∷_, _++_, map}
 use lib.Dec.{T, leb}
-use lib.ListN.{length}
+use lib.ListN.{length, getD}
 use Rattle.text.specs.Bytes.{Bytes}
 use Rattle.text.specs.Separators.{fitSeparators}
 use Rattle.text.specs.View.{View, viewOf}
@@ -16,6 +16,7 @@ use Rattle.rows.specs.RowList.{tagOf}
 use Rattle.rows.specs.Following.{Fits}
 use Rattle.reading.specs.Profile.{Profile, nonconformance}
 use Rattle.reading.specs.Segments.{tagIn, isSE, seen, onto, levelsIn}
+use Rattle.reading.specs.Answers.{numbersOf}
 use Rattle.reading.specs.Rules.{rules, Sound, FirstBroken, Kept, From}
 use Rattle.reading.specs.Records.{Tables, Room, recorded}
 use Rattle.reading.specs.declared.answer.Answer.{Answer}
@@ -91,12 +92,20 @@ module _ (profile : Profile) (how : How) (t : Tables) (gs : List Placed) (rows :
     pub levels-is : levels ≡ length (levelsIn profile (onto [] (seen how kept)))
     pub bytes-is : bytes ≡ end + length segment + 1
 
-  -- how the reading ends after the segments that were passed; kept are the segments that have records, and numbers their rows
+  -- how the reading ends after the segments that were passed; kept are the segments that have records, and numbers their rows. The four
+  -- numbers of an acceptance are 0, segments, levels and bytes
+  abbrev pub Accepts : List ℕ → List Placed → List ℕ → Type 0
+  Accepts four kept numbers = Closes kept numbers (getD four 1 0) (getD four 2 0) (getD four 3 0)
+
+  -- those of a refusal are its number, the segment, the byte where it starts, and the element
+  abbrev pub Refuses : List ℕ → List Placed → List ℕ → Type 0
+  Refuses four kept numbers =
+      (getD four 1 0 ≡ length gs + 1) × (getD four 2 0 ≡ end) × (kept ≡ gs) × (numbers ≡ rows)
+      × (Stopped (getD four 0 0) (getD four 3 0) ⊎ (Breaks (getD four 0 0) (getD four 3 0) ⊎ Full (getD four 0 0) (getD four 3 0)))
+
   abbrev pub Ends : Answer → List Placed → List ℕ → Type 0
-  Ends (Accepted segments levels bytes) kept numbers = Closes kept numbers segments levels bytes
-  Ends (Refused number segment byte element) kept numbers =
-      (segment ≡ length gs + 1) × (byte ≡ end) × (kept ≡ gs) × (numbers ≡ rows)
-      × (Stopped number element ⊎ (Breaks number element ⊎ Full number element))
+  Ends (Accepted segments levels bytes) kept numbers = Accepts (numbersOf (Accepted segments levels bytes)) kept numbers
+  Ends (Refused number segment byte element) kept numbers = Refuses (numbersOf (Refused number segment byte element)) kept numbers
 
 -- a reading of the bytes: what was passed, and how it ends
 pub record Run (profile : Profile) (how : How) (t : Tables) (s : Bytes) (r : Answer) (kept : List Placed) (numbers : List ℕ) : Type 0 where
