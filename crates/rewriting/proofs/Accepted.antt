@@ -1,0 +1,74 @@
+-- What the pass over the bytes and the writing make of an accepted reading is what the promise asks.
+-- Assumes nothing.
+use Prim.Native.Nat.{ℕ, _≤_}
+use mathlib.Core.Path.{_≡_, sym, ap, _∙_}
+use mathlib.Core.List.{List, _++_, map}
+use native.Mathlib.Omega.{arith}
+use lib.Dec.{T, leb}
+use lib.ListN.{length, take, length-append}
+use Rattle.text.specs.Bytes.{Bytes}
+use Rattle.text.specs.Separators.{fitSeparators}
+use Rattle.text.specs.Pieces.{closed}
+use Rattle.text.specs.Cut.{Placed}
+use Rattle.text.specs.declared.separators.Separators.{Separators}
+use Rattle.text.proofs.View.{fitted}
+use Rattle.reading.specs.Records.{Tables}
+use Rattle.reading.specs.Reads.{Reads}
+use Rattle.reading.specs.Conditions.{Numbering, usedBy}
+use Rattle.reading.specs.declared.answer.Answer.{Answer}
+use Rattle.reading.specs.declared.answer.Answer.the-variants.{Accepted, Refused}
+use Rattle.reading.specs.declared.how.How.{How}
+use Rattle.reading.proofs.Conditions.{accepted-meets}
+use Rattle.rewriting.specs.Rewrites.{Outcome, Accepting}
+use Rattle.rewriting.specs.Collisions.{outset, collisionFrom, newByte}
+use Rattle.rewriting.proofs.Spelling.{texts, spelt, used-length, used-taken}
+use Rattle.rewriting.proofs.Found.{collision-found}
+use Rattle.rewriting.proofs.Changing.{segments-change}
+
+-- the segments of an accepted reading take as many bytes as it says
+abbrev bytesOf : Answer → ℕ
+bytesOf (Accepted segments levels bytes) = bytes
+bytesOf (Refused number segment byte element) = 0
+
+module _ (how : How) (s : Bytes) (before : Tables) (a l b : ℕ) (tables : Tables) (reads : Reads how s before (Accepted a l b) tables) where
+  pub record Kept : Type 0 where
+    pub gs : List Placed
+    pub rows : List ℕ
+    pub numbering : Numbering how s gs rows
+    pub bytes-are : b ≡ usedBy gs
+
+  pub kept : Kept
+  kept =
+      let m = accepted-meets how s before a l b tables reads in
+      record { gs = m .0; rows = m .1; numbering = m .2; bytes-are = ap bytesOf (m .4 .answer) }
+
+  abbrev n : Numbering how s (kept .gs) (kept .rows)
+  n = kept .numbering
+
+  pub taken : take b s ≡ closed (how .separators .terminator) (texts (kept .gs))
+  taken = ap (λ (n : ℕ). take n s) (kept .bytes-are) ∙ (used-taken how s (kept .gs) (n .end) (n .rest) (n .leads))
+
+  pub inside : b ≤ length s
+  inside =
+      omega (
+        arith,
+        kept .bytes-are,
+        used-length how s (kept .gs) (n .end) (n .rest) (n .leads),
+        ap length (spelt how 0 s (kept .gs) (n .end) (n .rest) (n .leads) .whole)
+            ∙ length-append (closed (how .separators .terminator) (texts (kept .gs))) (n .rest),
+      )
+
+  pub accepting : (new : Separators) → T (fitSeparators (how .separators)) → (output : Bytes) (r : Answer) (after : Bytes)
+      → Outcome (collisionFrom (how .separators) new outset 0 (take b s)) (leb b (length output)) (Accepted a l b)
+      (map (newByte (how .separators) new) (take b s)) output r after
+      → Accepting how new s (Accepted a l b) b output r after
+  accepting new fit output r after x = record {
+    gs = kept .gs;
+    rows = kept .rows;
+    numbering = n;
+    outcome = rw (
+      taken,
+      collision-found how new 1 0 s (kept .gs) (n .end) (n .rest) (n .leads),
+      segments-change how new (fitted (how .separators) fit) (kept .gs) (spelt how 0 s (kept .gs) (n .end) (n .rest) (n .leads) .clean),
+    ) at x;
+  }

@@ -1,0 +1,25 @@
+-- `new_byte` meets its contract.
+-- Assumes nothing.
+use borrow.Author.Tests.{eq-eqb, ne-eqb}
+use Rattle.rewriting.specs.Collisions.{newByte}
+use Rattle.rewriting.proofs.writing.new_byte.Statement.{statement}
+use Rattle.rewriting.proofs.writing.new_byte.Tie as tie
+
+returns : tie.Need-returns
+unfolding newByte
+returns c = simp (eq-eqb _ _ (c .if1 .taken))
+
+returns-2 : tie.Need-returns-2
+unfolding newByte
+returns-2 c = simp (ne-eqb _ _ (c .before .before .if1 .left), eq-eqb _ _ (c .if2 .taken))
+
+returns-3 : tie.Need-returns-3
+unfolding newByte
+returns-3 c = simp (ne-eqb _ _ (c .before .before .before .before .if1 .left), ne-eqb _ _ (c .before .before .if2 .left), eq-eqb _ _ (c .if3 .taken))
+
+returns-4 : tie.Need-returns-4
+unfolding newByte
+returns-4 c = simp (ne-eqb _ _ (c .before .before .before .before .if1 .left), ne-eqb _ _ (c .before .before .if2 .left), ne-eqb _ _ (c .if3 .left))
+
+pub new-byte-spec : {M : Type 1} → statement M
+new-byte-spec = tie.close (tie.spec returns returns-2 returns-3 returns-4)

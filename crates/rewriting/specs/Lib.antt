@@ -1,0 +1,3 @@
+pub mod Rewrites
+pub mod Laws
+pub mod Collisions

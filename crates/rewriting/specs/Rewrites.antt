@@ -1,0 +1,91 @@
+-- The promise of rewriting: which answer, and what tables and output hold afterwards, for every input, both sets of separators, every table
+-- and every output. Document 01, the text behind the table of answers.
+-- Assumes nothing.
+use Prim.Native.Nat.{ℕ, suc}
+use mathlib.Core.Path.{_≡_}
+use mathlib.Core.Bool.{Bool, true, false, not}
+use mathlib.Core.List.{List, [], _∷_, _++_, map}
+use lib.Dec.{leb}
+use lib.ListN.{length, drop}
+use Rattle.text.specs.Bytes.{Bytes, every}
+use Rattle.text.specs.Separators.{fitSeparators, isSeparator}
+use Rattle.text.specs.Pieces.{closed}
+use Rattle.text.specs.View.{Piece, View, viewOf, written, elementOf}
+use Rattle.text.specs.Cut.{Placed}
+use Rattle.text.specs.declared.separators.Separators.{Separators}
+use Rattle.elements.specs.Checks.{Check, each, firstBroken}
+use Rattle.elements.specs.declared.verdict.Verdict.{Verdict}
+use Rattle.elements.specs.declared.verdict.Verdict.the-variants.{Holds, Broken}
+use Rattle.reading.specs.Segments.{seen}
+use Rattle.reading.specs.Records.{Tables}
+use Rattle.reading.specs.Reads.{Reads}
+use Rattle.reading.specs.Conditions.{Numbering}
+use Rattle.reading.specs.declared.answer.Answer.{Answer}
+use Rattle.reading.specs.declared.answer.Answer.the-variants.{Accepted, Refused}
+use Rattle.reading.specs.declared.how.How.{How}
+use Rattle.rewriting.specs.declared.collisions.Place.{Place}
+use Rattle.rewriting.specs.declared.collisions.Collision.{Collision}
+use Rattle.rewriting.specs.declared.collisions.Collision.the-variants.{At, Nowhere}
+
+-- the segments as they are written with the new separators: every view again, and a terminator after each
+abbrev pub rewritten : How → Separators → List Placed → Bytes
+rewritten how new gs = closed (new .terminator) (map (written new) (seen how gs))
+
+-- 18: a data byte of a piece equals a new separator; the tag is element 0
+abbrev pub apartFrom : Separators → Piece → Bool
+apartFrom new p = every (every (λ (b : ℕ). not (isSeparator new b))) p
+
+abbrev pub collisionChecks : Separators → View → List Check
+collisionChecks new v = each 18 0 (length v) (λ (k : ℕ). apartFrom new (elementOf v k))
+
+-- the first segment with such a piece decides, and in it the first such piece; n is the number of the first of these segments
+abbrev pub orLater : Verdict → ℕ → ℕ → Collision → Collision
+orLater Holds n byte later = later
+orLater (Broken number element) n byte later = At (record { segment = n; byte = byte; element = element })
+
+abbrev pub collision : How → Separators → ℕ → List Placed → Collision
+collision how new n [] = Nowhere
+collision how new n (g ∷ gs) =
+    orLater (firstBroken (collisionChecks new (viewOf (how .separators) (g .segment)))) n (g .at) (collision how new (suc n) gs)
+
+-- what becomes of an accepted reading: 18, then 19 where the output has no room, both with the output as it was; else the reading's own answer,
+-- and the new bytes at the start of the output
+unfoldable pub Outcome : Collision → (room : Bool) → Answer → Bytes → Bytes → Answer → Bytes → Type 0
+Outcome (At place) room accepted new output r after = (r ≡ Refused 18 (place .segment) (place .byte) (place .element)) × (after ≡ output)
+Outcome Nowhere false accepted new output r after = (r ≡ Refused 19 0 0 0) × (after ≡ output)
+Outcome Nowhere true accepted new output r after = (r ≡ accepted) × (after ≡ new ++ drop (length new) output)
+
+-- an accepted reading has the segments of the one numbering that meets every rule
+pub record Accepting (how : How) (new : Separators) (s : Bytes) (accepted : Answer) (bytes : ℕ) (output : Bytes) (r : Answer) (after : Bytes) : Type 0 where
+  pub gs : List Placed
+  pub rows : List ℕ
+  pub numbering : Numbering how s gs rows
+  pub outcome : Outcome (collision how new 1 gs) (leb bytes (length output)) accepted (rewritten how new gs) output r after
+
+-- a refused reading's answer is returned as it is
+abbrev pub Following : How → Separators → Bytes → Answer → Bytes → Answer → Bytes → Type 0
+Following how new s (Accepted segments levels bytes) output r after = Accepting how new s (Accepted segments levels bytes) bytes output r after
+Following how new s (Refused number segment byte element) output r after = (r ≡ Refused number segment byte element) × (after ≡ output)
+
+-- with both sets fit: the reading, which leaves the tables, and what follows it
+pub record Rewriting (how : How) (new : Separators) (s : Bytes) (before : Tables) (output : Bytes) (r : Answer) (tables : Tables) (after : Bytes) : Type 0 where
+  pub answer : Answer
+  pub reads : Reads how s before answer tables
+  pub follows : Following how new s answer output r after
+
+-- 1 with this element: nothing is written
+pub record Unfit (element : ℕ) (before : Tables) (output : Bytes) (r : Answer) (tables : Tables) (after : Bytes) : Type 0 where
+  pub answer : r ≡ Refused 1 0 0 element
+  pub tables-kept : tables ≡ before
+  pub output-kept : after ≡ output
+
+-- both sets are tested first, the old one with element 0, the new one with element 1
+abbrev pub RewritesFit : (old-fit new-fit : Bool) → How → Separators → Bytes → Tables → Bytes → Answer → Tables → Bytes → Type 0
+RewritesFit false new-fit how new s before output r tables after = Unfit 0 before output r tables after
+RewritesFit true false how new s before output r tables after = Unfit 1 before output r tables after
+RewritesFit true true how new s before output r tables after = Rewriting how new s before output r tables after
+
+-- the promise of rewriting
+unfoldable pub Rewrites : How → Separators → Bytes → Tables → Bytes → Answer → Tables → Bytes → Type 0
+Rewrites how new s before output r tables after =
+    RewritesFit (fitSeparators (how .separators)) (fitSeparators new) how new s before output r tables after
