@@ -9,6 +9,8 @@ use native.Mathlib.Omega.{arith}
 use native.Mathlib.Decide.{decLt}
 use lib.Dec.{T}
 use lib.ListN.{length, getD}
+use Rattle.text.specs.Bytes.{every}
+use Rattle.text.proofs.Bools.{both}
 use Rattle.elements.specs.Checks.{Check, check, each, Keeps, decide, firstBroken}
 use Rattle.elements.specs.declared.verdict.Verdict.{Verdict}
 use Rattle.elements.specs.declared.verdict.Verdict.the-variants.{Holds, Broken}
@@ -140,3 +142,18 @@ each-of n a f d (x ∷ l) test h =
     let here : a + 0 ≡ a = omega arith in
     ap₂ (λ (t : Bool) (r : List Check). check n a t ∷ r) (ap test (sym here) ∙ h 0 (omega arith))
     (each-of n (suc a) f d l test (λ k u. let on : suc a + k ≡ a + suc k = omega arith in ap test on ∙ h (suc k) (omega arith)))
+
+-- where it is silent, every one of the list passes
+of-every : {A : Type 0} (n a : ℕ) (f : A → Bool) (l : List A) → firstBroken (eachOf n a f l) ≡ Holds → T (every f l)
+of-every n a f [] e = tt
+of-every n a f (x ∷ l) e =
+    both (f x) (every f l) (test-by (check n a (f x)) (eachOf n (suc a) f l) (f x) e)
+    (of-every n (suc a) f l (rest-by (check n a (f x)) (eachOf n (suc a) f l) (f x) e))
+
+pub each-every : {A : Type 0} (n : ℕ) (f : A → Bool) (d : A) (l : List A) → firstBroken (each n 0 (length l) (λ (k : ℕ). f (getD l k d))) ≡ Holds
+    → T (every f l)
+each-every n f d l e =
+    of-every n 0 f l
+    (ap firstBroken
+    (sym (each-of n 0 f d l (λ (k : ℕ). f (getD l k d)) (λ k u. let same : 0 + k ≡ k = omega arith in ap (λ (k : ℕ). f (getD l k d)) same)))
+    ∙ e)

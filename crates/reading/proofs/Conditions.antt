@@ -70,7 +70,7 @@ unfolding number-of
 fault-proper how s before n k b e after f x =
     proper how s before (Refused n k b e) after (λ q. omega (arith, ap number-of q, f .from)) (λ q. omega (arith, ap number-of q, f .from)) x
 
-accepted-proper : (how : How) (s : Bytes) (before : Tables) (a l b : ℕ) (after : Tables) → Reads how s before (Accepted a l b) after
+pub accepted-proper : (how : How) (s : Bytes) (before : Tables) (a l b : ℕ) (after : Tables) → Reads how s before (Accepted a l b) after
     → Proper how s before (Accepted a l b) after
 unfolding number-of
 accepted-proper how s before a l b after x =

@@ -1,8 +1,8 @@
 -- What the pass over the bytes and the writing make of an accepted reading is what the promise asks.
 -- Assumes nothing.
 use Prim.Native.Nat.{ℕ, _≤_}
-use mathlib.Core.Path.{_≡_, sym, ap, _∙_}
-use mathlib.Core.List.{List, _++_, map}
+use mathlib.Core.Path.{_≡_, ap, _∙_}
+use mathlib.Core.List.{List, map}
 use native.Mathlib.Omega.{arith}
 use lib.Dec.{T, leb}
 use lib.ListN.{length, take, length-append}
@@ -26,7 +26,7 @@ use Rattle.rewriting.proofs.Found.{collision-found}
 use Rattle.rewriting.proofs.Changing.{segments-change}
 
 -- the segments of an accepted reading take as many bytes as it says
-abbrev bytesOf : Answer → ℕ
+abbrev pub bytesOf : Answer → ℕ
 bytesOf (Accepted segments levels bytes) = bytes
 bytesOf (Refused number segment byte element) = 0
 

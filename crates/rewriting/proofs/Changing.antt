@@ -2,12 +2,10 @@
 -- Assumes nothing.
 use Prim.Native.Nat.{ℕ}
 use mathlib.Core.Path.{_≡_, refl, sym, ap, _∙_}
-use mathlib.Core.Bool.{Bool, true, false, not}
-use mathlib.Core.List.{List, [], _∷_, _++_, map}
-use lib.Dec.{T}
+use mathlib.Core.List.{List, [], _∷_, map}
 use borrow.Author.Tests.{eq-eqb, ne-eqb}
 use Rattle.text.specs.Bytes.{Bytes}
-use Rattle.text.specs.Pieces.{joined, closed, pieces, Free, Clean}
+use Rattle.text.specs.Pieces.{joined, closed, Free, Clean}
 use Rattle.text.specs.View.{Piece, View, viewOf, written}
 use Rattle.text.specs.Cut.{Placed}
 use Rattle.text.specs.declared.separators.Separators.{Separators}
@@ -72,7 +70,7 @@ module _ (old new : Separators) (fit : Fitted old) where
   )
 
   -- a segment
-  segment-changes : (g : Bytes) → Free (old .terminator) g → map change g ≡ written new (viewOf old g)
+  pub segment-changes : (g : Bytes) → Free (old .terminator) g → map change g ≡ written new (viewOf old g)
   segment-changes g f =
       let v = viewOf old g in
       let u = view-unseparated old g f in

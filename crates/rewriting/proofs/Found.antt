@@ -1,21 +1,21 @@
 -- The pass over the bytes finds the collision that the segments' views have.
 -- Assumes nothing.
 use Prim.Native.Nat.{ℕ, suc, _+_}
-use mathlib.Core.Path.{_≡_, refl, sym, ap, _∙_}
-use mathlib.Core.Bool.{Bool, true, false, not, cond, _&&_, _||_}
+use mathlib.Core.Path.{_≡_, refl, sym, _∙_}
+use mathlib.Core.Bool.{Bool, true, false, not}
 use mathlib.Core.List.{List, [], _∷_, _++_}
 use native.Mathlib.Omega.{arith}
 use native.Mathlib.Numerals.{add-one}
 use lib.Dec.{T, eqb}
 use lib.ListN.{length}
-use borrow.Author.Tests.{eq-eqb, ne-eqb, eqb-true, eqb-false}
+use borrow.Author.Tests.{eq-eqb, ne-eqb}
 use Rattle.text.specs.Bytes.{Bytes}
 use Rattle.text.specs.Separators.{isSeparator}
 use Rattle.text.specs.Pieces.{closed, Free}
 use Rattle.text.specs.Cut.{Placed, Leads}
 use Rattle.text.specs.declared.separators.Separators.{Separators}
 use Rattle.text.proofs.Bools.{and-false, passes}
-use Rattle.text.proofs.View.{element-separates, component-separates, terminator-separates}
+use Rattle.text.proofs.View.{terminator-separates}
 use Rattle.elements.proofs.Bytewise.{badFrom, each-bad}
 use Rattle.reading.specs.Reads.{cutBy, skipBy}
 use Rattle.reading.specs.declared.how.How.{How}

@@ -5,3 +5,8 @@ pub mod Found
 pub mod Changing
 pub mod Accepted
 pub mod Outcomes
+pub mod Once
+pub mod Again
+pub mod Success
+pub mod Laws
+pub mod Listing

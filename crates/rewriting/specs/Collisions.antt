@@ -1,6 +1,6 @@
 -- Rewriting byte by byte, as the functions of this crate promise it to each other: where a collision is found, and what a byte becomes.
 -- Assumes nothing.
-use Prim.Native.Nat.{ℕ, suc, _+_}
+use Prim.Native.Nat.{ℕ, _+_}
 use mathlib.Core.Bool.{Bool, not, cond, _&&_}
 use mathlib.Core.List.{[], _∷_}
 use lib.Dec.{eqb}

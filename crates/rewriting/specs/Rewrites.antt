@@ -23,7 +23,6 @@ use Rattle.reading.specs.Conditions.{Numbering}
 use Rattle.reading.specs.declared.answer.Answer.{Answer}
 use Rattle.reading.specs.declared.answer.Answer.the-variants.{Accepted, Refused}
 use Rattle.reading.specs.declared.how.How.{How}
-use Rattle.rewriting.specs.declared.collisions.Place.{Place}
 use Rattle.rewriting.specs.declared.collisions.Collision.{Collision}
 use Rattle.rewriting.specs.declared.collisions.Collision.the-variants.{At, Nowhere}
 

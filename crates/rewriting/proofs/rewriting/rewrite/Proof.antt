@@ -3,77 +3,56 @@
 use mathlib.Core.Bool.{false}
 use Rattle.rewriting.proofs.Accepted.{inside}
 use Rattle.rewriting.proofs.Outcomes.{old-unfit, new-unfit, reading-refused, reading-accepted}
-use native.Mathlib.Omega.{arith}
 use borrow.Author.Needs.{needs}
 use Rattle.rewriting.proofs.rewriting.rewrite.Statement.{statement}
 use Rattle.rewriting.proofs.rewriting.rewrite.Tie as tie
-use Rattle.rewriting.proofs.rewriting.rewrite.Reads as reads
-use Rattle.rewriting.proofs.rewriting.rewrite.Lts as lts
-use Rattle.reading.proofs.reading.read.Reads as read-reads
-use Rattle.rewriting.proofs.rewriting.write_accepted.Reads as write-accepted-reads
-use Rattle.text.proofs.separators.Separators.fit.Reads as fit-reads
 
--- src/rewriting.rt:70:9
 fit-requires : tie.Need-fit-requires
 fit-requires c κs = search needs
 
--- src/rewriting.rt:71:9
 returns : tie.Need-returns
 returns c = old-unfit _ _ _ _ _ (c .before .fit .result) false (c .before .fit .ensures) (c .if1 .taken)
 
--- src/rewriting.rt:78:9
 fit-requires-2 : tie.Need-fit-requires-2
 fit-requires-2 c κs = search needs
 
--- src/rewriting.rt:79:9
 returns-2 : tie.Need-returns-2
 returns-2 c = new-unfit _ _ _ _ _ (c .before .before .before .fit .result) (c .before .fit2 .result) (c .before .before .before .fit .ensures) (c .before .before .if1 .left) (c .before .fit2 .ensures) (c .if2 .taken)
 
--- src/rewriting.rt:86:11
 read-requires : tie.Need-read-requires
 read-requires c κs = search needs
 
--- src/rewriting.rt:88:23
 enum-known-count : tie.Need-enum-known-count
 enum-known-count c = search needs
 
--- src/rewriting.rt:91:14
 write-accepted-requires : tie.Need-write-accepted-requires
 write-accepted-requires c κs =
     inside _ _ _ _ _ _ _ (rw (c .before .before .count .given .1) at (c .before .before .before .before .before .before .before .before .read .ensures))
 
--- src/rewriting.rt:93:13
 enum-known-number : tie.Need-enum-known-number
 enum-known-number c = search needs
 
--- src/rewriting.rt:59:1
 same-length : tie.Need-same-length
 same-length c = search needs
 
--- src/rewriting.rt:59:1
 same-length-2 : tie.Need-same-length-2
 same-length-2 c = search needs
 
--- src/rewriting.rt:59:1
 same-length-3 : tie.Need-same-length-3
 same-length-3 c = search needs
 
--- src/rewriting.rt:59:1
 returns-3 : tie.Need-returns-3
 returns-3 c =
     let e = c .before .before .before .before .before .before .before .before .before .before .before .before .before .before in
     reading-accepted _ _ _ _ _ (e .before .before .before .fit .result) (e .before .fit2 .result) (e .before .before .before .fit .ensures) (e .before .before .if1 .left)
     (e .before .fit2 .ensures) (e .if2 .left) _ _ _ _ (rw (c .before .before .before .before .before .count .given .1) at (c .before .before .before .before .before .before .before .before .before .before .before .read .ensures)) _ _ (c .before .before .write-accepted .ensures)
 
--- src/rewriting.rt:59:1
 same-length-4 : tie.Need-same-length-4
 same-length-4 c = search needs
 
--- src/rewriting.rt:59:1
 same-length-5 : tie.Need-same-length-5
 same-length-5 c = search needs
 
--- src/rewriting.rt:59:1
 returns-4 : tie.Need-returns-4
 returns-4 c =
     let e = c .before .before .before .before .before .before .before .before .before .before in

@@ -2,50 +2,37 @@
 -- Assumes nothing.
 use mathlib.Core.Path.{sym, _∙_}
 use Rattle.rewriting.proofs.Outcomes.{collided, too-short, put}
-use native.Mathlib.Omega.{arith}
 use borrow.Author.Needs.{needs}
 use Rattle.rewriting.proofs.rewriting.write_accepted.Statement.{statement}
 use Rattle.rewriting.proofs.rewriting.write_accepted.Tie as tie
-use Rattle.rewriting.proofs.rewriting.write_accepted.Reads as reads
-use Rattle.rewriting.proofs.rewriting.write_accepted.Lts as lts
-use Rattle.rewriting.proofs.collisions.first_collision.Reads as first-collision-reads
-use Rattle.rewriting.proofs.writing.write_new.Reads as write-new-reads
 
--- src/rewriting.rt:31:11
 first-collision-requires : tie.Need-first-collision-requires
 first-collision-requires c κs = search needs
 
--- src/rewriting.rt:32:23
 enum-known-place : tie.Need-enum-known-place
 enum-known-place c = search needs
 
--- src/rewriting.rt:39:16
 enum-told : tie.Need-enum-told
 enum-told c = search needs
 
--- src/rewriting.rt:40:17
 returns : tie.Need-returns
 returns c =
     let a = c .before .before .before .before .before .before .args in
     too-short (a .s .now) (a .old) (a .new) (a .segments) (a .levels) (a .bytes) (a .output .now)
     (sym (c .before .before .before .first-collision .ensures) ∙ c .before .enum-told .given .1) (c .if1 .taken)
 
--- src/rewriting.rt:47:13
 write-new-requires : tie.Need-write-new-requires
 write-new-requires c κs = search needs
 
--- src/rewriting.rt:18:1
 returns-2 : tie.Need-returns-2
 returns-2 c =
     let a = c .before .before .before .before .before .before .args in
     collided (a .s .now) (a .old) (a .new) (a .segments) (a .levels) (a .bytes) (a .output .now) _
     (sym (c .before .before .before .first-collision .ensures) ∙ c .before .place .given .1)
 
--- src/rewriting.rt:18:1
 same-length : tie.Need-same-length
 same-length c = search needs
 
--- src/rewriting.rt:18:1
 returns-3 : tie.Need-returns-3
 returns-3 c =
     let at = c .before .before .before .before .before .before .before in

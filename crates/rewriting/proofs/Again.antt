@@ -1,0 +1,107 @@
+-- The segments written again: where no data byte is a new separator they are cut at the same places, and their views are the same.
+-- Assumes nothing.
+use Prim.Native.Nat.{ℕ, suc, _+_}
+use mathlib.Core.Path.{_≡_, refl, sym, ap, _∙_}
+use mathlib.Core.List.{List, [], _∷_, _++_, map}
+use native.Mathlib.Omega.{arith}
+use lib.Dec.{T}
+use lib.ListN.{length, length-map}
+use Rattle.text.specs.Bytes.{Bytes}
+use Rattle.text.specs.Pieces.{Clean}
+use Rattle.text.specs.View.{View, viewOf, written, unseparated, empty}
+use Rattle.text.specs.Cut.{Placed, Leads, Whole}
+use Rattle.text.specs.declared.separators.Separators.{Separators}
+use Rattle.text.proofs.Cuts.{cut-whole}
+use Rattle.text.proofs.View.{Fitted, view-written, written-free, view-well-formed}
+use Rattle.elements.specs.Checks.{firstBroken}
+use Rattle.elements.specs.declared.verdict.Verdict.{Verdict}
+use Rattle.elements.specs.declared.verdict.Verdict.the-variants.{Holds, Broken}
+use Rattle.elements.proofs.Verdicts.{each-every}
+use Rattle.reading.specs.Segments.{seen}
+use Rattle.reading.specs.Records.{segmentRecords}
+use Rattle.reading.specs.Reads.{cutBy, skipBy}
+use Rattle.reading.specs.Conditions.{usedBy}
+use Rattle.reading.specs.declared.how.How.{How}
+use Rattle.rewriting.specs.Rewrites.{rewritten, apartFrom, collisionChecks, orLater, collision}
+use Rattle.rewriting.specs.Laws.{separatedBy}
+use Rattle.rewriting.specs.Collisions.{newByte}
+use Rattle.rewriting.specs.declared.collisions.Collision.{Collision}
+use Rattle.rewriting.specs.declared.collisions.Collision.the-variants.{At, Nowhere}
+use Rattle.rewriting.proofs.Spelling.{texts}
+use Rattle.rewriting.proofs.Changing.{segment-changes}
+
+-- no collision in a segment, and none in those behind it
+at-nowhere : {place : Rattle.rewriting.specs.declared.collisions.Place.Place} → At place ≡ Nowhere → ⊥
+at-nowhere e = let z : _≡_ {A = ℕ} 1 0 = ap isAt e in omega arith
+  where
+    isAt : Collision → ℕ
+    isAt (At place) = 1
+    isAt Nowhere = 0
+
+silent : (v : Verdict) (n byte : ℕ) (later : Collision) → orLater v n byte later ≡ Nowhere → (v ≡ Holds) × (later ≡ Nowhere)
+silent Holds n byte later e = (refl, e)
+silent (Broken number element) n byte later e = absurd (at-nowhere e)
+
+module _ (how : How) (new : Separators) (old-fit : Fitted (how .separators)) (new-fit : Fitted new) where
+  abbrev old : Separators
+  old = how .separators
+
+  -- a segment with its view written again, at the same place
+  abbrev pub renewed : Placed → Placed
+  renewed g = record { at = g .at; segment = written new (viewOf old (g .segment)) }
+
+  abbrev pub again : List Placed → List Placed
+  again gs = map renewed gs
+
+  -- what the segments have where they do not collide
+  pub record Keeps (g : Placed) : Type 0 where
+    pub view : viewOf new (written new (viewOf old (g .segment))) ≡ viewOf old (g .segment)
+    pub cut : (rest : Bytes) → cutBy (separatedBy how new) (written new (viewOf old (g .segment)) ++ new .terminator ∷ rest)
+        ≡ Whole (written new (viewOf old (g .segment))) rest
+    pub long : length (written new (viewOf old (g .segment))) ≡ length (g .segment)
+
+  abbrev pub AllKeep : List Placed → Type 0
+  AllKeep [] = Unit {0}
+  AllKeep (g ∷ gs) = Keeps g × AllKeep gs
+
+  pub all-keep : (n : ℕ) (gs : List Placed) → Clean (old .terminator) (texts gs) → collision how new n gs ≡ Nowhere → AllKeep gs
+  all-keep n [] c e = tt
+  all-keep n (g ∷ gs) c e =
+      let v = viewOf old (g .segment) in
+      let i = silent (firstBroken (collisionChecks new v)) n (g .at) (collision how new (suc n) gs) e in
+      let u : T (unseparated new v) = each-every 18 (apartFrom new) empty v (i .0) in (
+        record {
+          view = view-written new new-fit v (view-well-formed old (g .segment)) u;
+          cut = λ rest. cut-whole new (written new v) rest (written-free new new-fit v u);
+          long = ap length (sym (segment-changes old new old-fit (g .segment) (c .0))) ∙ length-map (g .segment) (newByte old new);
+        },
+        all-keep (suc n) gs (c .1) (i .1),
+      )
+
+  -- the same views
+  pub same-views : (gs : List Placed) → AllKeep gs → seen (separatedBy how new) (again gs) ≡ seen how gs
+  same-views [] k = refl
+  same-views (g ∷ gs) k = rw (k .0 .view, same-views gs (k .1))
+
+  -- the same places, and nothing behind them
+  pub same-places : (at : ℕ) (s : Bytes) (gs : List Placed) (end : ℕ) (rest : Bytes) → AllKeep gs → Leads (cutBy how) (skipBy how) at s gs end rest
+      → Leads (cutBy (separatedBy how new)) (skipBy (separatedBy how new)) at (rewritten how new gs) (again gs) end []
+  same-places at s [] end rest k l = (l .0, refl)
+  same-places at s (g ∷ gs) end rest k l = (
+    rewritten how new gs,
+    k .0 .cut (rewritten how new gs),
+    l .2,
+    rw (k .0 .long) (same-places (at + length (g .segment) + 1 + 0) (l .0) gs end rest (k .1) (l .3)),
+  )
+
+  pub same-used : (gs : List Placed) → AllKeep gs → usedBy (again gs) ≡ usedBy gs
+  same-used [] k = refl
+  same-used (g ∷ []) k = rw (k .0 .long)
+  same-used (g ∷ (h ∷ gs)) k = same-used (h ∷ gs) (k .1)
+
+  -- the same records
+  pub same-records : (h : List View) (gs : List Placed) (rows : List ℕ) → AllKeep gs
+      → segmentRecords (separatedBy how new) h (again gs) rows ≡ segmentRecords how h gs rows
+  same-records h [] rows k = refl
+  same-records h (g ∷ gs) [] k = refl
+  same-records h (g ∷ gs) (r ∷ rows) k = rw (k .0 .view, k .0 .long, same-records (viewOf old (g .segment) ∷ h) gs rows (k .1))

@@ -1,0 +1,85 @@
+-- Condition 1 for rewriting: every input has an answer that the promise allows, and every answer is one of the list.
+-- Assumes nothing.
+use Prim.Native.Nat.{ℕ}
+use mathlib.Core.Path.{refl}
+use mathlib.Core.Bool.{Bool, true, false}
+use mathlib.Core.List.{_++_}
+use native.Mathlib.Omega.{arith}
+use lib.Dec.{leb}
+use lib.ListN.{length, drop}
+use Rattle.text.specs.Bytes.{Bytes}
+use Rattle.text.specs.Separators.{fitSeparators}
+use Rattle.text.specs.declared.separators.Separators.{Separators}
+use Rattle.reading.specs.Answers.{Listed as ReadingListed}
+use Rattle.reading.specs.Records.{Tables}
+use Rattle.reading.specs.Reads.{Reads}
+use Rattle.reading.specs.declared.answer.Answer.{Answer}
+use Rattle.reading.specs.declared.answer.Answer.the-variants.{Accepted, Refused}
+use Rattle.reading.specs.declared.how.How.{How}
+use Rattle.reading.proofs.Conditions.{accepted-meets, answered}
+use Rattle.reading.proofs.Listing.{listed}
+use Rattle.rewriting.specs.Rewrites.{rewritten, collision, Outcome, Following, Unfit, RewritesFit, Rewrites}
+use Rattle.rewriting.specs.Laws.{Listed}
+use Rattle.rewriting.specs.declared.collisions.Collision.{Collision}
+use Rattle.rewriting.specs.declared.collisions.Collision.the-variants.{At, Nowhere}
+
+-- some answer and output
+outcome-some : (x : Collision) (room : Bool) (accepted : Answer) (new output : Bytes) → (r : Answer) × (after : Bytes) × Outcome x room accepted new output r after
+unfolding Outcome
+outcome-some (At place) room accepted new output = (Refused 18 (place .segment) (place .byte) (place .element), output, (refl, refl))
+outcome-some Nowhere false accepted new output = (Refused 19 0 0 0, output, (refl, refl))
+outcome-some Nowhere true accepted new output = (accepted, new ++ drop (length new) output, (refl, refl))
+
+module _ (how : How) (new : Separators) (s : Bytes) (before : Tables) (output : Bytes) where
+  following-some : (answer : Answer) (tables : Tables) → Reads how s before answer tables
+      → (r : Answer) × (after : Bytes) × Following how new s answer output r after
+  following-some (Accepted a l b) tables x =
+      let m = accepted-meets how s before a l b tables x in
+      let o = outcome-some (collision how new 1 (m .0)) (leb b (length output)) (Accepted a l b) (rewritten how new (m .0)) output in
+      (o .0, o .1, record { gs = m .0; rows = m .1; numbering = m .2; outcome = o .2 })
+  following-some (Refused n k b e) tables x = (Refused n k b e, output, (refl, refl))
+
+  -- every input, both sets of separators, every tables and every output have an answer that the promise allows
+  pub rewriting-answered : (r : Answer) × (tables : Tables) × (after : Bytes) × Rewrites how new s before output r tables after
+  unfolding Rewrites
+  rewriting-answered = fit (fitSeparators (how .separators)) (fitSeparators new)
+    where
+      fit : (old-fit new-fit : Bool)
+          → (r : Answer) × (tables : Tables) × (after : Bytes) × RewritesFit old-fit new-fit how new s before output r tables after
+      fit false new-fit = (Refused 1 0 0 0, before, output, record { answer = refl; tables-kept = refl; output-kept = refl })
+      fit true false = (Refused 1 0 0 1, before, output, record { answer = refl; tables-kept = refl; output-kept = refl })
+      fit true true =
+          let a = answered how s before in
+          let f = following-some (a .0) (a .1) (a .2) in
+          (f .0, a .1, f .1, record { answer = a .0; reads = a .2; follows = f .2 })
+
+-- an answer of reading's list is one of rewriting's
+wider : (r : Answer) → ReadingListed r → Listed r
+wider (Accepted a l b) x = tt
+wider (Refused n k b e) x = (omega (arith, x .0), omega (arith, x .1))
+
+outcome-listed : (x : Collision) (room : Bool) (accepted : Answer) (new output : Bytes) (r : Answer) (after : Bytes) → Listed accepted
+    → Outcome x room accepted new output r after → Listed r
+unfolding Outcome
+outcome-listed (At place) room accepted new output r after l x = rw (x .0) (omega arith, omega arith)
+outcome-listed Nowhere false accepted new output r after l x = rw (x .0) (omega arith, omega arith)
+outcome-listed Nowhere true accepted new output r after l x = rw (x .0) l
+
+module _ (how : How) (new : Separators) (s : Bytes) (before : Tables) (output : Bytes) (r : Answer) (tables : Tables) (after : Bytes) where
+  following-listed : (answer : Answer) → Listed answer → Following how new s answer output r after → Listed r
+  following-listed (Accepted a l b) h x =
+      outcome-listed (collision how new 1 (x .gs)) (leb b (length output)) (Accepted a l b) (rewritten how new (x .gs)) output r after h (x .outcome)
+  following-listed (Refused n k b e) h x = rw (x .0) h
+
+  -- every answer is one of the list
+  pub rewriting-listed : Rewrites how new s before output r tables after → Listed r
+  unfolding Rewrites
+  rewriting-listed x = fit (fitSeparators (how .separators)) (fitSeparators new) x
+    where
+      unfit : (e : ℕ) → Unfit e before output r tables after → Listed r
+      unfit e x = rw (x .answer) (omega arith, omega arith)
+
+      fit : (old-fit new-fit : Bool) → RewritesFit old-fit new-fit how new s before output r tables after → Listed r
+      fit false new-fit x = unfit 0 x
+      fit true false x = unfit 1 x
+      fit true true x = following-listed (x .answer) (wider (x .answer) (listed how s before (x .answer) tables (x .reads))) (x .follows)

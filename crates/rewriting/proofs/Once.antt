@@ -1,0 +1,65 @@
+-- Two answers that the promise of rewriting allows are equal, with their tables and outputs.
+-- Assumes nothing.
+use Prim.Native.Nat.{ℕ}
+use mathlib.Core.Path.{_≡_, sym, subst, _∙_}
+use mathlib.Core.Bool.{Bool, true, false}
+use mathlib.Core.List.{List}
+use lib.Dec.{leb}
+use lib.ListN.{length}
+use Rattle.text.specs.Bytes.{Bytes}
+use Rattle.text.specs.Separators.{fitSeparators}
+use Rattle.text.specs.Cut.{Placed}
+use Rattle.text.specs.declared.separators.Separators.{Separators}
+use Rattle.reading.specs.Profile.{nonconformance}
+use Rattle.reading.specs.Records.{Tables}
+use Rattle.reading.specs.declared.answer.Answer.{Answer}
+use Rattle.reading.specs.declared.answer.Answer.the-variants.{Accepted, Refused}
+use Rattle.reading.specs.declared.how.How.{How}
+use Rattle.reading.proofs.Once.{reads-once}
+use Rattle.reading.proofs.Conditions.{numbering-once}
+use Rattle.rewriting.specs.Rewrites.{rewritten, collision, Outcome, Following, Rewriting, Unfit, RewritesFit, Rewrites}
+use Rattle.rewriting.specs.declared.collisions.Collision.{Collision}
+use Rattle.rewriting.specs.declared.collisions.Collision.the-variants.{At, Nowhere}
+
+outcome-once : (x : Collision) (room : Bool) (accepted : Answer) (new output : Bytes) (r r′ : Answer) (after after′ : Bytes)
+    → Outcome x room accepted new output r after → Outcome x room accepted new output r′ after′ → (r ≡ r′) × (after ≡ after′)
+unfolding Outcome
+outcome-once (At place) room accepted new output r r′ after after′ x y = (x .0 ∙ sym (y .0), x .1 ∙ sym (y .1))
+outcome-once Nowhere false accepted new output r r′ after after′ x y = (x .0 ∙ sym (y .0), x .1 ∙ sym (y .1))
+outcome-once Nowhere true accepted new output r r′ after after′ x y = (x .0 ∙ sym (y .0), x .1 ∙ sym (y .1))
+
+module _ (how : How) (new : Separators) (s : Bytes) (output : Bytes) where
+  -- an accepted reading has one numbering, and the rest follows from its segments
+  following-once : (answer : Answer) (r r′ : Answer) (after after′ : Bytes) → Following how new s answer output r after
+      → Following how new s answer output r′ after′ → (r ≡ r′) × (after ≡ after′)
+  following-once (Accepted a l b) r r′ after after′ x y =
+      let gs = numbering-once how s (x .gs) (y .gs) (x .rows) (y .rows) (x .numbering) (y .numbering) .0 in
+      outcome-once (collision how new 1 (y .gs)) (leb b (length output)) (Accepted a l b) (rewritten how new (y .gs)) output r r′ after after′
+      (subst (λ (gs : List Placed). Outcome (collision how new 1 gs) (leb b (length output)) (Accepted a l b) (rewritten how new gs) output r after) gs
+      (x .outcome))
+      (y .outcome)
+  following-once (Refused n k b e) r r′ after after′ x y = (x .0 ∙ sym (y .0), x .1 ∙ sym (y .1))
+
+  -- the answer, the tables and the output of a rewriting are one
+  pub rewrites-once : (before : Tables) (r r′ : Answer) (tables tables′ : Tables) (after after′ : Bytes) → Rewrites how new s before output r tables after
+      → Rewrites how new s before output r′ tables′ after′ → (r ≡ r′) × (tables ≡ tables′) × (after ≡ after′)
+  unfolding Rewrites
+  rewrites-once before r r′ tables tables′ after after′ x y = fit (fitSeparators (how .separators)) (fitSeparators new) x y
+    where
+      unfit : (e : ℕ) → Unfit e before output r tables after → Unfit e before output r′ tables′ after′ → (r ≡ r′) × (tables ≡ tables′) × (after ≡ after′)
+      unfit e x y = (x .answer ∙ sym (y .answer), x .tables-kept ∙ sym (y .tables-kept), x .output-kept ∙ sym (y .output-kept))
+
+      read : Rewriting how new s before output r tables after → Rewriting how new s before output r′ tables′ after′
+          → (r ≡ r′) × (tables ≡ tables′) × (after ≡ after′)
+      read x y =
+          let first = reads-once nonconformance how s before (x .answer) (y .answer) tables tables′ (x .reads) (y .reads) in
+          let then =
+          following-once (y .answer) r r′ after after′ (subst (λ (a : Answer). Following how new s a output r after) (first .0) (x .follows))
+          (y .follows) in
+          (then .0, first .1, then .1)
+
+      fit : (old-fit new-fit : Bool) → RewritesFit old-fit new-fit how new s before output r tables after
+          → RewritesFit old-fit new-fit how new s before output r′ tables′ after′ → (r ≡ r′) × (tables ≡ tables′) × (after ≡ after′)
+      fit false new-fit x y = unfit 0 x y
+      fit true false x y = unfit 1 x y
+      fit true true x y = read x y
