@@ -1,8 +1,9 @@
 // Runs the cases of each file that the arguments name, and prints what comes of each. A case is a header of sixteen bytes and its input:
-//   0        1 a reading, 3 an element lookup, 4 a component lookup
+//   0        1 a reading, 2 a rewriting, 3 an element lookup, 4 a component lookup
 //   1 to 3   element, component, terminator; of a lookup the separator alone
+//   4 to 6   the new set of a rewriting
 //   7, 9     how many numbers the segment table and the level table have, two bytes each, the lower first
-//   11       the number that a lookup asks for, two bytes
+//   11       the number that a lookup asks for, or how many bytes the output of a rewriting has, two bytes
 //   13       how long the input is, three bytes
 ghost use mathlib.Core.Path.{_≡_};
 ghost use Prim.Native.Nat.{_<_, _≤_};
@@ -65,13 +66,34 @@ fn lend(table: &mut [u64; 120], first: u64)
 }
 
 // The numbers of a table, on one line.
-fn list(name: &[u8], table: &[u64; 120], count: usize) {
+fn list(name: &[u8], table: &[u64]) {
     word(name);
     let mut i: usize = 0;
-    while i < count {
-        if i < 120 {
-            next(table[i]);
-        }
+    while i < table.len() {
+        next(table[i]);
+        i += 1;
+    }
+    word(b"\n");
+}
+
+// What an output holds before a case.
+fn lend_output(output: &mut [u8; 400])
+    requires { ⌜ length (now output) ≡ 400 ⌝ }
+    ensures { λ _. ⌜ length (now (output .exit)) ≡ 400 ⌝ }
+{
+    let mut i: usize = 0;
+    while i < 400 {
+        output[i] = ((i * 7 + 3) % 256) as u8;
+        i += 1;
+    }
+}
+
+// The bytes of an output, on one line.
+fn list_output(output: &[u8]) {
+    word(b"output");
+    let mut i: usize = 0;
+    while i < output.len() {
+        next(byte_at(output, i) as u64);
         i += 1;
     }
     word(b"\n");
@@ -108,17 +130,31 @@ fn least(a: usize, b: usize) -> usize
     if a < b { a } else { b }
 }
 
+// Three separators of a header.
+fn separators_at(header: &[u8], at: usize) -> Separators
+    requires { ⌜ at < 16 ⌝ }
+{
+    let element = byte_at(header, at);
+    let component = byte_at(header, at + 1);
+    let terminator = byte_at(header, at + 2);
+    Separators {
+        element,
+        component,
+        terminator,
+    }
+}
+
+// The answer of a reading, and the tables afterwards.
+fn read_lent(input: &[u8], how: How, segments: &mut [u64], levels: &mut [u64]) {
+    print_answer(reading::reading::read(input, how, segments, levels));
+    list(b"segments", segments);
+    list(b"levels", levels);
+}
+
 // A reading, with tables of the sizes that the header has.
 fn read_case(header: &[u8], input: &[u8]) {
-    let element = byte_at(header, 1);
-    let component = byte_at(header, 2);
-    let terminator = byte_at(header, 3);
     let how = How {
-        separators: Separators {
-            element,
-            component,
-            terminator,
-        },
+        separators: separators_at(header, 1),
     };
     let segment_numbers = least(two_at(header, 7), 120);
     let level_numbers = least(two_at(header, 9), 120);
@@ -126,14 +162,52 @@ fn read_case(header: &[u8], input: &[u8]) {
     let mut levels = [0u64; 120];
     lend(&mut segments, 700000);
     lend(&mut levels, 800000);
-    print_answer(reading::reading::read(
+    read_lent(
         input,
         how,
         &mut segments[..segment_numbers],
         &mut levels[..level_numbers],
-    ));
-    list(b"segments", &segments, segment_numbers);
-    list(b"levels", &levels, level_numbers);
+    );
+}
+
+// The answer of a rewriting, and the tables and the output afterwards.
+fn rewrite_lent(
+    input: &[u8],
+    how: How,
+    new: Separators,
+    segments: &mut [u64],
+    levels: &mut [u64],
+    output: &mut [u8],
+) {
+    print_answer(rewriting::rewriting::rewrite(input, how, new, segments, levels, output));
+    list(b"segments", segments);
+    list(b"levels", levels);
+    list_output(output);
+}
+
+// A rewriting, with tables and an output of the sizes that the header has.
+fn rewrite_case(header: &[u8], input: &[u8]) {
+    let how = How {
+        separators: separators_at(header, 1),
+    };
+    let new = separators_at(header, 4);
+    let segment_numbers = least(two_at(header, 7), 120);
+    let level_numbers = least(two_at(header, 9), 120);
+    let bytes = least(two_at(header, 11), 400);
+    let mut segments = [0u64; 120];
+    let mut levels = [0u64; 120];
+    let mut output = [0u8; 400];
+    lend(&mut segments, 700000);
+    lend(&mut levels, 800000);
+    lend_output(&mut output);
+    rewrite_lent(
+        input,
+        how,
+        new,
+        &mut segments[..segment_numbers],
+        &mut levels[..level_numbers],
+        &mut output[..bytes],
+    );
 }
 
 fn print_span(span: Span) {
@@ -149,6 +223,7 @@ fn run_case(header: &[u8], input: &[u8]) {
     let asked = two_at(header, 11);
     match byte_at(header, 0) {
         1 => read_case(header, input),
+        2 => rewrite_case(header, input),
         3 => print_span(lookup::element_span(input, separator, asked)),
         4 => print_span(lookup::component_span(input, separator, asked)),
         _ => word(b"no such kind\n"),

@@ -1,15 +1,16 @@
 -- `list` meets its contract.
 -- Assumes nothing.
 use Prim.Native.Nat.{_-_, _≤_}
+use lib.ListN.{length}
 use borrow.Author.Needs.{needs}
 use Rattle.vectors.proofs.list.Statement.{statement}
 use Rattle.vectors.proofs.list.Tie as tie
 
 abbrev Inv-loop : tie.InvT-loop
-Inv-loop name table count i₀ t5 i = i ≤ count
+Inv-loop name table i₀ t4 i = i ≤ length table
 
 abbrev μ-loop : tie.MeasureT-loop
-μ-loop name table count i₀ t5 i = count - i
+μ-loop name table i₀ t4 i = length table - i
 
 word-requires : tie.Need-word-requires Inv-loop μ-loop
 word-requires c κs = search needs
@@ -20,8 +21,8 @@ loop-holds c = search needs
 mul-next : tie.Need-mul-next Inv-loop μ-loop
 mul-next c = search needs
 
-element-copy-out-next : tie.Need-element-copy-out-next Inv-loop μ-loop
-element-copy-out-next c = search needs
+shared-slice-read-next : tie.Need-shared-slice-read-next Inv-loop μ-loop
+shared-slice-read-next c = search needs
 
 next-requires : tie.Need-next-requires Inv-loop μ-loop
 next-requires c κs = search needs
@@ -53,7 +54,7 @@ list-spec =
     word-requires
     loop-holds
     mul-next
-    element-copy-out-next
+    shared-slice-read-next
     next-requires
     add-i
     loop-less

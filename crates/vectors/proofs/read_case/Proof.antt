@@ -6,14 +6,8 @@ use borrow.Author.Needs.{needs}
 use Rattle.vectors.proofs.read_case.Statement.{statement}
 use Rattle.vectors.proofs.read_case.Tie as tie
 
-byte-at-requires : tie.Need-byte-at-requires
-byte-at-requires c κs = search needs
-
-byte-at-requires-2 : tie.Need-byte-at-requires-2
-byte-at-requires-2 c κs = search needs
-
-byte-at-requires-3 : tie.Need-byte-at-requires-3
-byte-at-requires-3 c κs = search needs
+separators-at-requires : tie.Need-separators-at-requires
+separators-at-requires c κs = search needs
 
 two-at-requires : tie.Need-two-at-requires
 two-at-requires c κs = search needs
@@ -36,32 +30,17 @@ lend-requires-2 c κs = search needs
 array-borrow-prefix-segments : tie.Need-array-borrow-prefix-segments
 array-borrow-prefix-segments c = search needs
 
-slice-aggregate-read : tie.Need-slice-aggregate-read
-slice-aggregate-read c = sym (length-take-le _ _ (rw (c .before .before .before .lend .ensures) (c .before .before .before .before .before .before .before .least .ensures)))
+slice-aggregate-read-lent : tie.Need-slice-aggregate-read-lent
+slice-aggregate-read-lent c = sym (length-take-le _ _ (rw (c .before .before .before .lend .ensures) (c .before .before .before .before .before .before .before .least .ensures)))
 
 array-borrow-prefix-levels : tie.Need-array-borrow-prefix-levels
 array-borrow-prefix-levels c = search needs
 
-slice-aggregate-read-2 : tie.Need-slice-aggregate-read-2
-slice-aggregate-read-2 c = sym (length-take-le _ _ (rw (c .before .before .lend2 .ensures) (c .before .before .before .before .before .before .least2 .ensures)))
+slice-aggregate-read-lent-2 : tie.Need-slice-aggregate-read-lent-2
+slice-aggregate-read-lent-2 c = sym (length-take-le _ _ (rw (c .before .before .lend2 .ensures) (c .before .before .before .before .before .before .least2 .ensures)))
 
-read-requires : tie.Need-read-requires
-read-requires c κs = search needs
-
-print-answer-requires : tie.Need-print-answer-requires
-print-answer-requires c κs = search needs
-
-slice-aggregate-list : tie.Need-slice-aggregate-list
-slice-aggregate-list c = search needs
-
-list-requires : tie.Need-list-requires
-list-requires c κs = search needs
-
-slice-aggregate-list-2 : tie.Need-slice-aggregate-list-2
-slice-aggregate-list-2 c = search needs
-
-list-requires-2 : tie.Need-list-requires-2
-list-requires-2 c κs = search needs
+read-lent-requires : tie.Need-read-lent-requires
+read-lent-requires c κs = search needs
 
 returns : tie.Need-returns
 returns c = search needs
@@ -70,9 +49,7 @@ pub read-case-spec : {M : Type 1} → statement M
 read-case-spec =
     tie.close
     (tie.spec
-    byte-at-requires
-    byte-at-requires-2
-    byte-at-requires-3
+    separators-at-requires
     two-at-requires
     least-requires
     two-at-requires-2
@@ -80,13 +57,8 @@ read-case-spec =
     lend-requires
     lend-requires-2
     array-borrow-prefix-segments
-    slice-aggregate-read
+    slice-aggregate-read-lent
     array-borrow-prefix-levels
-    slice-aggregate-read-2
-    read-requires
-    print-answer-requires
-    slice-aggregate-list
-    list-requires
-    slice-aggregate-list-2
-    list-requires-2
+    slice-aggregate-read-lent-2
+    read-lent-requires
     returns)
