@@ -16,7 +16,7 @@ tag-of-requires : tie.Need-tag-of-requires
 tag-of-requires c κs = search needs
 
 returns : tie.Need-returns
-returns c = λ before gs rows g more fit nt st. judges-tag fit nt st _ (c .before .tag-of .ensures) (c .if1 .taken)
+returns c = λ before gs rows g more fit nt st. judges-tag rows _ _ (c .if1 .taken) (c .before .tag-of .ensures) fit nt
 
 bad-end-requires : tie.Need-bad-end-requires
 bad-end-requires c κs = search needs
