@@ -20,12 +20,6 @@ and-second true b e = e
 and-second false true e = refl
 and-second false false e = e
 
--- what passes everywhere passes at each place
-pub every-at : {A : Type 0} (f : A → Bool) (d : A) (s : List A) (k : ℕ) → every f s ≡ true → k < length s → f (getD s k d) ≡ true
-every-at f d [] k e l = absurd (omega arith)
-every-at f d (x ∷ s) zero e l = and-first (f x) (every f s) e
-every-at f d (x ∷ s) (suc k) e l = every-at f d s k (and-second (f x) (every f s) e) (omega arith)
-
 -- a loop that has passed i of the list: the test of the whole is that of the rest
 pub record Passing {A : Type 0} (f : A → Bool) (s : List A) (i : ℕ) : Type 0 where
   pub so-far : every f s ≡ every f (drop i s)
