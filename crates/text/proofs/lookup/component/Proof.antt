@@ -13,7 +13,7 @@ part-requires : tie.Need-part-requires
 part-requires c κs = rw (c .component-span .ensures) (component-inside _ _ _)
 
 returns : tie.Need-returns
-returns c = rw (← c .before .component-span .ensures) (c .part .ensures)
+returns c = rw (c .before .component-span .ensures) at (c .part .ensures)
 
 pub component-spec : {M : Type 1} → statement M
 component-spec = tie.close (tie.spec component-span-requires part-requires returns)
