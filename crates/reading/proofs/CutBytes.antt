@@ -40,7 +40,7 @@ pub every-of : {A : Type 0} (f : A → Bool) (l : List A) (d : A) → ((k : ℕ)
 every-of f [] d h = tt
 every-of f (x ∷ l) d h = both (f x) (every f l) (h 0 (omega arith)) (every-of f l d (λ k u. h (suc k) (omega arith)))
 
--- at one in the middle of the list
+-- a test that passes at every one passes at one in the middle of the list
 pub every-middle : {A : Type 0} (f : A → Bool) (xs : List A) (y : A) (ys : List A) → T (every f (xs ++ y ∷ ys)) → T (f y)
 every-middle f [] y ys t = first-of (f y) (every f ys) t
 every-middle f (x ∷ xs) y ys t = every-middle f xs y ys (second-of (f x) (every f (xs ++ y ∷ ys)) t)

@@ -1,14 +1,9 @@
 // What a judgement does: the answer where the reading ends, else the records of the segment, stored where there is room.
 ghost use mathlib.Core.Path.{_≡_};
-ghost use mathlib.Core.List.{List};
-ghost use Prim.Native.Nat.{ℕ, _/_, _≤_, _<_};
+ghost use Prim.Native.Nat.{_/_, _≤_, _<_};
 ghost use lib.ListN.{length};
-ghost use Rattle.text.specs.Bytes.{Bytes};
-ghost use Rattle.text.specs.Cut.{Placed};
-ghost use Rattle.reading.specs.Records.{Tables};
 ghost use Rattle.reading.specs.Settling.{stateAfter, refusedAt, acceptedAt, InRoom, SettlesBy, SettlesPlain, SettlesLevel, SettlesLast};
 use crate::answer::Answer;
-use crate::how::How;
 use crate::judging::Judgement;
 use crate::judging::Notes;
 use crate::judging::State;

@@ -1,6 +1,5 @@
 -- `component` meets its contract: the span lies within the slice, and the part is handed back.
 -- Assumes nothing.
-use native.Mathlib.Omega.{arith}
 use Rattle.text.proofs.Spans.{component-inside}
 use borrow.Author.Needs.{needs}
 use Rattle.text.proofs.lookup.component.Statement.{statement}

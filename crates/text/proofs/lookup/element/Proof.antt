@@ -1,6 +1,5 @@
 -- `element` meets its contract: the span lies within the slice, and the part is handed back.
 -- Assumes nothing.
-use native.Mathlib.Omega.{arith}
 use Rattle.text.proofs.Spans.{lies}
 use borrow.Author.Needs.{needs}
 use Rattle.text.proofs.lookup.element.Statement.{statement}
