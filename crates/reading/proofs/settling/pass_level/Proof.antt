@@ -9,6 +9,14 @@ use borrow.Author.Needs.{needs}
 use Rattle.reading.proofs.settling.pass_level.Statement.{statement}
 use Rattle.reading.proofs.settling.pass_level.Tie as tie
 
+-- behind the test of the segment table there is room in it
+segment-fits : (c : tie.Else1) → c .before .before .before .before .before .args .state .count < length (c .before .before .before .before .before .args .segments .now) / 3
+segment-fits c = room (c .before .segment-room .result) _ _ (c .before .segment-room .ensures) (c .if1 .left)
+
+-- and behind that of the level table in that one
+level-fits : (c : tie.Else2) → c .before .before .before .before .before .before .before .before .args .state .known < length (c .before .before .before .before .before .before .before .before .args .levels .now) / 4
+level-fits c = room (c .before .level-room .result) _ _ (c .before .level-room .ensures) (c .if2 .left)
+
 segment-room-requires : tie.Need-segment-room-requires
 segment-room-requires c κs = search needs
 
@@ -40,24 +48,24 @@ sub-put-segment : tie.Need-sub-put-segment
 sub-put-segment c = search needs
 
 put-segment-requires : tie.Need-put-segment-requires
-put-segment-requires c κs = room (c .before .before .before .before .before .before .segment-room .result) _ _ (c .before .before .before .before .before .before .segment-room .ensures) (c .before .before .before .before .before .if1 .left)
+put-segment-requires c κs = segment-fits (c .before .before .before .before .before)
 
 add-put-level : tie.Need-add-put-level
 add-put-level c = search needs
 
 put-level-requires : tie.Need-put-level-requires
-put-level-requires c κs = room (c .before .before .before .before .before .before .before .before .level-room .result) _ _ (c .before .before .before .before .before .before .before .before .level-room .ensures) (c .before .before .before .before .before .before .before .if2 .left)
+put-level-requires c κs = level-fits (c .before .before .before .before .before .before .before)
 
 add-after : tie.Need-add-after
 add-after c =
     let start = c .before .before .before .before .before .before .before .before .before .before .before .before .before .before .before .before .before .before .before in
-    let level : start .args .state .known < length (start .args .levels .now) / 4 = room (c .before .before .before .before .before .before .before .before .before .before .before .before .level-room .result) _ _ (c .before .before .before .before .before .before .before .before .before .before .before .before .level-room .ensures) (c .before .before .before .before .before .before .before .before .before .before .before .if2 .left) in
+    let level : start .args .state .known < length (start .args .levels .now) / 4 = level-fits (c .before .before .before .before .before .before .before .before .before .before .before) in
     record { fits = omega (arith, level, start .good .1 .1 .1 .1 .0) }
 
 after-requires : tie.Need-after-requires
 after-requires c κs =
     let start = c .before .before .before .before .before .before .before .before .before .before .before .before .before .before .before .before .before .before .before in
-    let segment : start .args .state .count < length (start .args .segments .now) / 3 = room (c .before .before .before .before .before .before .before .before .before .before .before .before .before .before .before .segment-room .result) _ _ (c .before .before .before .before .before .before .before .before .before .before .before .before .before .before .before .segment-room .ensures) (c .before .before .before .before .before .before .before .before .before .before .before .before .before .before .if1 .left) in
+    let segment : start .args .state .count < length (start .args .segments .now) / 3 = segment-fits (c .before .before .before .before .before .before .before .before .before .before .before .before .before .before) in
     omega (arith, segment, start .good .1 .1 .1 .0)
 
 same-length-4 : tie.Need-same-length-4
@@ -67,7 +75,8 @@ same-length-5 : tie.Need-same-length-5
 same-length-5 c = search needs
 
 returns-3 : tie.Need-returns-3
-returns-3 c = λ how before s gs rows g more t. settles-level t _ _ _ _ refl (room (c .before .before .before .before .before .before .before .before .before .before .before .before .before .before .before .before .segment-room .result) _ _ (c .before .before .before .before .before .before .before .before .before .before .before .before .before .before .before .before .segment-room .ensures) (c .before .before .before .before .before .before .before .before .before .before .before .before .before .before .before .if1 .left)) (room (c .before .before .before .before .before .before .before .before .before .before .before .before .before .level-room .result) _ _ (c .before .before .before .before .before .before .before .before .before .before .before .before .before .level-room .ensures) (c .before .before .before .before .before .before .before .before .before .before .before .before .if2 .left)) _ (c .before .before .before .before .before .before .before .before .before .put-segment .ensures) _ (c .before .before .before .before .put-level .ensures) _ (c .after .ensures)
+returns-3 c = λ how before s gs rows g more t.
+    settles-level t _ _ _ _ refl (segment-fits (c .before .before .before .before .before .before .before .before .before .before .before .before .before .before .before)) (level-fits (c .before .before .before .before .before .before .before .before .before .before .before .before)) _ (c .before .before .before .before .before .before .before .before .before .put-segment .ensures) _ (c .before .before .before .before .put-level .ensures) _ (c .after .ensures)
 
 pub pass-level-spec : {M : Type 1} → statement M
 pass-level-spec =
