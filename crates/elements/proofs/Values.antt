@@ -14,7 +14,9 @@ use borrow.Author.Tests.{eq-eqb, ne-eqb, leb-true, le-leb, lt-leb}
 use Rattle.text.specs.Bytes.{Bytes, every, same}
 use Rattle.text.specs.Separators.{isDigit}
 use Rattle.text.proofs.Bools.{and-assoc, and-true}
-use Rattle.text.proofs.Tests.{and-first, and-second, every-at}
+use Rattle.text.proofs.Bools.{passes as test-passes}
+use Rattle.text.proofs.Everys.{every-at}
+use Rattle.text.proofs.Tests.{and-first, and-second}
 use Rattle.elements.specs.Types.{valueFrom, countOf, unsigned, isFigure, isReal, figures, isOf, sizeOf, fits}
 use Rattle.elements.specs.declared.types.Kind.{Kind}
 use Rattle.elements.specs.Post.{Unsigned, Written}
@@ -124,7 +126,7 @@ module _ {s : Bytes} {from count i n : ℕ} (w : Written s from count) (f : Figu
   pub room : Room s from i n
   room =
       let inside : from + i < length s = omega (arith, w .inside) in
-      let d = digit-bounds (getD s (from + i) 0) (every-at isDigit 0 s (from + i) (w .digits) inside) in
+      let d = digit-bounds (getD s (from + i) 0) (test-passes _ (every-at isDigit s 0 (rw (w .digits) tt) (from + i) inside)) in
       let ten : 10 ^ i ≤ 10 ^ 9 = pow-le-pow-right {n = 10} (omega arith) {i = i} {j = 9} (omega (arith, w .few)) in
       record { inside = inside; low = d .0; high = d .1; small = omega (arith, f .small, ten) }
 

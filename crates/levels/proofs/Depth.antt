@@ -10,16 +10,16 @@ use lib.ListN.{length}
 use Rattle.text.specs.Bytes.{any}
 use Rattle.text.proofs.Bools.{first-of, second-of}
 use Rattle.elements.specs.Checks.{Keeps}
-use Rattle.levels.specs.Profile.{nonconformance, codeOf, mayStandAlone, mayHang}
+use Rattle.levels.specs.Profile.{LevelProfile, nonconformance, codeOf, mayStandAlone, mayHang}
 use Rattle.levels.specs.Levels.{Claim, Level, called, levelAt, levelOf, levelsOf}
 use Rattle.levels.specs.Rules.{levelChecks}
 use Rattle.levels.proofs.Calling.{Everyone, everyone-so, level-everyone}
 use Rattle.levels.proofs.Judgements.{level-nobody}
 
 -- every HL keeps its tests after those before it; each with its segment's number, latest first
-abbrev pub EntitledAll : List (ℕ × Claim) → Type 0
-EntitledAll [] = Unit {0}
-EntitledAll (h ∷ hs) = Keeps (levelChecks nonconformance (levelsOf nonconformance hs) (h .1)) × EntitledAll hs
+abbrev pub AllKept : LevelProfile → List (ℕ × Claim) → Type 0
+AllKept profile [] = Unit {0}
+AllKept profile (h ∷ hs) = Keeps (levelChecks profile (levelsOf profile hs) (h .1)) × AllKept profile hs
 
 -- how deep a code may lie
 abbrev rank : ℕ → ℕ
@@ -98,7 +98,7 @@ new-shallow segment c ls k a = by-value (eqb (length (c .parent)) 0) (k .1 .1 .1
         )
 
 -- so are all levels that keep their tests
-all-shallow : (hs : List (ℕ × Claim)) → EntitledAll hs → Everyone Shallow (levelsOf nonconformance hs)
+all-shallow : (hs : List (ℕ × Claim)) → AllKept nonconformance hs → Everyone Shallow (levelsOf nonconformance hs)
 all-shallow [] e = tt
 all-shallow (h ∷ hs) e =
     let below = all-shallow hs (e .1) in
@@ -114,7 +114,7 @@ all-deep [] = tt
 all-deep (h ∷ hs) = (omega arith, all-deep hs)
 
 -- where every HL keeps its tests
-pub depth-at-most-4 : (hs : List (ℕ × Claim)) → EntitledAll hs → Everyone Within4 (levelsOf nonconformance hs)
+pub depth-at-most-4 : (hs : List (ℕ × Claim)) → AllKept nonconformance hs → Everyone Within4 (levelsOf nonconformance hs)
 depth-at-most-4 hs e =
     everyone-so (λ l. 1 ≤ l .depth) Shallow Within4 (λ l d h. (d, omega (arith, rank-at-most-4 (l .code)))) (levelsOf nonconformance hs) (all-deep hs)
     (all-shallow hs e)

@@ -16,7 +16,7 @@ use Rattle.levels.specs.Told.{entryOf, startOf, lengthOf, toldId, toldMa
 use Rattle.levels.proofs.Entries.{Kept, kept-all, same-segment, same-level, stored-kept, segment-stored, level-stored}
 use Rattle.levels.proofs.Calling.{Everyone, levels-length}
 use Rattle.levels.proofs.Names.{begins-once}
-use Rattle.levels.proofs.Depth.{EntitledAll, Within4, depth-at-most-4}
+use Rattle.levels.proofs.Depth.{AllKept, Within4, depth-at-most-4}
 
 -- the bytes at `start`, `len` of them, are a segment with a tag of two letters, two elements at least, and this HL01 and HL04
 pub record Written (s : Bytes) (separator start len : ℕ) (id mark : Bytes) : Type 0 where
@@ -90,7 +90,7 @@ module _ (s : Bytes) (separator : ℕ) (segments levels : List ℕ) where
       rw all
 
   -- tables that hold the levels of HL segments tell of them
-  pub told-right : (hs : List (ℕ × Claim)) → EntitledAll hs → length hs ≤ length levels / 4
+  pub told-right : (hs : List (ℕ × Claim)) → AllKept nonconformance hs → length hs ≤ length levels / 4
       → HeldAll s separator segments levels (levelsOf nonconformance hs) → told s separator segments levels (length hs) ≡ levelsOf nonconformance hs
   told-right hs e room h =
       told-upto (length hs) room ∙ ap (toldUpTo s separator segments levels) (sym (levels-length nonconformance hs))

@@ -15,6 +15,7 @@ use Rattle.text.specs.Pieces.{before, pieces}
 use Rattle.text.specs.View.{viewOf, empty, elementOf}
 use Rattle.text.specs.declared.separators.Separators.{Separators}
 use Rattle.text.proofs.Bools.{both, first-of, second-of, and-assoc, and-true, or-false}
+use Rattle.text.proofs.Everys.{every-at}
 use Rattle.text.proofs.Pieces.{pieces-some}
 use Rattle.elements.specs.Checks.{each, Keeps}
 use Rattle.elements.specs.Rules.{dataPiece, byteChecks}
@@ -39,13 +40,7 @@ pub every-of : {A : Type 0} (f : A → Bool) (l : List A) (d : A) → ((k : ℕ)
 every-of f [] d h = tt
 every-of f (x ∷ l) d h = both (f x) (every f l) (h 0 (omega arith)) (every-of f l d (λ k u. h (suc k) (omega arith)))
 
--- and only then
-pub every-at : {A : Type 0} (f : A → Bool) (l : List A) (d : A) → T (every f l) → (k : ℕ) → k < length l → T (f (getD l k d))
-every-at f [] d t k h = absurd (omega arith)
-every-at f (x ∷ l) d t zero h = first-of (f x) (every f l) t
-every-at f (x ∷ l) d t (suc k) h = every-at f l d (second-of (f x) (every f l) t) k (omega arith)
-
--- at one in the middle of the list
+-- a test that passes at every one passes at one in the middle of the list
 pub every-middle : {A : Type 0} (f : A → Bool) (xs : List A) (y : A) (ys : List A) → T (every f (xs ++ y ∷ ys)) → T (f y)
 every-middle f [] y ys t = first-of (f y) (every f ys) t
 every-middle f (x ∷ xs) y ys t = every-middle f xs y ys (second-of (f x) (every f (xs ++ y ∷ ys)) t)

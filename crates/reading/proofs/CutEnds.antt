@@ -15,11 +15,12 @@ use borrow.Author.Tests.{eq-eqb, ne-eqb, le-leb}
 use Rattle.text.specs.Bytes.{Bytes, every}
 use Rattle.text.specs.Pieces.{Free, before, pieces}
 use Rattle.text.specs.View.{present, elementCount}
+use Rattle.text.proofs.Everys.{every-at}
 use Rattle.text.proofs.Bools.{both, first-of, second-of, or-left, or-right, or-false, and-true}
 use Rattle.text.proofs.Pieces.{pieces-some}
 use Rattle.elements.specs.Checks.{each, Keeps}
 use Rattle.elements.specs.Rules.{lastFilled, endsWell, endChecks}
-use Rattle.reading.proofs.CutBytes.{keeps-of, keeps-at, every-of, every-at, every-snoc}
+use Rattle.reading.proofs.CutBytes.{keeps-of, keeps-at, every-of, every-snoc}
 
 -- there is a byte
 abbrev pub filled : Bytes → Bool

@@ -21,14 +21,14 @@ use Rattle.elements.specs.Checks.{Keeps}
 use Rattle.elements.specs.Rules.{ruleOf, headed, tooManyChecks, missingChecks, unfitChecks, noteChecks, checksBy, ruledChecks}
 use Rattle.levels.specs.Levels.{Claim, claimOf}
 use Rattle.levels.proofs.Calling.{Everyone}
-use Rattle.levels.proofs.Depth.{EntitledAll, Within4, depth-at-most-4}
+use Rattle.levels.proofs.Depth.{Within4, depth-at-most-4}
 use Rattle.levels.proofs.Telling.{Written}
 use Rattle.reading.specs.Profile.{nonconformance}
 use Rattle.reading.specs.Segments.{tagIn, onto, claims, levelsIn}
 use Rattle.reading.specs.Rules.{Kept, From}
 use Rattle.reading.proofs.Laws.{keeps-split}
 use Rattle.reading.proofs.Texts.{element-piece, tag-of-view, each-at, hl-rules, hl-claim}
-use Rattle.reading.proofs.WholeLevels.{AllKept, Leveled, from-kept}
+use Rattle.reading.proofs.WholeLevels.{Leveled, from-kept}
 
 -- the third element of an HL is there
 third-present : (v : View) → Keeps (checksBy rulesHL v) → T (present (elementOf v 3))
@@ -81,15 +81,12 @@ hl-written q fit s at g more w k e =
       mark-is = rw seg (sym (ap (λ (c : Claim). c .mark) claim));
     }
 
--- every level of segments that keep their rules has a depth of 1 to 4
-entitled : (ks : List (ℕ × Claim)) → AllKept (nonconformance .levels) ks → EntitledAll ks
-entitled [] a = tt
-entitled (k ∷ ks) a = (a .0, entitled ks (a .1))
-
+-- each segment that keeps its rules keeps those of levels
 leveled : (h vs : List View) → From (Kept nonconformance) h vs → From (Leveled nonconformance) h vs
 leveled h [] f = tt
 leveled h (v ∷ vs) f = (f .0 .level, leveled (v ∷ h) vs (f .1))
 
+-- so every level of segments that keep their rules has a depth of 1 to 4
 pub depths : (vs : List View) → From (Kept nonconformance) [] vs → Everyone Within4 (levelsIn nonconformance (onto [] vs))
 unfolding levelsIn
-depths vs f = depth-at-most-4 (claims (onto [] vs)) (entitled (claims (onto [] vs)) (from-kept nonconformance [] vs tt (leveled [] vs f)))
+depths vs f = depth-at-most-4 (claims (onto [] vs)) (from-kept nonconformance [] vs tt (leveled [] vs f))

@@ -89,6 +89,13 @@ pub verdict-cases : {C : Type 0} (d : Verdict) → (d ≡ Holds → C) → ((n e
 verdict-cases Holds f g = f refl
 verdict-cases (Faulty n e) f g = g n e refl
 
+-- 4
+pub judges-tag : {how : How} {s : Bytes} {starts : List ℕ} {notes : Notes} {g more : Bytes} (rows : List ℕ) (h : List View) (t : ℕ) → 34 ≤ t
+    → t ≡ tagNumber (notedElement s starts (notes .end) (notes .count) 0) → Fitted (how .separators) → Noted how s starts notes g more
+    → Judges rows h (viewOf (how .separators) g) (Broken 4 0)
+judges-tag {how} {g = g} rows h t l noted fit nt =
+    unknown-tag nonconformance rows h (viewOf (how .separators) g) (nt .data-only) (rw (← (noted ∙ tag-is nt fit)) l)
+
 module _ {how : How} {before : Tables} {s : Bytes} {segments levels : List ℕ} {at count row : ℕ} {again : Bool} {known : ℕ} {gs : List Placed} {rows : List ℕ}
     {starts : List ℕ} {notes : Notes} {g more : Bytes} (fit : Fitted (how .separators)) (nt : Noted how s starts notes g more)
     (st : Standing how before s segments levels at count row again known gs rows) (t : ℕ)
@@ -101,10 +108,6 @@ module _ {how : How} {before : Tables} {s : Bytes} {segments levels : List ℕ} 
 
   tag-known : t ≡ tagIn v
   tag-known = tag-noted ∙ tag-is nt fit
-
-  -- 4
-  pub judges-tag : 34 ≤ t → Judges rows h v (Broken 4 0)
-  judges-tag l = unknown-tag nonconformance rows h v (nt .data-only) (rw (← tag-known) l)
 
   module _ (small : t < 34) where
     known-tag : tagIn v < 34

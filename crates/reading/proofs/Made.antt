@@ -13,7 +13,7 @@ use Rattle.text.specs.Separators.{isDigit, isCapital, isSmall, mayServe, isSepa
 use Rattle.text.specs.View.{View, empty, present, elementOf, unseparated, wellFormed}
 use Rattle.text.specs.declared.separators.Separators.{Separators}
 use Rattle.text.proofs.Bools.{both, first-of, second-of, or-right, or-cases}
-use Rattle.text.proofs.Everys.{every-weaker, every-at}
+use Rattle.text.proofs.Everys.{every-weaker, every-anywhere}
 use Rattle.text.proofs.View.{Fitted}
 use Rattle.rows.specs.Tags.{tag, tagNumber}
 use Rattle.elements.specs.Types.{isId, isNumber, fits}
@@ -126,7 +126,7 @@ line-bytes : (name : String) (texts : List Bytes) → T (every (every printable)
 unfolding byteChecks
 line-bytes name texts h =
     each-by 5 0 (length (line name texts)) (λ (k : ℕ). dataPiece (elementOf (line name texts) k))
-    (every-at dataPiece (line name texts) empty tt (line-every (every printable) (bytes name ∷ texts) h))
+    (every-anywhere dataPiece (line name texts) empty tt (line-every (every printable) (bytes name ∷ texts) h))
 
 -- an element of the line that is present ends with a byte
 ends-present : (s : Bytes) (last : Bool) → 1 ≤ length s → T (cond (present (s ∷ [])) (leb 1 (length s)) last)

@@ -16,7 +16,7 @@ use Rattle.text.specs.View.{Piece, View, empty, present, elementOf, unseparated
 use Rattle.text.specs.declared.separators.Separators.{Separators}
 use Rattle.text.proofs.Bools.{both, first-of, second-of, passes, fails}
 use Rattle.text.proofs.Sames.{same-equal, same-self}
-use Rattle.text.proofs.Everys.{every-at}
+use Rattle.text.proofs.Everys.{every-anywhere}
 use Rattle.rows.specs.Tags.{tag, tagNumber}
 use Rattle.elements.specs.Types.{fits}
 use Rattle.elements.specs.Data.{Rules, value, rulesST, rulesHL}
@@ -68,8 +68,8 @@ element-text q least most v k b u t f =
     let s = textOf p in
     let z = piece-sized least most p t f in
     record {
-      printed = every-at (every printable) p [] tt (element-printed v b k) 0;
-      free = every-at (every (noSeparator q)) p [] tt (every-at (every (every (noSeparator q))) v empty tt u k) 0;
+      printed = every-anywhere (every printable) p [] tt (element-printed v b k) 0;
+      free = every-anywhere (every (noSeparator q)) p [] tt (every-anywhere (every (every (noSeparator q))) v empty tt u k) 0;
       long = leb→le least (length s) (first-of (leb least (length s)) (leb (length s) most) z);
       short = leb→le (length s) most (second-of (leb least (length s)) (leb (length s) most) z);
     }

@@ -18,15 +18,13 @@ use Rattle.reading.specs.Profile.{nonconformance}
 use Rattle.reading.specs.Segments.{seen, onto}
 use Rattle.reading.specs.Records.{Tables, Room}
 use Rattle.reading.specs.Judgements.{Judges, Sound}
-use Rattle.reading.specs.Settling.{stateAfter, refusedAt, Settling, Stands, Settles}
-use Rattle.reading.specs.declared.answer.Answer.the-variants.{Accepted}
+use Rattle.reading.specs.Settling.{stateAfter, refusedAt, acceptedAt, Settling, Stands, Settles}
 use Rattle.reading.specs.declared.how.How.{How}
 use Rattle.reading.specs.declared.judging.Judgement.{Judgement}
 use Rattle.reading.specs.declared.judging.Judgement.the-variants.{Broken, Plain, Level, Last}
 use Rattle.reading.specs.declared.judging.Notes.{Notes}
 use Rattle.reading.specs.declared.judging.State.{State}
 use Rattle.reading.specs.declared.settling.Step.{Step}
-use Rattle.reading.specs.declared.settling.Step.the-variants.{Done}
 use Rattle.reading.proofs.Laws.{kept-sound}
 use Rattle.reading.proofs.Standings.{standing-refuses, no-segment-room, no-level-room, standing-plain, standing-level, standing-closes, history-long}
 
@@ -46,6 +44,10 @@ module _ {how : How} {before : Tables} {s : Bytes} {segments levels : List ℕ} 
 
   abbrev h : List View
   h = onto [] (seen how gs)
+
+  -- the same for what the judgement is
+  pub judged-so : (k : Judgement) → j ≡ k → Settling how before s segments levels notes state gs rows g more k
+  judged-so k q = subst (λ (x : Judgement). Settling how before s segments levels notes state gs rows g more x) q t
 
   -- what the judgement says
   says : (k : Judgement) → j ≡ k → Judges rows h v k
@@ -129,8 +131,8 @@ module _ {how : How} {before : Tables} {s : Bytes} {segments levels : List ℕ} 
   -- accepted
   pub settles-last : (row : ℕ) → j ≡ Last row → state .count < length segments / 3 → (segments′ : List ℕ)
       → segments′ ≡ storedAt 3 segments (state .count) (notes .at ∷ (notes .end - notes .at) ∷ row ∷ [])
-      → Settles how before s notes segments′ levels (Done (Accepted (state .count + 1) (state .known) (notes .end + 1)))
-  settles-last row q room segments′ stored =
+      → (r : Step) → r ≡ acceptedAt notes state → Settles how before s notes segments′ levels r
+  settles-last row q room segments′ stored r is =
       let p = says (Last row) q in
-      rw (stored, long, ← next-at)
+      rw (is, stored, long, ← next-at)
       (standing-closes (t .standing) g more (t .cut) (t .whole) row (p .0 .kept) (p .0 .fits) (p .1) (p .2) room)

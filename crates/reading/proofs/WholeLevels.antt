@@ -17,16 +17,12 @@ use Rattle.elements.specs.Checks.{Keeps}
 use Rattle.levels.specs.Profile.{LevelProfile}
 use Rattle.levels.specs.Levels.{Claim, claimOf, Level, parentOf, levelsOf}
 use Rattle.levels.specs.Rules.{levelChecks, filledFrom, filled}
+use Rattle.levels.proofs.Depth.{AllKept}
 use Rattle.reading.specs.Profile.{Profile}
 use Rattle.reading.specs.Segments.{isHL, onto, addClaim, claims, levelsIn}
 use Rattle.reading.specs.Rules.{hlChecks, From}
 use Rattle.reading.specs.Meets.{putIf, hls, hlAt, LevelsMeet}
 use Rattle.reading.proofs.OneLevel.{Tells, Distinct, Stands, levels-length, one-place, parent-named, named-parent, keeps-stands, stands-keeps}
-
--- each HL keeps its tests after those before it
-abbrev pub AllKept : LevelProfile → List (ℕ × Claim) → Type 0
-AllKept profile [] = Unit {0}
-AllKept profile (k ∷ ks) = Keeps (levelChecks profile (levelsOf profile ks) (k .1)) × AllKept profile ks
 
 -- level j is a child of level i
 abbrev Child : List Claim → ℕ → ℕ → Type 0

@@ -1,6 +1,6 @@
 -- What the reader's judging functions promise each other: the next segment by the notes of one pass, and what a judgement says of it.
 -- Assumes nothing.
-use Prim.Native.Nat.{ℕ, suc, _+_, _-_, _≤_}
+use Prim.Native.Nat.{ℕ, suc, _+_, _-_, _≤_, _<_}
 use mathlib.Core.Path.{_≡_}
 use mathlib.Core.Bool.{true, false, not, cond}
 use mathlib.Core.List.{List, [], _∷_, _++_}
@@ -10,6 +10,9 @@ use Rattle.text.specs.Bytes.{Bytes, same}
 use Rattle.text.specs.Pieces.{Free, pieces}
 use Rattle.text.specs.View.{View, viewOf}
 use Rattle.text.specs.Lookup.{pieceSpan}
+use Rattle.text.specs.Cut.{Placed}
+use Rattle.text.proofs.View.{Fitted}
+use Rattle.rows.specs.Tags.{tagNumber}
 use Rattle.rows.specs.Following.{Fits}
 use Rattle.elements.specs.Types.{numberOf}
 use Rattle.elements.specs.Checks.{Check, check, firstBroken, Keeps}
@@ -23,8 +26,10 @@ use Rattle.levels.specs.declared.judging.Judged.{Judged}
 use Rattle.levels.specs.declared.judging.Judged.the-variants.{Entitled, Refused}
 use Rattle.levels.specs.Told.{told}
 use Rattle.reading.specs.Profile.{nonconformance}
-use Rattle.reading.specs.Segments.{tagIn, isHL, isSE, levelsIn}
+use Rattle.reading.specs.Segments.{tagIn, isHL, isSE, seen, onto, levelsIn}
 use Rattle.reading.specs.Rules.{rules, FirstBroken, Kept}
+use Rattle.reading.specs.Records.{Tables}
+use Rattle.reading.specs.Standing.{Standing}
 use Rattle.reading.specs.declared.how.How.{How}
 use Rattle.reading.specs.declared.judging.Judgement.{Judgement}
 use Rattle.reading.specs.declared.judging.Judgement.the-variants.{Broken, Plain, Level, Last}
@@ -115,3 +120,16 @@ Judges rows h v (Level r parent depth code) =
     × (suc (length h) ∷ parent ∷ depth ∷ code ∷ []
     ≡ recordOf (levelOf (nonconformance .levels) (suc (length h)) (claimOf v) (levelsIn nonconformance h)))
 Judges rows h v (Last r) = Sound rows h v r × (isHL v ≡ false) × T (isSE v)
+
+-- where the notes are right and the reader stands before the segment, the judgement says what the rules say
+abbrev pub JudgesNext : How → Bytes → List ℕ → Notes → State → (segments levels : List ℕ) → Judgement → Type 0
+JudgesNext how s starts notes state segments levels r =
+    (before : Tables) (gs : List Placed) (rows : List ℕ) (g more : Bytes) → Fitted (how .separators) → Noted how s starts notes g more
+    → Standing how before s segments levels (notes .at) (state .count) (state .row) (state .again) (state .known) gs rows
+    → Judges rows (onto [] (seen how gs)) (viewOf (how .separators) g) r
+
+-- the notes name a segment of this known tag that ends well
+pub record Known (s : Bytes) (starts : List ℕ) (notes : Notes) (tag : ℕ) : Type 0 where
+  pub tagged : tag ≡ tagNumber (notedElement s starts (notes .end) (notes .count) 0)
+  pub listed : tag < 34
+  pub ended : T (notes .ended)

@@ -18,9 +18,10 @@ use Rattle.reading.specs.Reads.{cutBy, Read}
 use Rattle.reading.specs.Standing.{Standing}
 use Rattle.reading.specs.Judgements.{Judges}
 use Rattle.reading.specs.declared.answer.Answer.{Answer}
-use Rattle.reading.specs.declared.answer.Answer.the-variants.{Refused}
+use Rattle.reading.specs.declared.answer.Answer.the-variants.{Accepted, Refused}
 use Rattle.reading.specs.declared.how.How.{How}
 use Rattle.reading.specs.declared.judging.Judgement.{Judgement}
+use Rattle.reading.specs.declared.judging.Judgement.the-variants.{Plain, Level, Last}
 use Rattle.reading.specs.declared.judging.Notes.{Notes}
 use Rattle.reading.specs.declared.judging.State.{State}
 use Rattle.reading.specs.declared.settling.Step.{Step}
@@ -33,6 +34,10 @@ stateAfter state row known = record { count = state .count + 1; row = row; again
 -- a refusal at the segment
 abbrev pub refusedAt : ℕ → Notes → State → ℕ → Step
 refusedAt number notes state element = Done (Refused number (state .count + 1) (notes .at) element)
+
+-- acceptance with the segment as the last
+abbrev pub acceptedAt : Notes → State → Step
+acceptedAt notes state = Done (Accepted (state .count + 1) (state .known) (notes .end + 1))
 
 -- the bytes from `at` to `end`
 abbrev pub between : Bytes → ℕ → ℕ → Bytes
@@ -70,3 +75,19 @@ pub record Stands (how : How) (before : Tables) (s : Bytes) (segments levels : L
 abbrev pub Settles : How → Tables → Bytes → Notes → List ℕ → List ℕ → Step → Type 0
 Settles how before s notes segments levels (Done answer) = Read nonconformance how s before answer (record { segments = segments; levels = levels })
 Settles how before s notes segments levels (Passed state) = Stands how before s segments levels (notes .end + 1) state
+
+-- where the segment is so judged, the step is right, and so is what the tables hold afterwards
+abbrev pub SettlesBy : Judgement → Notes → State → (segments levels segments′ levels′ : List ℕ) → Step → Type 0
+SettlesBy judgement notes state segments levels segments′ levels′ r =
+    (how : How) (before : Tables) (s : Bytes) (gs : List Placed) (rows : List ℕ) (g more : Bytes)
+    → Settling how before s segments levels notes state gs rows g more judgement → Settles how before s notes segments′ levels′ r
+
+-- of a segment that makes no level, of one that makes a level, and of the last; without a level the level table stays
+abbrev pub SettlesPlain : ℕ → Notes → State → (segments segments′ : List ℕ) → Step → Type 0
+SettlesPlain row notes state segments segments′ r = (levels : List ℕ) → SettlesBy (Plain row) notes state segments levels segments′ levels r
+
+abbrev pub SettlesLevel : (row parent depth code : ℕ) → Notes → State → (segments levels segments′ levels′ : List ℕ) → Step → Type 0
+SettlesLevel row parent depth code = SettlesBy (Level row parent depth code)
+
+abbrev pub SettlesLast : ℕ → Notes → State → (segments segments′ : List ℕ) → Step → Type 0
+SettlesLast row notes state segments segments′ r = (levels : List ℕ) → SettlesBy (Last row) notes state segments levels segments′ levels r

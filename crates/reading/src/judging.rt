@@ -1,11 +1,7 @@
 // Judging the next segment by the rules, in order.
 ghost use mathlib.Core.Path.{_≡_};
-ghost use mathlib.Core.List.{List, []};
-ghost use Prim.Native.Nat.{ℕ, _+_};
-ghost use Rattle.text.specs.Bytes.{Bytes, same};
+ghost use Rattle.text.specs.Bytes.{same};
 ghost use Rattle.text.specs.View.{viewOf};
-ghost use Rattle.text.specs.Cut.{Placed};
-ghost use Rattle.text.proofs.View.{Fitted};
 ghost use Rattle.rows.specs.Tags.{tagNumber};
 ghost use Rattle.rows.specs.Next.{nextTable};
 ghost use Rattle.elements.specs.Checks.{firstBroken};
@@ -14,10 +10,7 @@ ghost use Rattle.elements.specs.Rules.{endChecks};
 ghost use Rattle.levels.specs.Profile.{nonconformance};
 ghost use Rattle.levels.specs.Rules.{judged};
 ghost use Rattle.levels.specs.Told.{told};
-ghost use Rattle.reading.specs.Segments.{seen, onto};
-ghost use Rattle.reading.specs.Records.{Tables};
-ghost use Rattle.reading.specs.Standing.{Standing};
-ghost use Rattle.reading.specs.Judgements.{notedClaim, openingControl, notedClosing, Inside, segmentOf, brokenBy, JudgesLate, Noted, Judges};
+ghost use Rattle.reading.specs.Judgements.{notedClaim, openingControl, notedClosing, Inside, segmentOf, brokenBy, JudgesLate, Known, JudgesNext};
 use crate::how::How;
 use elements::ruled;
 use elements::segment;
@@ -211,8 +204,8 @@ fn judge_late(
     Judgement::Plain(row)
 }
 
-// What the rules say of the next segment, after what the reader stands at.
-pub(crate) fn judge(
+// The rules of rows and of elements, then the late ones, for a segment of a known tag that ends well.
+fn judge_known(
     s: &[u8],
     how: How,
     table: &[u8; 2686],
@@ -221,21 +214,12 @@ pub(crate) fn judge(
     state: State,
     segments: &[u64],
     levels: &[u64],
+    tag: u8,
 ) -> Judgement
     requires { ⌜ now table ≡ nextTable ⌝ }
-    requires { ⌜ Inside (now s) notes ⌝ }
-    ensures { λ r. ⌜ ((before : Tables) (gs : List Placed) (rows : List ℕ) (g more : Bytes)
-        → Fitted (how .separators) → Noted how (now (s .entry)) (now (starts .entry)) notes g more
-        → Standing how before (now (s .entry)) (now (segments .entry)) (now (levels .entry)) (notes .at) (state .count) (state .row) (state .again) (state .known) gs rows
-        → Judges rows (onto [] (seen how gs)) (viewOf (how .separators) g) r) ⌝ }
+    requires { ⌜ Known (now s) (now starts) notes tag ⌝ }
+    ensures { λ r. ⌜ JudgesNext how (now (s .entry)) (now (starts .entry)) notes state (now (segments .entry)) (now (levels .entry)) r ⌝ }
 {
-    let tag = tag_of(s, starts, notes);
-    if tags::NO_TAG <= tag {
-        return Judgement::Broken(4, 0);
-    }
-    if !notes.ended {
-        return bad_end(s, how, notes);
-    }
     let row = next::row_after(table, state.row, state.again, tag);
     if row == 0 {
         return Judgement::Broken(7, 0);
@@ -252,4 +236,29 @@ pub(crate) fn judge(
         Verdict::Broken(number, element) => Judgement::Broken(number, element),
         Verdict::Holds => judge_late(s, how, starts, notes, state, segments, levels, tag, row),
     }
+}
+
+// What the rules say of the next segment, after what the reader stands at.
+pub(crate) fn judge(
+    s: &[u8],
+    how: How,
+    table: &[u8; 2686],
+    starts: &[usize; 33],
+    notes: Notes,
+    state: State,
+    segments: &[u64],
+    levels: &[u64],
+) -> Judgement
+    requires { ⌜ now table ≡ nextTable ⌝ }
+    requires { ⌜ Inside (now s) notes ⌝ }
+    ensures { λ r. ⌜ JudgesNext how (now (s .entry)) (now (starts .entry)) notes state (now (segments .entry)) (now (levels .entry)) r ⌝ }
+{
+    let tag = tag_of(s, starts, notes);
+    if tags::NO_TAG <= tag {
+        return Judgement::Broken(4, 0);
+    }
+    if !notes.ended {
+        return bad_end(s, how, notes);
+    }
+    judge_known(s, how, table, starts, notes, state, segments, levels, tag)
 }

@@ -1,14 +1,9 @@
 // What a judgement does: the answer where the reading ends, else the records of the segment, stored where there is room.
 ghost use mathlib.Core.Path.{_≡_};
-ghost use mathlib.Core.List.{List};
-ghost use Prim.Native.Nat.{ℕ, _/_, _≤_, _<_};
+ghost use Prim.Native.Nat.{_/_, _≤_, _<_};
 ghost use lib.ListN.{length};
-ghost use Rattle.text.specs.Bytes.{Bytes};
-ghost use Rattle.text.specs.Cut.{Placed};
-ghost use Rattle.reading.specs.Records.{Tables};
-ghost use Rattle.reading.specs.Settling.{stateAfter, refusedAt, InRoom, Settling, Settles};
+ghost use Rattle.reading.specs.Settling.{stateAfter, refusedAt, acceptedAt, InRoom, SettlesBy, SettlesPlain, SettlesLevel, SettlesLast};
 use crate::answer::Answer;
-use crate::how::How;
 use crate::judging::Judgement;
 use crate::judging::Notes;
 use crate::judging::State;
@@ -48,7 +43,72 @@ fn refusal(number: usize, notes: Notes, state: State, element: usize) -> Step
     })
 }
 
-// The judgement on the segment that the notes name.
+// Acceptance with this segment as the last: how many segments and levels there are, and the bytes up to its terminator.
+fn acceptance(notes: Notes, state: State) -> Step
+    requires { ⌜ notes .end < 9000000000000000000 ⌝ }
+    requires { ⌜ state .count < 9000000000000000000 ⌝ }
+    ensures { λ r. ⌜ r ≡ acceptedAt notes state ⌝ }
+{
+    Step::Done(Answer::Accepted {
+        segments: state.count + 1,
+        levels: state.known,
+        bytes: notes.end + 1,
+    })
+}
+
+// Passes a segment that makes no level, where there is room for its record.
+fn pass_plain(row: u8, notes: Notes, state: State, segments: &mut [u64]) -> Step
+    requires { ⌜ notes .at ≤ notes .end ⌝ }
+    requires { ⌜ state .count ≤ length (now segments) / 3 ⌝ }
+    ensures { λ r. ⌜ SettlesPlain row notes state (now (segments .entry)) (now (segments .exit)) r ⌝ }
+{
+    if !storing::segment_room(segments, state.count) {
+        return refusal(17, notes, state, 0);
+    }
+    storing::put_segment(segments, state.count, notes.at, notes.end - notes.at, row);
+    Step::Passed(after(state, row, state.known))
+}
+
+// Passes a segment that makes a level, where there is room for both records.
+fn pass_level(
+    row: u8,
+    parent: usize,
+    depth: usize,
+    code: usize,
+    notes: Notes,
+    state: State,
+    segments: &mut [u64],
+    levels: &mut [u64],
+) -> Step
+    requires { ⌜ InRoom (now segments) (now levels) notes state ⌝ }
+    ensures { λ r. ⌜ SettlesLevel row parent depth code notes state (now (segments .entry)) (now (levels .entry)) (now (segments .exit)) (now (levels .exit)) r ⌝ }
+{
+    if !storing::segment_room(segments, state.count) {
+        return refusal(17, notes, state, 0);
+    }
+    if !storing::level_room(levels, state.known) {
+        return refusal(17, notes, state, 0);
+    }
+    storing::put_segment(segments, state.count, notes.at, notes.end - notes.at, row);
+    storing::put_level(levels, state.known, state.count + 1, parent, depth, code);
+    Step::Passed(after(state, row, state.known + 1))
+}
+
+// Accepts with this segment as the last, where there is room for its record.
+fn close(row: u8, notes: Notes, state: State, segments: &mut [u64]) -> Step
+    requires { ⌜ notes .at ≤ notes .end ⌝ }
+    requires { ⌜ notes .end < 1048576 ⌝ }
+    requires { ⌜ state .count ≤ length (now segments) / 3 ⌝ }
+    ensures { λ r. ⌜ SettlesLast row notes state (now (segments .entry)) (now (segments .exit)) r ⌝ }
+{
+    if !storing::segment_room(segments, state.count) {
+        return refusal(17, notes, state, 0);
+    }
+    storing::put_segment(segments, state.count, notes.at, notes.end - notes.at, row);
+    acceptance(notes, state)
+}
+
+// What the judgement on the segment that the notes name does.
 pub(crate) fn settle(
     judgement: Judgement,
     notes: Notes,
@@ -57,41 +117,14 @@ pub(crate) fn settle(
     levels: &mut [u64],
 ) -> Step
     requires { ⌜ InRoom (now segments) (now levels) notes state ⌝ }
-    ensures { λ r. ⌜ ((how : How) (before : Tables) (s : Bytes) (gs : List Placed) (rows : List ℕ) (g more : Bytes)
-        → Settling how before s (now (segments .entry)) (now (levels .entry)) notes state gs rows g more judgement
-        → Settles how before s notes (now (segments .exit)) (now (levels .exit)) r) ⌝ }
+    ensures { λ r. ⌜ SettlesBy judgement notes state (now (segments .entry)) (now (levels .entry)) (now (segments .exit)) (now (levels .exit)) r ⌝ }
 {
-    let len = notes.end - notes.at;
     match judgement {
         Judgement::Broken(number, element) => refusal(number, notes, state, element),
-        Judgement::Plain(row) => {
-            if !storing::segment_room(segments, state.count) {
-                return refusal(17, notes, state, 0);
-            }
-            storing::put_segment(segments, state.count, notes.at, len, row);
-            Step::Passed(after(state, row, state.known))
-        }
+        Judgement::Plain(row) => pass_plain(row, notes, state, segments),
         Judgement::Level(row, parent, depth, code) => {
-            if !storing::segment_room(segments, state.count) {
-                return refusal(17, notes, state, 0);
-            }
-            if !storing::level_room(levels, state.known) {
-                return refusal(17, notes, state, 0);
-            }
-            storing::put_segment(segments, state.count, notes.at, len, row);
-            storing::put_level(levels, state.known, state.count + 1, parent, depth, code);
-            Step::Passed(after(state, row, state.known + 1))
+            pass_level(row, parent, depth, code, notes, state, segments, levels)
         }
-        Judgement::Last(row) => {
-            if !storing::segment_room(segments, state.count) {
-                return refusal(17, notes, state, 0);
-            }
-            storing::put_segment(segments, state.count, notes.at, len, row);
-            Step::Done(Answer::Accepted {
-                segments: state.count + 1,
-                levels: state.known,
-                bytes: notes.end + 1,
-            })
-        }
+        Judgement::Last(row) => close(row, notes, state, segments),
     }
 }

@@ -3,7 +3,7 @@ ghost use mathlib.Core.Path.{_≡_};
 ghost use mathlib.Core.List.{[], _∷_};
 ghost use Prim.Native.Nat.{_/_, _<_};
 ghost use lib.Dec.{ltb};
-ghost use lib.ListN.{length};
+ghost use lib.ListN.{length, set};
 ghost use Rattle.levels.specs.Told.{storedAt};
 
 // Whether the segment table has room for one record behind the first n.
@@ -20,15 +20,23 @@ pub(crate) fn level_room(levels: &[u64], n: usize) -> bool
     n < levels.len() / 4
 }
 
+// Stores one number of a record.
+fn store(table: &mut [u64], at: usize, number: usize)
+    requires { ⌜ at < length (now table) ⌝ }
+    ensures { λ _. ⌜ now (table .exit) ≡ set (now (table .entry)) at number ⌝ }
+{
+    table[at] = number as u64;
+}
+
 // Start, length and row of a segment, behind the first n records.
 pub(crate) fn put_segment(segments: &mut [u64], n: usize, start: usize, len: usize, row: u8)
     requires { ⌜ n < length (now segments) / 3 ⌝ }
     ensures { λ _. ⌜ now (segments .exit) ≡ storedAt 3 (now (segments .entry)) n (start ∷ len ∷ row ∷ []) ⌝ }
 {
     let at = n * 3;
-    segments[at] = start as u64;
-    segments[at + 1] = len as u64;
-    segments[at + 2] = row as u64;
+    store(segments, at, start);
+    store(segments, at + 1, len);
+    store(segments, at + 2, row as usize);
 }
 
 // Segment number, parent's level number, depth and code of a level, behind the first n records.
@@ -44,8 +52,8 @@ pub(crate) fn put_level(
     ensures { λ _. ⌜ now (levels .exit) ≡ storedAt 4 (now (levels .entry)) n (segment ∷ parent ∷ depth ∷ code ∷ []) ⌝ }
 {
     let at = n * 4;
-    levels[at] = segment as u64;
-    levels[at + 1] = parent as u64;
-    levels[at + 2] = depth as u64;
-    levels[at + 3] = code as u64;
+    store(levels, at, segment);
+    store(levels, at + 1, parent);
+    store(levels, at + 2, depth);
+    store(levels, at + 3, code);
 }

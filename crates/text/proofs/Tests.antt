@@ -3,7 +3,7 @@
 use Prim.Native.Nat.{ℕ, zero, suc, _+_, _≤_, _<_}
 use mathlib.Core.Path.{_≡_, refl, sym, _∙_}
 use mathlib.Core.Bool.{Bool, true, false, _&&_}
-use mathlib.Core.List.{List, [], _∷_}
+use mathlib.Core.List.{List}
 use native.Mathlib.Omega.{arith}
 use native.Mathlib.Numerals.{add-one}
 use lib.ListN.{length, drop, getD, drop-of-length-le}
@@ -19,12 +19,6 @@ pub and-second : (a b : Bool) → a && b ≡ true → b ≡ true
 and-second true b e = e
 and-second false true e = refl
 and-second false false e = e
-
--- what passes everywhere passes at each place
-pub every-at : {A : Type 0} (f : A → Bool) (d : A) (s : List A) (k : ℕ) → every f s ≡ true → k < length s → f (getD s k d) ≡ true
-every-at f d [] k e l = absurd (omega arith)
-every-at f d (x ∷ s) zero e l = and-first (f x) (every f s) e
-every-at f d (x ∷ s) (suc k) e l = every-at f d s k (and-second (f x) (every f s) e) (omega arith)
 
 -- a loop that has passed i of the list: the test of the whole is that of the rest
 pub record Passing {A : Type 0} (f : A → Bool) (s : List A) (i : ℕ) : Type 0 where

@@ -1,5 +1,6 @@
 -- `noted_element` meets its contract.
 -- Assumes nothing.
+use mathlib.Core.Path.{refl}
 use borrow.Author.Tests.{le-ltb, lt-ltb}
 use borrow.Author.Needs.{needs}
 use Rattle.elements.proofs.ruled.noted_element.Statement.{statement}
@@ -15,13 +16,13 @@ part-result-end : tie.Need-part-result-end
 part-result-end c = search needs
 
 returns : tie.Need-returns
-returns c = rw (le-ltb _ _ (c .before .if1 .taken))
+returns c = rw (le-ltb _ 32 (c .before .if1 .taken)) refl
 
 element-requires : tie.Need-element-requires
 element-requires c κs = search needs
 
 returns-2 : tie.Need-returns-2
-returns-2 c = rw (lt-ltb _ _ (c .before .if1 .left)) (c .element .ensures)
+returns-2 c = rw (lt-ltb _ 32 (c .before .if1 .left)) (c .element .ensures)
 
 pub noted-element-spec : {M : Type 1} → statement M
 noted-element-spec =

@@ -30,9 +30,6 @@ returns c =
     (λ l. at-past _ _ _ _ _ _ 5 l)
     (sym (c .before .is-few .ensures) ∙ not-true (c .before .is-few .result) (c .if1 .taken))
 
-add-t11 : tie.Need-add-t11
-add-t11 c = search needs
-
 returns-2 : tie.Need-returns-2
 returns-2 c = too-many-past (c .before .before .before .before .args .tag) (c .before .before .before .before .args .count)
     (at (c .before .before .before .before)) (few (c .before)) _ (c .before .before .before .before .pre) (c .if2 .taken)
@@ -40,6 +37,9 @@ returns-2 c = too-many-past (c .before .before .before .before .args .tag) (c .b
 returns-3 : tie.Need-returns-3
 returns-3 c = few-all (c .before .before .before .before .args .tag) (c .before .before .before .before .args .count)
     (at (c .before .before .before .before)) (few (c .before)) (rw (c .before .before .before .before .pre) at (c .if2 .left))
+
+add-t11 : tie.Need-add-t11
+add-t11 c = search needs
 
 pub too-many-spec : {M : Type 1} → statement M
 too-many-spec = tie.close (tie.spec is-few-requires returns add-t11 returns-2 returns-3)

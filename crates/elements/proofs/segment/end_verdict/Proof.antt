@@ -1,7 +1,9 @@
 -- `end_verdict` meets its contract: the elements that end before i end well.
 -- Assumes nothing.
 use Prim.Native.Nat.{_-_}
-use mathlib.Core.Path.{sym, _∙_}
+use mathlib.Core.Path.{_≡_, sym, _∙_}
+use mathlib.Core.Bool.{true, _||_}
+use lib.Dec.{eqb}
 use mathlib.Core.Logic.{⊎-elim}
 use lib.ListN.{length}
 use denote.Ref.{now}
@@ -44,7 +46,10 @@ loop-again c =
     (λ w. rw (w .1, w .2, w .3) (ended-other inv more (w .0 .left))) (c .if1 .came)
 
 returns-2 : tie.Need-returns-2 Inv-loop μ-loop
-returns-2 c = rw (c .if3 .taken) at (ended-all (c .before .before .loop .inv) (c .before .loop-test .left)) ∙ sym
+returns-2 c =
+    let at-end = c .before .before .loop in
+    let badly : (eqb (at-end .k) 0 || at-end .bare) || at-end .hollow ≡ true = c .if3 .taken in
+    rw badly at (ended-all (c .before .before .loop .inv) (c .before .loop-test .left)) ∙ sym
     (ends-pass (c .before .before .before .args .separators) (now (c .before .before .before .args .segment)))
 
 returns-3 : tie.Need-returns-3 Inv-loop μ-loop

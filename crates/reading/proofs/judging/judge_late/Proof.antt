@@ -1,6 +1,6 @@
 -- `judge_late` meets its contract.
 -- Assumes nothing.
-use mathlib.Core.Path.{sym, ap, _∙_}
+use mathlib.Core.Path.{refl, sym, ap, _∙_}
 use borrow.Author.Tests.{eq-eqb, ne-eqb}
 use Rattle.reading.specs.Judgements.{byLevel, byClosing}
 use borrow.Author.Needs.{needs}
@@ -46,7 +46,7 @@ returns-4 c =
     (ap (byClosing (c .before .before .before .before .before .before .before .before .before .args .row)) (sym (c .before .number2 .given .1) ∙ c .before .before .before .judge-se .ensures))
 
 returns-5 : tie.Need-returns-5
-returns-5 c = rw (ne-eqb _ _ (c .before .if1 .left), ne-eqb _ _ (c .if2 .left))
+returns-5 c = rw (ne-eqb _ _ (c .before .if1 .left), ne-eqb _ _ (c .if2 .left)) refl
 
 pub judge-late-spec : {M : Type 1} → statement M
 judge-late-spec =

@@ -1,8 +1,6 @@
 -- `put_level` meets its contract: the numbers are stored one after the other.
 -- Assumes nothing.
-use lib.ListN.{length-set}
 use Rattle.reading.proofs.Stores.{level-set}
-use native.Mathlib.Omega.{arith}
 use borrow.Author.Needs.{needs}
 use Rattle.reading.proofs.storing.put_level.Statement.{statement}
 use Rattle.reading.proofs.storing.put_level.Tie as tie
@@ -10,60 +8,45 @@ use Rattle.reading.proofs.storing.put_level.Tie as tie
 mul-at : tie.Need-mul-at
 mul-at c = search needs
 
-mul-levels : tie.Need-mul-levels
-mul-levels c = search needs
+store-requires : tie.Need-store-requires
+store-requires c κs = search needs
 
-slice-write-levels : tie.Need-slice-write-levels
-slice-write-levels c = search needs
+add-store : tie.Need-add-store
+add-store c = search needs
 
-add-levels : tie.Need-add-levels
-add-levels c = search needs
+store-requires-2 : tie.Need-store-requires-2
+store-requires-2 c κs = search needs
 
-mul-levels-2 : tie.Need-mul-levels-2
-mul-levels-2 c = search needs
+add-store-2 : tie.Need-add-store-2
+add-store-2 c = search needs
 
-slice-write-levels-2 : tie.Need-slice-write-levels-2
-slice-write-levels-2 c = simp length-set (omega arith)
+store-requires-3 : tie.Need-store-requires-3
+store-requires-3 c κs = search needs
 
-add-levels-2 : tie.Need-add-levels-2
-add-levels-2 c = search needs
+add-store-3 : tie.Need-add-store-3
+add-store-3 c = search needs
 
-mul-levels-3 : tie.Need-mul-levels-3
-mul-levels-3 c = search needs
-
-slice-write-levels-3 : tie.Need-slice-write-levels-3
-slice-write-levels-3 c = simp length-set (omega arith)
-
-add-levels-3 : tie.Need-add-levels-3
-add-levels-3 c = search needs
-
-mul-levels-4 : tie.Need-mul-levels-4
-mul-levels-4 c = search needs
-
-slice-write-levels-4 : tie.Need-slice-write-levels-4
-slice-write-levels-4 c = simp length-set (omega arith)
+store-requires-4 : tie.Need-store-requires-4
+store-requires-4 c κs = search needs
 
 same-length : tie.Need-same-length
 same-length c = search needs
 
 returns : tie.Need-returns
-returns c = level-set _ _ _ _ _ _ (c .pre)
+returns c =
+    rw (c .before .before .store4 .ensures, c .before .before .before .before .before .before .store3 .ensures, c .before .before .before .before .before .before .before .before .before .before .store2 .ensures, c .before .before .before .before .before .before .before .before .before .before .before .before .before .before .store .ensures) (level-set _ _ _ _ _ _ (c .before .before .before .before .before .before .before .before .before .before .before .before .before .before .before .before .before .pre))
 
 pub put-level-spec : {M : Type 1} → statement M
 put-level-spec =
     tie.close
     (tie.spec
     mul-at
-    mul-levels
-    slice-write-levels
-    add-levels
-    mul-levels-2
-    slice-write-levels-2
-    add-levels-2
-    mul-levels-3
-    slice-write-levels-3
-    add-levels-3
-    mul-levels-4
-    slice-write-levels-4
+    store-requires
+    add-store
+    store-requires-2
+    add-store-2
+    store-requires-3
+    add-store-3
+    store-requires-4
     same-length
     returns)

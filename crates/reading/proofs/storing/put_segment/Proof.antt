@@ -1,8 +1,6 @@
 -- `put_segment` meets its contract: the numbers are stored one after the other.
 -- Assumes nothing.
-use lib.ListN.{length-set}
 use Rattle.reading.proofs.Stores.{segment-set}
-use native.Mathlib.Omega.{arith}
 use borrow.Author.Needs.{needs}
 use Rattle.reading.proofs.storing.put_segment.Statement.{statement}
 use Rattle.reading.proofs.storing.put_segment.Tie as tie
@@ -10,48 +8,37 @@ use Rattle.reading.proofs.storing.put_segment.Tie as tie
 mul-at : tie.Need-mul-at
 mul-at c = search needs
 
-mul-segments : tie.Need-mul-segments
-mul-segments c = search needs
+store-requires : tie.Need-store-requires
+store-requires c κs = search needs
 
-slice-write-segments : tie.Need-slice-write-segments
-slice-write-segments c = search needs
+add-store : tie.Need-add-store
+add-store c = search needs
 
-add-segments : tie.Need-add-segments
-add-segments c = search needs
+store-requires-2 : tie.Need-store-requires-2
+store-requires-2 c κs = search needs
 
-mul-segments-2 : tie.Need-mul-segments-2
-mul-segments-2 c = search needs
+add-store-2 : tie.Need-add-store-2
+add-store-2 c = search needs
 
-slice-write-segments-2 : tie.Need-slice-write-segments-2
-slice-write-segments-2 c = simp length-set (omega arith)
-
-add-segments-2 : tie.Need-add-segments-2
-add-segments-2 c = search needs
-
-mul-segments-3 : tie.Need-mul-segments-3
-mul-segments-3 c = search needs
-
-slice-write-segments-3 : tie.Need-slice-write-segments-3
-slice-write-segments-3 c = simp length-set (omega arith)
+store-requires-3 : tie.Need-store-requires-3
+store-requires-3 c κs = search needs
 
 same-length : tie.Need-same-length
 same-length c = search needs
 
 returns : tie.Need-returns
-returns c = segment-set _ _ _ _ _ (c .pre)
+returns c =
+    rw (c .before .before .store3 .ensures, c .before .before .before .before .before .before .store2 .ensures, c .before .before .before .before .before .before .before .before .before .before .store .ensures) (segment-set _ _ _ _ _ (c .before .before .before .before .before .before .before .before .before .before .before .before .before .pre))
 
 pub put-segment-spec : {M : Type 1} → statement M
 put-segment-spec =
     tie.close
     (tie.spec
     mul-at
-    mul-segments
-    slice-write-segments
-    add-segments
-    mul-segments-2
-    slice-write-segments-2
-    add-segments-2
-    mul-segments-3
-    slice-write-segments-3
+    store-requires
+    add-store
+    store-requires-2
+    add-store-2
+    store-requires-3
     same-length
     returns)

@@ -1,6 +1,5 @@
 -- `element` meets its contract: the span lies within the slice, and the part is handed back.
 -- Assumes nothing.
-use native.Mathlib.Omega.{arith}
 use Rattle.text.proofs.Spans.{lies}
 use borrow.Author.Needs.{needs}
 use Rattle.text.proofs.lookup.element.Statement.{statement}
@@ -13,7 +12,7 @@ part-requires : tie.Need-part-requires
 part-requires c κs = rw (c .element-span .ensures) (lies _ _ _ .inside)
 
 returns : tie.Need-returns
-returns c = rw (← c .before .element-span .ensures) (c .part .ensures)
+returns c = rw (c .before .element-span .ensures) at (c .part .ensures)
 
 pub element-spec : {M : Type 1} → statement M
 element-spec = tie.close (tie.spec element-span-requires part-requires returns)

@@ -1,6 +1,6 @@
 -- `fit` meets its contract: each of the three may serve, and they differ.
 -- Assumes nothing.
-use native.Mathlib.Omega.{arith}
+use mathlib.Core.Path.{refl}
 use borrow.Author.Needs.{needs}
 use Rattle.text.proofs.separators.Separators.fit.Statement.{statement}
 use Rattle.text.proofs.separators.Separators.fit.Tie as tie
@@ -15,7 +15,7 @@ may-serve-requires-3 : tie.Need-may-serve-requires-3
 may-serve-requires-3 c κs = search needs
 
 returns : tie.Need-returns
-returns c = cc
+returns c = rw (c .before .before .before .may-serve3 .ensures, c .before .before .before .before .may-serve2 .ensures, c .before .before .before .before .before .may-serve .ensures) refl
 
 pub fit-spec : {M : Type 1} → statement M
 fit-spec =

@@ -1,0 +1,102 @@
+-- `pass_level` meets its contract: where there is room in both tables the reader stands behind the segment.
+-- Assumes nothing.
+use Prim.Native.Nat.{_/_, _<_}
+use mathlib.Core.Path.{refl}
+use native.Mathlib.Omega.{arith}
+use lib.ListN.{length}
+use Rattle.reading.proofs.Settles.{room, no-room, full-level, full-levels, settles-level}
+use borrow.Author.Needs.{needs}
+use Rattle.reading.proofs.settling.pass_level.Statement.{statement}
+use Rattle.reading.proofs.settling.pass_level.Tie as tie
+
+-- behind the test of the segment table there is room in it
+segment-fits : (c : tie.Else1) → c .before .before .before .before .before .args .state .count < length (c .before .before .before .before .before .args .segments .now) / 3
+segment-fits c = room (c .before .segment-room .result) _ _ (c .before .segment-room .ensures) (c .if1 .left)
+
+-- and behind that of the level table in that one
+level-fits : (c : tie.Else2) → c .before .before .before .before .before .before .before .before .args .state .known < length (c .before .before .before .before .before .before .before .before .args .levels .now) / 4
+level-fits c = room (c .before .level-room .result) _ _ (c .before .level-room .ensures) (c .if2 .left)
+
+segment-room-requires : tie.Need-segment-room-requires
+segment-room-requires c κs = search needs
+
+refusal-requires : tie.Need-refusal-requires
+refusal-requires c κs = search needs
+
+same-length : tie.Need-same-length
+same-length c = search needs
+
+returns : tie.Need-returns
+returns c = λ how before s gs rows g more t. full-level t _ _ _ _ refl (no-room (c .before .before .segment-room .result) _ _ (c .before .before .segment-room .ensures) (c .before .if1 .taken)) _ (c .refusal .ensures)
+
+level-room-requires : tie.Need-level-room-requires
+level-room-requires c κs = search needs
+
+refusal-requires-2 : tie.Need-refusal-requires-2
+refusal-requires-2 c κs = search needs
+
+same-length-2 : tie.Need-same-length-2
+same-length-2 c = search needs
+
+same-length-3 : tie.Need-same-length-3
+same-length-3 c = search needs
+
+returns-2 : tie.Need-returns-2
+returns-2 c = λ how before s gs rows g more t. full-levels t _ _ _ _ refl (no-room (c .before .before .level-room .result) _ _ (c .before .before .level-room .ensures) (c .before .if2 .taken)) _ (c .refusal2 .ensures)
+
+sub-put-segment : tie.Need-sub-put-segment
+sub-put-segment c = search needs
+
+put-segment-requires : tie.Need-put-segment-requires
+put-segment-requires c κs = segment-fits (c .before .before .before .before .before)
+
+add-put-level : tie.Need-add-put-level
+add-put-level c = search needs
+
+put-level-requires : tie.Need-put-level-requires
+put-level-requires c κs = level-fits (c .before .before .before .before .before .before .before)
+
+add-after : tie.Need-add-after
+add-after c =
+    let start = c .before .before .before .before .before .before .before .before .before .before .before .before .before .before .before .before .before .before .before in
+    let level : start .args .state .known < length (start .args .levels .now) / 4 = level-fits (c .before .before .before .before .before .before .before .before .before .before .before) in
+    record { fits = omega (arith, level, start .good .1 .1 .1 .1 .0) }
+
+after-requires : tie.Need-after-requires
+after-requires c κs =
+    let start = c .before .before .before .before .before .before .before .before .before .before .before .before .before .before .before .before .before .before .before in
+    let segment : start .args .state .count < length (start .args .segments .now) / 3 = segment-fits (c .before .before .before .before .before .before .before .before .before .before .before .before .before .before) in
+    omega (arith, segment, start .good .1 .1 .1 .0)
+
+same-length-4 : tie.Need-same-length-4
+same-length-4 c = search needs
+
+same-length-5 : tie.Need-same-length-5
+same-length-5 c = search needs
+
+returns-3 : tie.Need-returns-3
+returns-3 c = λ how before s gs rows g more t.
+    settles-level t _ _ _ _ refl (segment-fits (c .before .before .before .before .before .before .before .before .before .before .before .before .before .before .before)) (level-fits (c .before .before .before .before .before .before .before .before .before .before .before .before)) _ (c .before .before .before .before .before .before .before .before .before .put-segment .ensures) _ (c .before .before .before .before .put-level .ensures) _ (c .after .ensures)
+
+pub pass-level-spec : {M : Type 1} → statement M
+pass-level-spec =
+    tie.close
+    (tie.spec
+    segment-room-requires
+    refusal-requires
+    same-length
+    returns
+    level-room-requires
+    refusal-requires-2
+    same-length-2
+    same-length-3
+    returns-2
+    sub-put-segment
+    put-segment-requires
+    add-put-level
+    put-level-requires
+    add-after
+    after-requires
+    same-length-4
+    same-length-5
+    returns-3)
