@@ -13,11 +13,11 @@ use stormhlaw::raw::stormhlaw_read;
 const SEGMENT_NUMBERS: usize = 3 * 200_000;
 const LEVEL_NUMBERS: usize = 4 * 20_000;
 
-/// How many bytes one measurement reads at least, by repeating the input.
-const BYTES_A_MEASUREMENT: usize = 4_000_000;
+/// How many bytes one measurement reads at least, by repeating the input: little, so that some rounds are undisturbed.
+const BYTES_A_MEASUREMENT: usize = 200_000;
 
 /// How often each side is measured, unless the first argument says.
-const ROUNDS: usize = 25;
+const ROUNDS: usize = 300;
 
 /// The lent tables.
 #[derive(PartialEq)]
