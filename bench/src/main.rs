@@ -1,0 +1,118 @@
+//! The proved reader and a hand-written one on the same inputs, in turn: the best of several rounds of each, in MB a second.
+//! Before anything is timed, both must give the same answer and the same tables.
+
+mod inputs;
+
+use inputs::Input;
+use reference::{read, Separators};
+use std::hint::black_box;
+use std::time::Instant;
+use stormhlaw::raw::stormhlaw_read;
+
+/// Room for every segment and level of an input of 1 MB.
+const SEGMENT_NUMBERS: usize = 3 * 200_000;
+const LEVEL_NUMBERS: usize = 4 * 20_000;
+
+/// How many bytes one measurement reads at least, by repeating the input: little, so that some rounds are undisturbed.
+const BYTES_A_MEASUREMENT: usize = 200_000;
+
+/// How often each side is measured, unless the first argument says.
+const ROUNDS: usize = 300;
+
+/// The lent tables.
+#[derive(PartialEq)]
+struct Tables {
+    segments: Vec<u64>,
+    levels: Vec<u64>,
+}
+
+impl Tables {
+    fn new() -> Tables {
+        Tables { segments: vec![7; SEGMENT_NUMBERS], levels: vec![8; LEVEL_NUMBERS] }
+    }
+}
+
+/// The proved reader.
+fn proved(input: &[u8], tables: &mut Tables) -> [u64; 4] {
+    let mut answer = [0; 4];
+    // SAFETY: every pointer and length is of a slice that lives until the call returns.
+    unsafe {
+        stormhlaw_read(
+            input.as_ptr(),
+            input.len(),
+            b'*',
+            b':',
+            b'~',
+            tables.segments.as_mut_ptr(),
+            tables.segments.len(),
+            tables.levels.as_mut_ptr(),
+            tables.levels.len(),
+            &mut answer,
+        );
+    }
+    answer
+}
+
+/// The hand-written reader.
+fn by_hand(input: &[u8], tables: &mut Tables) -> [u64; 4] {
+    read(input, Separators::STANDARD, &mut tables.segments, &mut tables.levels).numbers()
+}
+
+/// The best time of a byte so far, in nanoseconds.
+struct Best(f64);
+
+impl Best {
+    fn measure(&mut self, input: &[u8], tables: &mut Tables, reader: fn(&[u8], &mut Tables) -> [u64; 4]) {
+        let times = BYTES_A_MEASUREMENT.div_ceil(input.len());
+        let start = Instant::now();
+        for _ in 0..times {
+            black_box(reader(black_box(input), tables));
+        }
+        let taken = start.elapsed().as_nanos() as f64 / (times * input.len()) as f64;
+        self.0 = self.0.min(taken);
+    }
+
+    fn megabytes_a_second(&self) -> f64 {
+        1_000.0 / self.0
+    }
+}
+
+/// Both must accept the input with the same numbers and the same tables.
+fn agree(input: &Input) -> [u64; 4] {
+    let (mut one, mut other) = (Tables::new(), Tables::new());
+    let answer = proved(&input.bytes, &mut one);
+    assert_eq!(answer, by_hand(&input.bytes, &mut other), "{}: the answers differ", input.name);
+    assert_eq!(answer[0], 0, "{}: refused {answer:?}", input.name);
+    assert!(one == other, "{}: the tables differ", input.name);
+    answer
+}
+
+/// Times both on one input and prints a line.
+fn compare(input: &Input, rounds: usize) {
+    let [_, segments, levels, bytes] = agree(input);
+    let mut tables = Tables::new();
+    let (mut mine, mut theirs) = (Best(f64::MAX), Best(f64::MAX));
+    for _ in 0..rounds {
+        mine.measure(&input.bytes, &mut tables, proved);
+        theirs.measure(&input.bytes, &mut tables, by_hand);
+    }
+    println!(
+        "{:<28} {bytes:>8} {segments:>8} {levels:>7} {:>8.0} {:>8.0} {:>6.2}",
+        input.name,
+        mine.megabytes_a_second(),
+        theirs.megabytes_a_second(),
+        mine.megabytes_a_second() / theirs.megabytes_a_second(),
+    );
+}
+
+fn main() {
+    let rounds = std::env::args().nth(1).map_or(ROUNDS, |word| word.parse().expect("a number of rounds"));
+    println!("best of {rounds} rounds, MB a second");
+    println!(
+        "{:<28} {:>8} {:>8} {:>7} {:>8} {:>8} {:>6}",
+        "input", "bytes", "segments", "levels", "proved", "by hand", "ratio"
+    );
+    for input in inputs::inputs() {
+        compare(&input, rounds);
+    }
+}

@@ -1,0 +1,62 @@
+/* Reads the report in the file that is named, or W1 where none is, and lists its segments and levels. */
+#include <stdio.h>
+#include <string.h>
+
+#include "stormhlaw.h"
+
+#define SEGMENTS 1000
+#define LEVELS 200
+
+static const char *const codes[] = {"?", "RP", "I", "F", "PC", "SN"};
+
+static void list_segments(const uint8_t *input, const uint64_t *segments, uint64_t count)
+{
+    for (uint64_t k = 0; k < count; k++) {
+        const uint64_t *record = segments + STORMHLAW_SEGMENT_NUMBERS * k;
+        uint64_t tag[2];
+        stormhlaw_element(input + record[0], (size_t)record[1], '*', 0, tag);
+        printf("segment %llu: %.*s, row %llu\n", (unsigned long long)(k + 1), (int)tag[1],
+               (const char *)input + record[0] + tag[0], (unsigned long long)record[2]);
+    }
+}
+
+static void list_levels(const uint64_t *levels, uint64_t count)
+{
+    for (uint64_t k = 0; k < count; k++) {
+        const uint64_t *record = levels + STORMHLAW_LEVEL_NUMBERS * k;
+        printf("level %llu: %s, parent %llu, depth %llu\n", (unsigned long long)(k + 1), codes[record[3]],
+               (unsigned long long)record[1], (unsigned long long)record[2]);
+    }
+}
+
+int main(int count, char **words)
+{
+    static uint8_t input[STORMHLAW_LONGEST + 1];
+    static uint64_t segments[STORMHLAW_SEGMENT_NUMBERS * SEGMENTS];
+    static uint64_t levels[STORMHLAW_LEVEL_NUMBERS * LEVELS];
+    uint64_t answer[4];
+    const char *report = "ST*842*0001~BNR*11*NR7*20240301~HL*1**RP*1~HL*2*1*I*0~NCD*1~NCA**R1~SE*7*0001~";
+    size_t length = strlen(report);
+
+    memcpy(input, report, length);
+    if (count > 1) {
+        FILE *file = fopen(words[1], "rb");
+        if (file == NULL) {
+            perror(words[1]);
+            return 2;
+        }
+        length = fread(input, 1, sizeof input, file);
+        fclose(file);
+    }
+    stormhlaw_read(input, length, '*', ':', '~', segments, STORMHLAW_SEGMENT_NUMBERS * SEGMENTS, levels,
+                   STORMHLAW_LEVEL_NUMBERS * LEVELS, answer);
+    if (answer[STORMHLAW_NUMBER] != STORMHLAW_ACCEPTED) {
+        printf("refused %llu segment %llu byte %llu element %llu\n", (unsigned long long)answer[STORMHLAW_NUMBER],
+               (unsigned long long)answer[STORMHLAW_SEGMENT], (unsigned long long)answer[STORMHLAW_BYTE],
+               (unsigned long long)answer[STORMHLAW_ELEMENT]);
+        return 1;
+    }
+    list_segments(input, segments, answer[STORMHLAW_SEGMENTS]);
+    list_levels(levels, answer[STORMHLAW_LEVELS]);
+    return 0;
+}

@@ -1,0 +1,84 @@
+/* The worked reports of document 01 and the lookups, through the header alone. Says what differs and ends with status 1. */
+#include <stdio.h>
+#include <string.h>
+
+#include "stormhlaw.h"
+
+#define W1 "ST*842*0001~BNR*11*NR7*20240301~HL*1**RP*1~HL*2*1*I*0~NCD*1~NCA**R1~SE*7*0001~"
+
+static int failures;
+
+static void expect(const char *what, const uint64_t *found, const uint64_t *wanted, size_t count)
+{
+    if (memcmp(found, wanted, count * sizeof *found) == 0)
+        return;
+    failures++;
+    printf("%s:", what);
+    for (size_t k = 0; k < count; k++)
+        printf(" %llu for %llu", (unsigned long long)found[k], (unsigned long long)wanted[k]);
+    printf("\n");
+}
+
+/* The answer for a report with so much room, and the tables after it. */
+static void expect_read(const char *report, size_t segment_numbers, const uint64_t wanted[4])
+{
+    uint64_t segments[30] = {0}, levels[20] = {0}, answer[4];
+    stormhlaw_read((const uint8_t *)report, strlen(report), '*', ':', '~', segments, segment_numbers, levels, 20, answer);
+    expect(report, answer, wanted, 4);
+}
+
+static void expect_tables(void)
+{
+    static const uint64_t wanted_segments[24] = {0, 11, 1, 12, 19, 2, 32, 10, 18, 43, 10, 18, 54, 5, 46, 60, 7, 64, 68, 9, 79, 9, 9, 9};
+    static const uint64_t wanted_levels[12] = {3, 0, 1, 1, 4, 1, 2, 2, 9, 9, 9, 9};
+    uint64_t segments[24], levels[12], answer[4];
+    for (size_t k = 0; k < 24; k++)
+        segments[k] = 9;
+    for (size_t k = 0; k < 12; k++)
+        levels[k] = 9;
+    stormhlaw_read((const uint8_t *)W1, strlen(W1), '*', ':', '~', segments, 24, levels, 12, answer);
+    expect("segments of W1", segments, wanted_segments, 24);
+    expect("levels of W1", levels, wanted_levels, 12);
+}
+
+static void expect_element(const char *segment, uint64_t number, uint64_t start, uint64_t length)
+{
+    uint64_t span[2], wanted[2] = {start, length};
+    stormhlaw_element((const uint8_t *)segment, strlen(segment), '*', number, span);
+    expect(segment, span, wanted, 2);
+}
+
+static void expect_component(const char *element, uint64_t number, uint64_t start, uint64_t length)
+{
+    uint64_t span[2], wanted[2] = {start, length};
+    stormhlaw_component((const uint8_t *)element, strlen(element), ':', number, span);
+    expect(element, span, wanted, 2);
+}
+
+static void expect_lookups(void)
+{
+    expect_element("HL*2**I", 0, 0, 2);
+    expect_element("HL*2**I", 1, 3, 1);
+    expect_element("HL*2**I", 2, 5, 0);
+    expect_element("HL*2**I", 3, 6, 1);
+    expect_element("HL*2**I", 4, 7, 0);
+    expect_element("", 0, 0, 0);
+    expect_component("EA:25:1", 0, 7, 0);
+    expect_component("EA:25:1", 1, 0, 2);
+    expect_component("EA:25:1", 2, 3, 2);
+    expect_component("EA:25:1", 3, 6, 1);
+    expect_component("EA:25:1", 4, 7, 0);
+}
+
+int main(void)
+{
+    expect_read(W1, 30, (const uint64_t[]){0, 7, 2, 78});
+    expect_read("ST*842*0001~BNR*11*NR7*20240301~HL*1**RP*1~HL*2*1*F*0~NCD*1~NCA**R1~SE*7*0001~", 30,
+                (const uint64_t[]){14, 4, 43, 2});
+    expect_read("", 30, (const uint64_t[]){3, 1, 0, 0});
+    expect_read(W1, 18, (const uint64_t[]){17, 7, 68, 0});
+    expect_tables();
+    expect_lookups();
+    printf(failures ? "%d failed\n" : "C: all as expected\n", failures);
+    return failures != 0;
+}

@@ -1,0 +1,74 @@
+//! The records of the two lent tables.
+
+/// How many numbers a segment's record has.
+pub(crate) const SEGMENT_NUMBERS: usize = 3;
+/// How many numbers a level's record has.
+pub(crate) const LEVEL_NUMBERS: usize = 4;
+
+/// One segment of a report.
+#[repr(C)]
+#[derive(Clone, Copy, Debug, Default, PartialEq, Eq, Hash)]
+pub struct Segment {
+    /// The byte where it starts.
+    pub start: u64,
+    /// How many bytes it has, without its terminator.
+    pub length: u64,
+    /// Its row in the table of 79, from 1.
+    pub row: u64,
+}
+
+/// One level of a report.
+#[repr(C)]
+#[derive(Clone, Copy, Debug, Default, PartialEq, Eq, Hash)]
+pub struct Level {
+    /// The number of its HL segment, from 1.
+    pub segment: u64,
+    /// The number of its parent's level, from 1; 0 for none.
+    pub parent: u64,
+    /// 1 without a parent, else the parent's plus one; at most 4.
+    pub depth: u64,
+    /// Its code, 1 to 5: see `code`.
+    pub code: u64,
+}
+
+/// What a level stands for.
+#[derive(Clone, Copy, Debug, PartialEq, Eq, Hash)]
+pub enum Code {
+    /// `RP`
+    Report,
+    /// `I`
+    Item,
+    /// `F`
+    Component,
+    /// `PC`
+    ProductCharacteristic,
+    /// `SN`
+    SerialNumber,
+}
+
+// The tables are lent as plain numbers.
+const _: () = assert!(size_of::<Segment>() == SEGMENT_NUMBERS * size_of::<u64>());
+const _: () = assert!(size_of::<Level>() == LEVEL_NUMBERS * size_of::<u64>());
+
+impl Segment {
+    /// The bytes of the segment in the input that was read. None if the record is not of that input.
+    pub fn bytes<'a>(&self, input: &'a [u8]) -> Option<&'a [u8]> {
+        let start = usize::try_from(self.start).ok()?;
+        let end = start.checked_add(usize::try_from(self.length).ok()?)?;
+        input.get(start..end)
+    }
+}
+
+impl Level {
+    /// What the level stands for. None in a record that no reading wrote.
+    pub fn code(&self) -> Option<Code> {
+        match self.code {
+            1 => Some(Code::Report),
+            2 => Some(Code::Item),
+            3 => Some(Code::Component),
+            4 => Some(Code::ProductCharacteristic),
+            5 => Some(Code::SerialNumber),
+            _ => None,
+        }
+    }
+}

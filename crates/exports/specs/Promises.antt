@@ -1,0 +1,32 @@
+-- The promises of the functions that other languages call: what each writes into the numbers that the caller lends.
+-- Assumes nothing.
+use Prim.Native.Nat.{ℕ}
+use mathlib.Core.Path.{_≡_}
+use mathlib.Core.List.{List, [], _∷_}
+use Rattle.text.specs.Bytes.{Bytes}
+use Rattle.text.specs.declared.lookup.Span.{Span}
+use Rattle.text.specs.declared.separators.Separators.{Separators}
+use Rattle.reading.specs.Answers.{numbersOf}
+use Rattle.reading.specs.Records.{Tables}
+use Rattle.reading.specs.Reads.{Reads}
+use Rattle.reading.specs.declared.answer.Answer.{Answer}
+use Rattle.reading.specs.declared.how.How.{How}
+
+-- three bytes as the separators of a reading
+abbrev pub howOf : ℕ → ℕ → ℕ → How
+howOf element component terminator =
+    record { separators = record { element = element; component = component; terminator = terminator } }
+
+-- the two lent tables
+abbrev pub tablesOf : List ℕ → List ℕ → Tables
+tablesOf segments levels = record { segments = segments; levels = levels }
+
+-- a reading, told by the four numbers of its answer
+pub record Told (how : How) (s : Bytes) (before after : Tables) (four : List ℕ) : Type 0 where
+  pub answer : Answer
+  pub reads : Reads how s before answer after
+  pub numbers : four ≡ numbersOf answer
+
+-- the two numbers of a part: where it starts, and how long it is
+abbrev pub spanNumbers : Span → List ℕ
+spanNumbers p = p .start ∷ p .len ∷ []

@@ -1,0 +1,82 @@
+// The functions that programs in C, Rust and Python call. A slice is passed as a pointer and a length, an array as a pointer; an answer
+// is written as numbers into an array that the caller lends.
+ghost use mathlib.Core.Path.{_≡_};
+ghost use Rattle.text.specs.Lookup.{elementSpan, componentSpan};
+ghost use Rattle.reading.specs.Answers.{numbersOf};
+ghost use Rattle.exports.specs.Promises.{howOf, tablesOf, Told, spanNumbers};
+use reading::answer::Answer;
+use reading::how::How;
+use text::lookup;
+use text::lookup::Span;
+use text::separators::Separators;
+
+// The four numbers of an answer.
+fn four(answer: Answer) -> [u64; 4]
+    ensures { λ r. ⌜ r ≡ numbersOf answer ⌝ }
+{
+    match answer {
+        Answer::Accepted {
+            segments,
+            levels,
+            bytes,
+        } => [0, segments as u64, levels as u64, bytes as u64],
+        Answer::Refused {
+            number,
+            segment,
+            byte,
+            element,
+        } => [number as u64, segment as u64, byte as u64, element as u64],
+    }
+}
+
+// Start and length.
+fn two(span: Span) -> [u64; 2]
+    ensures { λ r. ⌜ r ≡ spanNumbers span ⌝ }
+{
+    [span.start as u64, span.len as u64]
+}
+
+// Reads one transaction from the start of the input, as `reading::read` does: both tables, and the four numbers of the answer.
+#[no_mangle]
+pub extern "C" fn stormhlaw_read(
+    input: &[u8],
+    element: u8,
+    component: u8,
+    terminator: u8,
+    segments: &mut [u64],
+    levels: &mut [u64],
+    answer: &mut [u64; 4],
+)
+    ensures { λ _. ⌜ Told (howOf element component terminator) (now (input .entry)) (tablesOf (now (segments .entry)) (now (levels .entry)))
+        (tablesOf (now (segments .exit)) (now (levels .exit))) (now (answer .exit)) ⌝ }
+{
+    let how = How {
+        separators: Separators {
+            element,
+            component,
+            terminator,
+        },
+    };
+    *answer = four(reading::reading::read(input, how, segments, levels));
+}
+
+// Where an element of the segment stands, 0 being the tag: start and length.
+#[no_mangle]
+pub extern "C" fn stormhlaw_element(segment: &[u8], separator: u8, number: u64, span: &mut [u64; 2])
+    ensures { λ _. ⌜ now (span .exit) ≡ spanNumbers (elementSpan separator (now (segment .entry)) number) ⌝ }
+{
+    *span = two(lookup::element_span(segment, separator, number as usize));
+}
+
+// Where a component of the element stands, from 1: start and length.
+#[no_mangle]
+pub extern "C" fn stormhlaw_component(
+    element: &[u8],
+    separator: u8,
+    number: u64,
+    span: &mut [u64; 2],
+)
+    ensures { λ _. ⌜ now (span .exit) ≡ spanNumbers (componentSpan separator (now (element .entry)) number) ⌝ }
+{
+    *span = two(lookup::component_span(element, separator, number as usize));
+}

@@ -1,0 +1,180 @@
+/*
+** stormhlaw.h: a reading gate for X12 842 nonconformance reports whose verdicts are proved.
+**
+** Link with libexports.a, which `rt staticlib exports` writes to target/staticlib, on x86-64 Linux.
+**
+** What holds of every function here:
+**
+**   - Every call returns. No argument makes a function fail: whatever the bytes, the separators and the sizes are, the
+**     answer is one of the list below.
+**   - Nothing is allocated, nothing is kept between calls, and nothing is read or written but what the arguments name
+**     and less than 16 KB of stack. The only function of the C library that is called is memset.
+**   - Any number of threads may call at once, as long as no memory that one call writes is used by another.
+**   - No pointer may be null, not even with a length of 0: give the address of any object then. A length is how many
+**     bytes (uint8_t) or numbers (uint64_t) the pointer has behind it, and not how many records.
+**   - What a call writes must not overlap with what the call reads, nor with anything else that it writes.
+**
+** A report is one transaction, from ST to SE. Its bytes are cut by three separators, which the caller gives: element,
+** component and terminator; the standard ones are '*', ':' and '~'. Each must be a byte from 1 to 126 that is no letter,
+** digit, space, '.' or '-', and the three must differ. A segment runs to the next terminator; its first piece is the tag, the
+** others are its elements 1, 2, .. Line ends are not skipped. Segments, elements, components, levels and rows are counted
+** from 1, bytes from 0.
+*/
+#ifndef STORMHLAW_H
+#define STORMHLAW_H
+
+#include <stddef.h>
+#include <stdint.h>
+
+#ifdef __cplusplus
+extern "C" {
+#endif
+
+/* The most bytes an input may have. */
+#define STORMHLAW_LONGEST 1048576
+
+/*
+** The four numbers of an answer.
+**
+**   answer[STORMHLAW_NUMBER]    0 for acceptance, else one of the refusals below
+**
+** After an acceptance:
+**
+**   answer[STORMHLAW_SEGMENTS]  how many segments there are, ST and SE counted
+**   answer[STORMHLAW_LEVELS]    how many levels there are
+**   answer[STORMHLAW_BYTES]     how many bytes the transaction takes, with the terminator of its SE; what comes after it
+**                               was not looked at
+**
+** After a refusal:
+**
+**   answer[STORMHLAW_SEGMENT]   the segment that is refused
+**   answer[STORMHLAW_BYTE]      the byte where that segment starts
+**   answer[STORMHLAW_ELEMENT]   the element that is meant; 0 for the tag or for no element in particular
+**
+** Refusals 1, 2 and 19 point at no segment: segment and byte are 0.
+*/
+#define STORMHLAW_NUMBER 0
+#define STORMHLAW_SEGMENTS 1
+#define STORMHLAW_LEVELS 2
+#define STORMHLAW_BYTES 3
+#define STORMHLAW_SEGMENT 1
+#define STORMHLAW_BYTE 2
+#define STORMHLAW_ELEMENT 3
+
+/* The report is accepted: every rule holds. */
+#define STORMHLAW_ACCEPTED 0
+/* A separator is unfit, or two of the three are the same. Element 0; 1 for the new set of a rewriting. */
+#define STORMHLAW_SEPARATORS_UNFIT 1
+/* The input has more than STORMHLAW_LONGEST bytes. */
+#define STORMHLAW_INPUT_TOO_LONG 2
+/* No terminator from this byte on. The byte may be the input's length. */
+#define STORMHLAW_NO_TERMINATOR 3
+/* The tag is none of the 34. A line end behind the terminator before it counts as part of it. */
+#define STORMHLAW_TAG_UNKNOWN 4
+/* A byte that is neither data (32 to 126) nor a separator, in the element named. */
+#define STORMHLAW_BYTE_UNFIT 5
+/* Element 0: the segment has no element. Else the element named is the last and empty, or its last component is empty. */
+#define STORMHLAW_EMPTY_AT_THE_END 6
+/* No row of the table fits here: a segment out of order, once too often, or one that is mandatory is missing before it. */
+#define STORMHLAW_NO_ROW_FITS 7
+/* The mandatory element named is missing, or the first component of NCA05 is. */
+#define STORMHLAW_ELEMENT_MISSING 8
+/* Too many elements, or too many components in NCA05: the first that is too many. */
+#define STORMHLAW_TOO_MANY 9
+/* Type or length of the element named does not fit, or ST01 is not 842. */
+#define STORMHLAW_VALUE_UNFIT 10
+/* A note is broken: all or none of some elements, at least one of some, or one that asks for others. The note's first. */
+#define STORMHLAW_NOTE_BROKEN 11
+/* HL01 was used by an earlier level. Element 1. */
+#define STORMHLAW_LEVEL_USED_BEFORE 12
+/* HL02 names no earlier level; it is the text of an earlier HL01 and not a position. Element 2. */
+#define STORMHLAW_PARENT_UNKNOWN 13
+/* Element 3: no such code, or the level needs a parent. Element 2: the level may not hang under that parent. */
+#define STORMHLAW_LEVEL_NOT_PERMITTED 14
+/* Element 2: the parent is marked 0. Element 4: the level's own mark does not fit. Element 0, at the SE: a level marked 1
+** has no child. */
+#define STORMHLAW_MARK_UNFIT 15
+/* Element 1: SE01 is not the number of segments. Element 2: SE02 is not ST02. */
+#define STORMHLAW_CLOSING_WRONG 16
+/* Every rule holds so far, and a table has no room for this segment's records. Lend more and read again. */
+#define STORMHLAW_NO_ROOM 17
+/* Rewriting only: a data byte equals a new separator. The first such segment and element. */
+#define STORMHLAW_DATA_EQUALS_SEPARATOR 18
+/* Rewriting only: the output is shorter than the bytes that the transaction takes. */
+#define STORMHLAW_OUTPUT_TOO_SHORT 19
+
+/*
+** The segment table holds three numbers a segment, one record behind the other:
+**
+**   segments[3 * k]      the byte where segment k + 1 starts
+**   segments[3 * k + 1]  how many bytes it has, without its terminator
+**   segments[3 * k + 2]  its row in the table of 79, 1 to 79
+**
+** The level table holds four numbers a level:
+**
+**   levels[4 * k]        the segment of the HL that makes level k + 1
+**   levels[4 * k + 1]    the level number of its parent; 0 for none
+**   levels[4 * k + 2]    its depth, 1 to 4
+**   levels[4 * k + 3]    its code: 1 RP report, 2 I item, 3 F component, 4 PC product characteristic, 5 SN serial number
+**
+** A report of n bytes has at most n / 5 segments, and fewer levels than that. Tables may be of any size; with too little room the
+** answer is STORMHLAW_NO_ROOM.
+*/
+#define STORMHLAW_SEGMENT_NUMBERS 3
+#define STORMHLAW_LEVEL_NUMBERS 4
+
+/*
+** Reads one transaction from the start of `input`.
+**
+**   input, input_length        the bytes
+**   element, component, terminator   the three separators
+**   segments, segments_length  the segment table; it has room for segments_length / 3 segments
+**   levels, levels_length      the level table; it has room for levels_length / 4 levels
+**   answer                     the four numbers of the answer, always written
+**
+** Answers 0 to 17. Acceptance leaves the records of all segments and levels in the tables. A refusal at segment k leaves
+** the records of segments 1 to k - 1, and of their levels, as an acceptance would. Refusals 1 and 2 write to neither
+** table. In every case, every other number of both tables keeps what it held.
+**
+** A refusal 4 to 16 is final: it stands whatever bytes follow that segment and however large the tables are. Acceptance
+** stands likewise.
+*/
+void stormhlaw_read(
+    const uint8_t *input, size_t input_length,
+    uint8_t element, uint8_t component, uint8_t terminator,
+    uint64_t *segments, size_t segments_length,
+    uint64_t *levels, size_t levels_length,
+    uint64_t answer[4]);
+
+/*
+** Finds an element of a segment: span[0] is where it starts within `segment`, span[1] how many bytes it has.
+**
+**   segment, segment_length   the bytes of one segment, without its terminator
+**   separator                 the element separator, any byte
+**   number                    the element; 0 is the tag
+**   span                      always written
+**
+** An element that is absent is an empty part at its place. A number past the last gives the empty part at the end:
+** segment_length and 0.
+*/
+void stormhlaw_element(
+    const uint8_t *segment, size_t segment_length, uint8_t separator, uint64_t number, uint64_t span[2]);
+
+/*
+** Finds a component of an element: span[0] is where it starts within `element`, span[1] how many bytes it has.
+**
+**   element, element_length   the bytes of one element
+**   separator                 the component separator, any byte
+**   number                    the component, from 1
+**   span                      always written
+**
+** Number 0, and a number past the last, give the empty part at the end: element_length and 0.
+*/
+void stormhlaw_component(
+    const uint8_t *element, size_t element_length, uint8_t separator, uint64_t number, uint64_t span[2]);
+
+#ifdef __cplusplus
+}
+#endif
+
+#endif

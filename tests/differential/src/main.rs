@@ -1,0 +1,58 @@
+//! Drives the proved library, through its C interface, and the independent reader with the same inputs, and compares the
+//! answers, the whole tables and outputs, and guard words around everything that was lent. Ends with status 1 if anything
+//! differs.
+
+mod lent;
+mod outcome;
+mod parts;
+#[cfg(feature = "rewriting")]
+mod rewriting;
+mod sides;
+mod tally;
+
+use std::process::ExitCode;
+use tally::Tally;
+
+/// How many seeds are taken unless `--count` says.
+const COUNT: u64 = 100_000;
+
+/// The number behind a word of the command line.
+fn number(words: &[String], word: &str, otherwise: u64) -> Result<u64, String> {
+    let Some(at) = words.iter().position(|given| given == word) else {
+        return Ok(otherwise);
+    };
+    let given = words.get(at + 1).ok_or(format!("{word} wants a number"))?;
+    given.parse().map_err(|_| format!("{word} wants a number, not {given}"))
+}
+
+fn run(words: &[String]) -> Result<bool, String> {
+    let count = number(words, "--count", COUNT)?;
+    let from = number(words, "--from", 0)?;
+    println!(
+        "seeds {from} to {}, count {count}, and W1 with every table size and separator",
+        from + count - 1
+    );
+    if cfg!(not(feature = "rewriting")) {
+        println!("the library has no stormhlaw_rewrite: rewriting is not compared");
+    }
+    let mut tally = Tally::default();
+    parts::rooms(&mut tally);
+    parts::sets(&mut tally);
+    for seed in from..from + count {
+        parts::generated(&mut tally, seed);
+    }
+    tally.print();
+    Ok(tally.differences() == 0)
+}
+
+fn main() -> ExitCode {
+    let words: Vec<String> = std::env::args().skip(1).collect();
+    match run(&words) {
+        Ok(true) => ExitCode::SUCCESS,
+        Ok(false) => ExitCode::FAILURE,
+        Err(message) => {
+            eprintln!("{message}");
+            ExitCode::from(2)
+        }
+    }
+}

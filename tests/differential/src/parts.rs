@@ -1,0 +1,105 @@
+//! What is compared: generated reports, every table size, every separator, lookups.
+
+use crate::outcome::Sizes;
+use crate::tally::Tally;
+use reference::generator::{report, Case, Random};
+use reference::Separators;
+
+const W1: &[u8] = b"ST*842*0001~BNR*11*NR7*20240301~HL*1**RP*1~HL*2*1*I*0~NCD*1~NCA**R1~SE*7*0001~";
+
+/// One seed in so many has its report read with every table size.
+const EVERY_ROOM_ONE_IN: u64 = 512;
+/// The longest report, in bytes, that is read with every table size.
+const EVERY_ROOM_LONGEST: usize = 600;
+
+/// The case of one seed: its reading, its rewriting, lookups in it, and for some every table size.
+pub fn generated(tally: &mut Tally, seed: u64) {
+    let case = report(seed);
+    let name = format!("seed {seed}");
+    let sizes = Sizes { segments: case.segment_numbers, levels: case.level_numbers, output: 0 };
+    tally.read(&name, &case.input, case.separators, sizes);
+    rewriting(tally, &name, &case, Sizes { output: case.output_length, ..sizes });
+    look_up(tally, &name, &case);
+    if seed % EVERY_ROOM_ONE_IN == 0 && case.input.len() <= EVERY_ROOM_LONGEST {
+        every_room(tally, &name, &case.input, case.separators);
+    }
+}
+
+#[cfg(feature = "rewriting")]
+fn rewriting(tally: &mut Tally, name: &str, case: &Case, sizes: Sizes) {
+    crate::rewriting::compare(tally, name, &case.input, [case.separators, case.new], sizes);
+}
+
+#[cfg(not(feature = "rewriting"))]
+fn rewriting(_: &mut Tally, _: &str, _: &Case, _: Sizes) {}
+
+/// Lookups in a part of the case's input, by one of its separators or any byte.
+fn look_up(tally: &mut Tally, name: &str, case: &Case) {
+    let mut random = Random::new(!case.seed);
+    let input = &case.input[..case.input.len().min(2000)];
+    let from = random.below(input.len() + 1);
+    let part = &input[from..from + random.below((input.len() - from).min(90) + 1)];
+    let any = random.below(256) as u8;
+    let separator = *random.pick(&[case.separators.element, case.separators.component, any]);
+    for number in [random.below(4) as u64, random.below(40) as u64] {
+        tally.look_up(name, part, separator, number);
+    }
+    if case.seed % 64 == 0 {
+        tally.look_up(name, part, separator, random.number());
+        tally.look_up(name, part, separator, u64::MAX);
+        tally.look_up(name, &[], separator, 0);
+    }
+}
+
+/// A reading with every size of both tables, one at a time, from none to more than enough.
+fn every_room(tally: &mut Tally, name: &str, input: &[u8], set: Separators) {
+    let most = input.len() / 5 + 1;
+    for segments in 0..=3 * most + 2 {
+        tally.read(name, input, set, Sizes { segments, levels: 4 * most, output: 0 });
+    }
+    for levels in 0..=4 * most + 3 {
+        tally.read(name, input, set, Sizes { segments: 3 * most, levels, output: 0 });
+    }
+}
+
+/// W1 with every pair of table sizes.
+pub fn rooms(tally: &mut Tally) {
+    for segments in 0..=24 {
+        for levels in 0..=12 {
+            tally.read("W1, rooms", W1, Separators::STANDARD, Sizes { segments, levels, output: 0 });
+        }
+    }
+}
+
+/// W1 in other separators: every byte in each of the three places, as the set and in the input, and every fit pair of
+/// control bytes and marks.
+pub fn sets(tally: &mut Tally) {
+    for byte in 0..=255 {
+        for place in 0..3 {
+            let mut bytes = [b'*', b':', b'~'];
+            bytes[place] = byte;
+            set(tally, Separators::new(bytes[0], bytes[1], bytes[2]));
+        }
+        for other in 0..=127 {
+            set(tally, Separators::new(byte, other, b'~'));
+            set(tally, Separators::new(b'|', byte, other));
+            set(tally, Separators::new(other, b'^', byte));
+        }
+    }
+}
+
+/// W1 as it is and translated, read with that set.
+fn set(tally: &mut Tally, set: Separators) {
+    let sizes = Sizes { segments: 24, levels: 12, output: 0 };
+    tally.read("W1, sets", W1, set, sizes);
+    let translated: Vec<u8> = W1
+        .iter()
+        .map(|byte| match byte {
+            b'*' => set.element,
+            b':' => set.component,
+            b'~' => set.terminator,
+            _ => *byte,
+        })
+        .collect();
+    tally.read("W1 translated, sets", &translated, set, sizes);
+}
