@@ -4,12 +4,14 @@ use mathlib.Core.Path.{_≡_, sym, ap, _∙_}
 use mathlib.Core.List.{List}
 use Prim.Native.Nat.{ℕ}
 use Rattle.text.specs.Bytes.{Bytes}
+use Rattle.text.specs.declared.separators.Separators.{Separators}
 use Rattle.reading.specs.Answers.{numbersOf}
 use Rattle.reading.specs.Profile.{nonconformance}
 use Rattle.reading.specs.Records.{Tables}
 use Rattle.reading.specs.declared.how.How.{How}
 use Rattle.reading.proofs.Once.{reads-once}
-use Rattle.exports.specs.Promises.{Told}
+use Rattle.rewriting.proofs.Once.{rewrites-once}
+use Rattle.exports.specs.Promises.{Told, ToldAgain}
 
 -- the numbers of a reading, and both tables, are one
 pub told-once : {how : How} {s : Bytes} {before x x′ : Tables} {four four′ : List ℕ} → Told how s before x four → Told how s before x′ four′
@@ -17,6 +19,13 @@ pub told-once : {how : How} {s : Bytes} {before x x′ : Tables} {four four′ :
 told-once {how} {s} {before} {x} {x′} a b =
     let o = reads-once nonconformance how s before (a .answer) (b .answer) x x′ (a .reads) (b .reads) in
     (a .numbers ∙ ap numbersOf (o .0) ∙ sym (b .numbers), o .1)
+
+-- the numbers of a rewriting, both tables and the output are one
+pub told-again-once : {how : How} {new : Separators} {s : Bytes} {before x x′ : Tables} {output w w′ : Bytes} {four four′ : List ℕ}
+    → ToldAgain how new s before output x w four → ToldAgain how new s before output x′ w′ four′ → (four ≡ four′) × (x ≡ x′) × (w ≡ w′)
+told-again-once {how} {new} {s} {before} {x} {x′} {output} {w} {w′} a b =
+    let o = rewrites-once how new s output before (a .answer) (b .answer) x x′ w w′ (a .rewrites) (b .rewrites) in
+    (a .numbers ∙ ap numbersOf (o .0) ∙ sym (b .numbers), o .1, o .2)
 
 -- the numbers of a part are one
 pub span-once : {x y z : List ℕ} → x ≡ z → y ≡ z → x ≡ y

@@ -11,11 +11,15 @@ use Rattle.reading.specs.Records.{Tables}
 use Rattle.reading.specs.Reads.{Reads}
 use Rattle.reading.specs.declared.answer.Answer.{Answer}
 use Rattle.reading.specs.declared.how.How.{How}
+use Rattle.rewriting.specs.Rewrites.{Rewrites}
 
--- three bytes as the separators of a reading
+-- three bytes as separators
+abbrev pub separatorsOf : ℕ → ℕ → ℕ → Separators
+separatorsOf element component terminator = record { element = element; component = component; terminator = terminator }
+
+-- and as those of a reading
 abbrev pub howOf : ℕ → ℕ → ℕ → How
-howOf element component terminator =
-    record { separators = record { element = element; component = component; terminator = terminator } }
+howOf element component terminator = record { separators = separatorsOf element component terminator }
 
 -- the two lent tables
 abbrev pub tablesOf : List ℕ → List ℕ → Tables
@@ -25,6 +29,12 @@ tablesOf segments levels = record { segments = segments; levels = levels }
 pub record Told (how : How) (s : Bytes) (before after : Tables) (four : List ℕ) : Type 0 where
   pub answer : Answer
   pub reads : Reads how s before answer after
+  pub numbers : four ≡ numbersOf answer
+
+-- a rewriting, told by the four numbers of its answer
+pub record ToldAgain (how : How) (new : Separators) (s : Bytes) (before : Tables) (output : Bytes) (after : Tables) (written : Bytes) (four : List ℕ) : Type 0 where
+  pub answer : Answer
+  pub rewrites : Rewrites how new s before output answer after written
   pub numbers : four ≡ numbersOf answer
 
 -- the two numbers of a part: where it starts, and how long it is

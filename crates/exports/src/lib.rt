@@ -3,12 +3,23 @@
 ghost use mathlib.Core.Path.{_≡_};
 ghost use Rattle.text.specs.Lookup.{elementSpan, componentSpan};
 ghost use Rattle.reading.specs.Answers.{numbersOf};
-ghost use Rattle.exports.specs.Promises.{howOf, tablesOf, Told, spanNumbers};
+ghost use Rattle.exports.specs.Promises.{separatorsOf, howOf, tablesOf, Told, ToldAgain, spanNumbers};
 use reading::answer::Answer;
 use reading::how::How;
 use text::lookup;
 use text::lookup::Span;
 use text::separators::Separators;
+
+// These three separators.
+fn separators_of(element: u8, component: u8, terminator: u8) -> Separators
+    ensures { λ r. ⌜ r ≡ separatorsOf element component terminator ⌝ }
+{
+    Separators {
+        element,
+        component,
+        terminator,
+    }
+}
 
 // The four numbers of an answer.
 fn four(answer: Answer) -> [u64; 4]
@@ -51,13 +62,36 @@ pub extern "C" fn stormhlaw_read(
         (tablesOf (now (segments .exit)) (now (levels .exit))) (now (answer .exit)) ⌝ }
 {
     let how = How {
-        separators: Separators {
-            element,
-            component,
-            terminator,
-        },
+        separators: separators_of(element, component, terminator),
     };
     *answer = four(reading::reading::read(input, how, segments, levels));
+}
+
+// Reads one transaction and writes it to the output with the new separators, as `rewriting::rewrite` does: both tables, the output, and the
+// four numbers of the answer.
+#[no_mangle]
+pub extern "C" fn stormhlaw_rewrite(
+    input: &[u8],
+    element: u8,
+    component: u8,
+    terminator: u8,
+    new_element: u8,
+    new_component: u8,
+    new_terminator: u8,
+    segments: &mut [u64],
+    levels: &mut [u64],
+    output: &mut [u8],
+    answer: &mut [u64; 4],
+)
+    ensures { λ _. ⌜ ToldAgain (howOf element component terminator) (separatorsOf «new_element» «new_component» «new_terminator») (now (input .entry))
+        (tablesOf (now (segments .entry)) (now (levels .entry))) (now (output .entry))
+        (tablesOf (now (segments .exit)) (now (levels .exit))) (now (output .exit)) (now (answer .exit)) ⌝ }
+{
+    let how = How {
+        separators: separators_of(element, component, terminator),
+    };
+    let new = separators_of(new_element, new_component, new_terminator);
+    *answer = four(rewriting::rewriting::rewrite(input, how, new, segments, levels, output));
 }
 
 // Where an element of the segment stands, 0 being the tag: start and length.

@@ -1,8 +1,12 @@
 -- `stormhlaw_read` meets its contract: the four numbers are those of the answer that `read` gives.
 -- Assumes nothing.
 use borrow.Author.Needs.{needs}
+use Rattle.exports.proofs.Telling.{tell}
 use Rattle.exports.proofs.stormhlaw_read.Statement.{statement}
 use Rattle.exports.proofs.stormhlaw_read.Tie as tie
+
+separators-of-requires : tie.Need-separators-of-requires
+separators-of-requires c κs = search needs
 
 read-requires : tie.Need-read-requires
 read-requires c κs = search needs
@@ -18,7 +22,10 @@ same-length-2 c = search needs
 
 returns : tie.Need-returns
 returns c =
-    record { answer = c .before .before .before .before .before .read .result; reads = c .before .before .before .before .before .read .ensures; numbers = c .four .ensures }
+    let call = c .before .before .before .before .before in
+    tell _ _ _ _ _ _ (call .before .before .before .separators-of .result) (call .before .before .before .separators-of .ensures) (call .read .ensures) (c .four .ensures)
 
 pub stormhlaw-read-spec : {M : Type 1} → statement M
-stormhlaw-read-spec = tie.close (tie.spec read-requires four-requires same-length same-length-2 returns)
+stormhlaw-read-spec =
+    tie.close
+    (tie.spec separators-of-requires read-requires four-requires same-length same-length-2 returns)
