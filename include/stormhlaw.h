@@ -147,6 +147,34 @@ void stormhlaw_read(
     uint64_t answer[4]);
 
 /*
+** Reads one transaction from the start of `input` and writes it to `output` with other separators: each separator of the
+** old set becomes that of the new set, and every data byte stays.
+**
+**   input, input_length        the bytes
+**   element, component, terminator   the separators of the input
+**   new_element, new_component, new_terminator   those of the output
+**   segments, segments_length  the segment table, as for stormhlaw_read
+**   levels, levels_length      the level table, as for stormhlaw_read
+**   output, output_length      where the bytes go; as many are needed as the transaction takes
+**   answer                     the four numbers of the answer, always written
+**
+** Tested in this order: the old set (1, element 0), the new set (1, element 1), the reading (its answers 2 to 17 as they
+** are), then 18 and 19. Acceptance writes exactly answer[STORMHLAW_BYTES] bytes of the output; on any refusal the output keeps
+** its bytes. What lies beyond in the output keeps what it held.
+**
+** The tables are left as stormhlaw_read would leave them, also at 18 and 19, and are not touched at 1. With the old
+** separators given again the output is the same bytes as the input.
+*/
+void stormhlaw_rewrite(
+    const uint8_t *input, size_t input_length,
+    uint8_t element, uint8_t component, uint8_t terminator,
+    uint8_t new_element, uint8_t new_component, uint8_t new_terminator,
+    uint64_t *segments, size_t segments_length,
+    uint64_t *levels, size_t levels_length,
+    uint8_t *output, size_t output_length,
+    uint64_t answer[4]);
+
+/*
 ** Finds an element of a segment: span[0] is where it starts within `segment`, span[1] how many bytes it has.
 **
 **   segment, segment_length   the bytes of one segment, without its terminator

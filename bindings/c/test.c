@@ -70,6 +70,36 @@ static void expect_lookups(void)
     expect_component("EA:25:1", 4, 7, 0);
 }
 
+#ifdef STORMHLAW_REWRITING
+/* The answer for a rewriting to | ^ and ', and the output, whose bytes were all '.' before. */
+static void expect_rewrite(const char *report, size_t length, const uint64_t wanted[4], const char *wanted_output)
+{
+    uint64_t segments[30], levels[20], answer[4];
+    char output[81];
+    memset(output, '.', 80);
+    output[80] = 0;
+    stormhlaw_rewrite((const uint8_t *)report, strlen(report), '*', ':', '~', '|', '^', '\'', segments, 30, levels, 20,
+                      (uint8_t *)output, length, answer);
+    expect(report, answer, wanted, 4);
+    if (strcmp(output, wanted_output) != 0) {
+        failures++;
+        printf("%s: output %s\n", report, output);
+    }
+}
+
+static void expect_rewriting(void)
+{
+    static const char *const untouched =
+        "................................................................................";
+    expect_rewrite(W1, 80, (const uint64_t[]){0, 7, 2, 78},
+                   "ST|842|0001'BNR|11|NR7|20240301'HL|1||RP|1'HL|2|1|I|0'NCD|1'NCA||R1'SE|7|0001'..");
+    expect_rewrite(W1, 77, (const uint64_t[]){19, 0, 0, 0}, untouched);
+    expect_rewrite("ST*842*0001~BNR*11*N|7*20240301~HL*1**RP*1~HL*2*1*I*0~NCD*1~NCA**R1~SE*7*0001~", 80,
+                   (const uint64_t[]){18, 2, 12, 2}, untouched);
+    expect_rewrite("", 80, (const uint64_t[]){3, 1, 0, 0}, untouched);
+}
+#endif
+
 int main(void)
 {
     expect_read(W1, 30, (const uint64_t[]){0, 7, 2, 78});
@@ -79,6 +109,9 @@ int main(void)
     expect_read(W1, 18, (const uint64_t[]){17, 7, 68, 0});
     expect_tables();
     expect_lookups();
+#ifdef STORMHLAW_REWRITING
+    expect_rewriting();
+#endif
     printf(failures ? "%d failed\n" : "C: all as expected\n", failures);
     return failures != 0;
 }

@@ -20,7 +20,7 @@ pub fn generated(tally: &mut Tally, seed: u64) {
     tally.read(&name, &case.input, case.separators, sizes);
     rewriting(tally, &name, &case, Sizes { output: case.output_length, ..sizes });
     look_up(tally, &name, &case);
-    if seed % EVERY_ROOM_ONE_IN == 0 && case.input.len() <= EVERY_ROOM_LONGEST {
+    if seed.is_multiple_of(EVERY_ROOM_ONE_IN) && case.input.len() <= EVERY_ROOM_LONGEST {
         every_room(tally, &name, &case.input, case.separators);
     }
 }
@@ -44,7 +44,7 @@ fn look_up(tally: &mut Tally, name: &str, case: &Case) {
     for number in [random.below(4) as u64, random.below(40) as u64] {
         tally.look_up(name, part, separator, number);
     }
-    if case.seed % 64 == 0 {
+    if case.seed.is_multiple_of(64) {
         tally.look_up(name, part, separator, random.number());
         tally.look_up(name, part, separator, u64::MAX);
         tally.look_up(name, &[], separator, 0);
