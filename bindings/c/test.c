@@ -70,7 +70,6 @@ static void expect_lookups(void)
     expect_component("EA:25:1", 4, 7, 0);
 }
 
-#ifdef STORMHLAW_REWRITING
 /* The answer for a rewriting to | ^ and ', and the output, whose bytes were all '.' before. */
 static void expect_rewrite(const char *report, size_t length, const uint64_t wanted[4], const char *wanted_output)
 {
@@ -98,7 +97,6 @@ static void expect_rewriting(void)
                    (const uint64_t[]){18, 2, 12, 2}, untouched);
     expect_rewrite("", 80, (const uint64_t[]){3, 1, 0, 0}, untouched);
 }
-#endif
 
 int main(void)
 {
@@ -109,9 +107,7 @@ int main(void)
     expect_read(W1, 18, (const uint64_t[]){17, 7, 68, 0});
     expect_tables();
     expect_lookups();
-#ifdef STORMHLAW_REWRITING
     expect_rewriting();
-#endif
     printf(failures ? "%d failed\n" : "C: all as expected\n", failures);
     return failures != 0;
 }

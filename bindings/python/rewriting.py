@@ -1,4 +1,4 @@
-"""Rewriting a transaction with other separators. Needs a library that has stormhlaw_rewrite."""
+"""Rewriting a transaction with other separators."""
 
 import ctypes
 from typing import Optional, Tuple
@@ -6,16 +6,12 @@ from typing import Optional, Tuple
 import stormhlaw
 from stormhlaw import Report, Separators
 
-AVAILABLE = hasattr(stormhlaw.library, "stormhlaw_rewrite")
-"""Whether the library has it."""
-
-if AVAILABLE:
-    stormhlaw.library.stormhlaw_rewrite.restype = None
-    stormhlaw.library.stormhlaw_rewrite.argtypes = [
-        ctypes.c_char_p, ctypes.c_size_t, *[ctypes.c_uint8] * 6,
-        ctypes.POINTER(ctypes.c_uint64), ctypes.c_size_t, ctypes.POINTER(ctypes.c_uint64), ctypes.c_size_t,
-        ctypes.POINTER(ctypes.c_uint8), ctypes.c_size_t, ctypes.POINTER(ctypes.c_uint64),
-    ]  # fmt: skip
+stormhlaw.library.stormhlaw_rewrite.restype = None
+stormhlaw.library.stormhlaw_rewrite.argtypes = [
+    ctypes.c_char_p, ctypes.c_size_t, *[ctypes.c_uint8] * 6,
+    ctypes.POINTER(ctypes.c_uint64), ctypes.c_size_t, ctypes.POINTER(ctypes.c_uint64), ctypes.c_size_t,
+    ctypes.POINTER(ctypes.c_uint8), ctypes.c_size_t, ctypes.POINTER(ctypes.c_uint64),
+]  # fmt: skip
 
 
 def rewrite(

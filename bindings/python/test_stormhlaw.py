@@ -90,7 +90,6 @@ class Lookups(unittest.TestCase):
         self.assertRaises(ValueError, element, b"HL*2", 1 << 64)
 
 
-@unittest.skipUnless(rewriting.AVAILABLE, "the library has no stormhlaw_rewrite")
 class Rewriting(unittest.TestCase):
     NEW = Separators(b"|", b"^", b"'")
 

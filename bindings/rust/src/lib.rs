@@ -1,7 +1,7 @@
 //! A reading gate for X12 842 nonconformance reports whose verdicts are proved, called from Rust.
 //!
 //! `read` reads one transaction, ST to SE, out of bytes that the caller lends, and fills two lent tables of records.
-//! `element` and `component` look up parts. Nothing is allocated, nothing is kept between calls, and every function may be
+//! `rewrite` writes it again with other separators, `element` and `component` look up parts. Nothing is allocated, nothing is kept between calls, and every function may be
 //! called from several threads at once.
 //!
 //! ```
@@ -19,7 +19,6 @@ mod lookup;
 pub mod raw;
 mod reading;
 mod records;
-#[cfg(feature = "rewriting")]
 mod rewriting;
 mod separators;
 
@@ -27,6 +26,5 @@ pub use answer::{Accepted, Reason, Refusal};
 pub use lookup::{component, component_span, element, element_span};
 pub use reading::{read, LONGEST};
 pub use records::{Code, Level, Segment};
-#[cfg(feature = "rewriting")]
 pub use rewriting::rewrite;
 pub use separators::Separators;

@@ -15,6 +15,25 @@ extern "C" {
         answer: *mut [u64; 4],
     );
 
+    /// Reads one transaction and writes it with other separators.
+    pub fn stormhlaw_rewrite(
+        input: *const u8,
+        input_length: usize,
+        element: u8,
+        component: u8,
+        terminator: u8,
+        new_element: u8,
+        new_component: u8,
+        new_terminator: u8,
+        segments: *mut u64,
+        segments_length: usize,
+        levels: *mut u64,
+        levels_length: usize,
+        output: *mut u8,
+        output_length: usize,
+        answer: *mut [u64; 4],
+    );
+
     /// Start and length of an element of a segment.
     pub fn stormhlaw_element(
         segment: *const u8,
@@ -32,29 +51,4 @@ extern "C" {
         number: u64,
         span: *mut [u64; 2],
     );
-}
-
-/// Rewriting, where the library has it.
-#[cfg(feature = "rewriting")]
-pub mod rewriting {
-    extern "C" {
-        /// Reads one transaction and writes it with other separators.
-        pub fn stormhlaw_rewrite(
-            input: *const u8,
-            input_length: usize,
-            element: u8,
-            component: u8,
-            terminator: u8,
-            new_element: u8,
-            new_component: u8,
-            new_terminator: u8,
-            segments: *mut u64,
-            segments_length: usize,
-            levels: *mut u64,
-            levels_length: usize,
-            output: *mut u8,
-            output_length: usize,
-            answer: *mut [u64; 4],
-        );
-    }
 }

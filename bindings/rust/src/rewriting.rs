@@ -1,7 +1,7 @@
-//! Rewriting a transaction with other separators. Needs a library that has `stormhlaw_rewrite`.
+//! Rewriting a transaction with other separators.
 
 use crate::answer::{told, Accepted, Refusal};
-use crate::raw::rewriting::stormhlaw_rewrite;
+use crate::raw::stormhlaw_rewrite;
 use crate::records::{Level, Segment, LEVEL_NUMBERS, SEGMENT_NUMBERS};
 use crate::separators::Separators;
 

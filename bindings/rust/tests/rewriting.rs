@@ -1,5 +1,4 @@
-//! Rewriting with other separators, where the library has it.
-#![cfg(feature = "rewriting")]
+//! Rewriting with other separators.
 
 use stormhlaw::{rewrite, Accepted, Level, Reason, Refusal, Segment, Separators};
 

@@ -5,7 +5,6 @@
 mod lent;
 mod outcome;
 mod parts;
-#[cfg(feature = "rewriting")]
 mod rewriting;
 mod sides;
 mod tally;
@@ -32,9 +31,6 @@ fn run(words: &[String]) -> Result<bool, String> {
         "seeds {from} to {}, count {count}, and W1 with every table size and separator",
         from + count - 1
     );
-    if cfg!(not(feature = "rewriting")) {
-        println!("the library has no stormhlaw_rewrite: rewriting is not compared");
-    }
     let mut tally = Tally::default();
     parts::rooms(&mut tally);
     parts::sets(&mut tally);

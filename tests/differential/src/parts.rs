@@ -1,6 +1,7 @@
 //! What is compared: generated reports, every table size, every separator, lookups.
 
 use crate::outcome::Sizes;
+use crate::rewriting;
 use crate::tally::Tally;
 use reference::generator::{report, Case, Random};
 use reference::Separators;
@@ -18,20 +19,13 @@ pub fn generated(tally: &mut Tally, seed: u64) {
     let name = format!("seed {seed}");
     let sizes = Sizes { segments: case.segment_numbers, levels: case.level_numbers, output: 0 };
     tally.read(&name, &case.input, case.separators, sizes);
-    rewriting(tally, &name, &case, Sizes { output: case.output_length, ..sizes });
+    let sets = [case.separators, case.new];
+    rewriting::compare(tally, &name, &case.input, sets, Sizes { output: case.output_length, ..sizes });
     look_up(tally, &name, &case);
     if seed.is_multiple_of(EVERY_ROOM_ONE_IN) && case.input.len() <= EVERY_ROOM_LONGEST {
         every_room(tally, &name, &case.input, case.separators);
     }
 }
-
-#[cfg(feature = "rewriting")]
-fn rewriting(tally: &mut Tally, name: &str, case: &Case, sizes: Sizes) {
-    crate::rewriting::compare(tally, name, &case.input, [case.separators, case.new], sizes);
-}
-
-#[cfg(not(feature = "rewriting"))]
-fn rewriting(_: &mut Tally, _: &str, _: &Case, _: Sizes) {}
 
 /// Lookups in a part of the case's input, by one of its separators or any byte.
 fn look_up(tally: &mut Tally, name: &str, case: &Case) {

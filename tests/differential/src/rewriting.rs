@@ -3,7 +3,7 @@
 use crate::outcome::{Outcome, Sizes};
 use crate::tally::Tally;
 use reference::Separators;
-use stormhlaw::raw::rewriting::stormhlaw_rewrite;
+use stormhlaw::raw::stormhlaw_rewrite;
 
 /// The library's rewriting.
 fn library(input: &[u8], set: Separators, new: Separators, sizes: Sizes) -> Outcome {

@@ -54,7 +54,6 @@ impl Tally {
     }
 
     /// Counts one rewriting with that answer.
-    #[cfg_attr(not(feature = "rewriting"), allow(dead_code))]
     pub fn rewritten(&mut self, answer: u64) {
         self.rewritings[(answer as usize).min(ANSWERS - 1)] += 1;
     }
