@@ -1,5 +1,5 @@
-//! Writes test vectors: `vectors DIR` the fixed ones, `vectors DIR readings` those without rewriting,
-//! `vectors DIR FIRST COUNT` generated ones, for so many seeds from the first on.
+//! Writes test vectors: `vectors DIR` the fixed ones, `vectors DIR FIRST COUNT` generated ones, for so many seeds
+//! from the first on.
 
 use reference::vectors::{generated, groups, write, Group};
 use std::path::Path;
@@ -8,7 +8,7 @@ use std::process::ExitCode;
 fn main() -> ExitCode {
     let arguments: Vec<String> = std::env::args().skip(1).collect();
     let Some((directory, groups)) = asked(&arguments) else {
-        eprintln!("usage: vectors DIR [readings | FIRST COUNT]");
+        eprintln!("usage: vectors DIR [FIRST COUNT]");
         return ExitCode::from(2);
     };
     match write(Path::new(directory), &groups) {
@@ -24,9 +24,6 @@ fn main() -> ExitCode {
 fn asked(arguments: &[String]) -> Option<(&str, Vec<Group>)> {
     match arguments {
         [directory] => Some((directory, groups())),
-        [directory, word] if word == "readings" => {
-            Some((directory, groups().into_iter().filter(|group| group.name != "rewriting").collect()))
-        }
         [directory, first, count] => {
             let (first, count): (u64, u64) = (first.parse().ok()?, count.parse().ok()?);
             println!("seeds from {first}, {count} in all");
