@@ -136,8 +136,8 @@ extern "C" {
 ** the records of segments 1 to k - 1, and of their levels, as an acceptance would. Refusals 1 and 2 write to neither
 ** table. In every case, every other number of both tables keeps what it held.
 **
-** A refusal 4 to 16 is final: it stands whatever bytes follow that segment and however large the tables are. Acceptance
-** stands likewise.
+** A refusal 4 to 16 is final: it stands whatever bytes follow that segment, up to STORMHLAW_LONGEST in all, and however much
+** larger the tables are. Acceptance stands likewise.
 */
 void stormhlaw_read(
     const uint8_t *input, size_t input_length,

@@ -1,7 +1,7 @@
 """A reading gate for X12 842 nonconformance reports whose verdicts are proved, called from Python.
 
-read() reads one transaction, ST to SE, and gives its segments and levels, or raises Refused. element() and component()
-look up parts. `./build` makes the shared library; STORMHLAW_LIBRARY names another place of it.
+read() reads one transaction, ST to SE, and gives its segments and levels, or raises Refused. rewrite() gives it with
+other separators as well. element() and component() look up parts. `./build` makes the shared library; STORMHLAW_LIBRARY names another place of it.
 """
 
 import ctypes
@@ -129,6 +129,11 @@ def _load() -> ctypes.CDLL:
     library.stormhlaw_read.argtypes = [
         ctypes.c_char_p, _SIZE, _BYTE, _BYTE, _BYTE, _NUMBERS, _SIZE, _NUMBERS, _SIZE, _NUMBERS,
     ]
+    library.stormhlaw_rewrite.restype = None
+    library.stormhlaw_rewrite.argtypes = [
+        ctypes.c_char_p, _SIZE, _BYTE, _BYTE, _BYTE, _BYTE, _BYTE, _BYTE, _NUMBERS, _SIZE, _NUMBERS, _SIZE,
+        ctypes.POINTER(_BYTE), _SIZE, _NUMBERS,
+    ]
     for lookup in (library.stormhlaw_element, library.stormhlaw_component):
         lookup.restype = None
         lookup.argtypes = [ctypes.c_char_p, _SIZE, _BYTE, ctypes.c_uint64, _NUMBERS]
@@ -180,6 +185,26 @@ def read(
         data, len(data), *separators.numbers(), segments, segment_numbers, levels, level_numbers, answer
     )
     return _told(answer, segments, levels)
+
+
+def rewrite(
+    data: bytes,
+    new: Separators,
+    separators: Separators = Separators(),
+    length: Optional[int] = None,
+) -> Tuple[Report, bytes]:
+    """Reads one transaction and gives it with the new separators, beside what read() gives. `length` is how long the
+    output may be; without it there is always enough."""
+    segment_numbers, level_numbers = 3 * _room(data, None), 4 * _room(data, None)
+    segments, levels, answer = _lend(segment_numbers), _lend(level_numbers), (ctypes.c_uint64 * 4)()
+    length = len(data) if length is None else length
+    output = (_BYTE * (length + 1))()
+    library.stormhlaw_rewrite(
+        data, len(data), *separators.numbers(), *new.numbers(),
+        segments, segment_numbers, levels, level_numbers, output, length, answer,
+    )  # fmt: skip
+    report = _told(answer, segments, levels)
+    return report, bytes(output[: report.bytes])
 
 
 def _part(lookup, data: bytes, separator: bytes, number: int) -> bytes:

@@ -2,9 +2,8 @@
 
 import unittest
 
-import rewriting
 import stormhlaw
-from stormhlaw import Code, Level, Reason, Refused, Segment, Separators, component, element, read
+from stormhlaw import Code, Level, Reason, Refused, Segment, Separators, component, element, read, rewrite
 
 W1 = ["ST*842*0001", "BNR*11*NR7*20240301", "HL*1**RP*1", "HL*2*1*I*0", "NCD*1", "NCA**R1", "SE*7*0001"]
 SEGMENTS = [
@@ -94,7 +93,7 @@ class Rewriting(unittest.TestCase):
     NEW = Separators(b"|", b"^", b"'")
 
     def test_w1(self):
-        report, output = rewriting.rewrite(joined(W1), self.NEW)
+        report, output = rewrite(joined(W1), self.NEW)
         self.assertEqual((report.segments, report.levels, report.bytes), (SEGMENTS, LEVELS, 78))
         self.assertEqual(output, joined(W1).replace(b"*", b"|").replace(b"~", b"'"))
 
@@ -105,7 +104,7 @@ class Rewriting(unittest.TestCase):
             (joined(W1), self.NEW, 77, "refused 19 segment 0 byte 0 element 0"),
         ):
             with self.assertRaises(Refused) as caught:
-                rewriting.rewrite(data, new, length=length)
+                rewrite(data, new, length=length)
             self.assertEqual(str(caught.exception), wanted)
 
 
