@@ -1,7 +1,7 @@
 -- Dates and times of day, test by test.
 -- Assumes nothing.
 use Prim.Native.Nat.{ℕ, _+_, _≤_, _<_}
-use mathlib.Core.Path.{_≡_, refl, sym}
+use mathlib.Core.Path.{_≡_, refl, sym, ap, _∙_}
 use mathlib.Core.Logic.{by-cases}
 use mathlib.Core.Bool.{Bool, true, false, not, cond, _&&_, _||_, true≢false}
 use mathlib.Core.List.{[], _∷_}
@@ -10,13 +10,15 @@ use native.Mathlib.Decide.{decLt}
 use lib.Dec.{leb, eqb}
 use lib.ListN.{length, drop, drop-of-length-le}
 use lib.Seq.{take-length}
-use borrow.Author.Tests.{eq-eqb, ne-eqb, eqb-true, le-leb, lt-leb}
+use borrow.Author.Tests.{eq-eqb, ne-eqb, eqb-true, leb-true, le-leb, lt-leb}
 use Rattle.text.specs.Bytes.{Bytes, among}
 use Rattle.text.proofs.Bools.{or-assoc, or-false}
-use Rattle.text.proofs.Tests.{at-below}
-use Rattle.elements.specs.Types.{isNumber, valueOf, figures, daysIn, isDate, isTime, numberOf}
+use Rattle.text.proofs.Tests.{and-first, and-second, at-below}
+use Rattle.elements.specs.Types.{isNumber, valueOf, figures, daysIn, isDate, isTime, numberOf, fits}
 use Rattle.elements.specs.Post.{Written}
-use Rattle.elements.proofs.Values.{fails-second}
+use Rattle.elements.specs.declared.types.Kind.the-variants.{DT, TM}
+use Rattle.elements.proofs.Values.{fails-second, fits-by}
+use Rattle.elements.proofs.Months.{twenty-eight}
 
 -- a test that fails among others
 fails-behind : (a c d e : Bool) → a && false && c && d && e ≡ false
@@ -109,3 +111,20 @@ module _ (s : Bytes) where
       time-short l f =
           let none : drop 4 s ≡ [] = drop-of-length-le s {i = 4} (omega arith) in
           rw none at (time-second l)
+
+-- a date up to the 28th, and a time of four digits, fit DTM's lengths
+pub fits-early : (s : Bytes) (month day : ℕ) → length s ≡ 8 → isNumber s ≡ true → month ≡ figures 4 2 s → day ≡ figures 6 2 s
+    → leb 1 month && leb month 12 && leb 1 day && leb day 28 ≡ true → fits DT 8 8 s ≡ true
+fits-early s month day l e m d t =
+    let year = figures 0 4 s in
+    let month-low = and-first (leb 1 month) (leb month 12) (and-first (leb 1 month && leb month 12) (leb 1 day) (and-first (leb 1 month && leb month 12 && leb 1 day) (leb day 28) t)) in
+    let month-high = and-second (leb 1 month) (leb month 12) (and-first (leb 1 month && leb month 12) (leb 1 day) (and-first (leb 1 month && leb month 12 && leb 1 day) (leb day 28) t)) in
+    let day-low = and-second (leb 1 month && leb month 12) (leb 1 day) (and-first (leb 1 month && leb month 12 && leb 1 day) (leb day 28) t) in
+    let day-high = and-second (leb 1 month && leb month 12 && leb 1 day) (leb day 28) t in
+    let last : 28 ≤ daysIn year month = twenty-eight year month (omega (arith, leb-true 1 month month-low)) (omega (arith, leb-true month 12 month-high)) in
+    sym (fits-by DT 8 8 s (length s) refl (omega arith) (omega arith))
+    ∙ sym (date-day s l e day (daysIn year month) d (ap (daysIn year) m))
+    ∙ rw (day-low, le-leb day (daysIn year month) (omega (arith, last, leb-true day 28 day-high)))
+
+pub fits-four : (s : Bytes) → length s ≡ 4 → isTime s ≡ true → fits TM 4 8 s ≡ true
+fits-four s l e = sym (fits-by TM 4 8 s (length s) refl (omega arith) (omega arith)) ∙ e

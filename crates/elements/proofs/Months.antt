@@ -1,16 +1,16 @@
 -- The days of the months that no single number names.
 -- Assumes nothing.
-use Prim.Native.Nat.{ℕ, _<_}
+use Prim.Native.Nat.{ℕ, _≤_, _<_}
 use mathlib.Core.Path.{_≡_, refl}
-use mathlib.Core.Bool.{Bool, _||_}
+use mathlib.Core.Bool.{Bool, true, false, cond, _&&_, _||_}
 use mathlib.Core.List.{[], _∷_}
 use native.Mathlib.Omega.{arith}
-use lib.Dec.{eqb}
+use lib.Dec.{leb, eqb}
 use lib.ListN.{getD, List·getD-eq-default}
-use borrow.Author.Tests.{ne-eqb, eqb-true}
+use borrow.Author.Tests.{ne-eqb, eqb-true, leb-true}
 use Rattle.text.specs.Bytes.{among}
 use Rattle.text.proofs.Tests.{at-below}
-use Rattle.elements.specs.Types.{monthDays, daysIn}
+use Rattle.elements.specs.Types.{isLeap, monthDays, daysIn}
 
 -- a month has 31 days, or is not there, or is one of the five short ones
 abbrev long : ℕ → Bool
@@ -26,3 +26,16 @@ thirty-one y m a b n2 n4 n6 n9 n11 =
 pub no-month : (y m : ℕ) → 12 < m → daysIn y m ≡ 0
 unfolding daysIn
 no-month y m h = rw (ne-eqb m 2 (omega arith)) (List·getD-eq-default (0 ∷ monthDays) 0 {n = m} h)
+
+-- every month has 28 days
+abbrev early : ℕ → Bool
+early m = eqb m 0 || leb 28 (getD (0 ∷ monthDays) m 0)
+
+pub twenty-eight : (y m : ℕ) → 0 < m → m < 13 → 28 ≤ daysIn y m
+unfolding daysIn
+twenty-eight y m a b =
+    either (eqb m 2 && isLeap y) (getD (0 ∷ monthDays) m 0) (leb-true 28 (getD (0 ∷ monthDays) m 0) (rw (ne-eqb m 0 (omega arith)) at (at-below 13 early refl m b)))
+  where
+    either : (t : Bool) (n : ℕ) → 28 ≤ n → 28 ≤ cond t 29 n
+    either true n l = omega arith
+    either false n l = l

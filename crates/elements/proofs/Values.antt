@@ -2,7 +2,7 @@
 -- Assumes nothing.
 use Prim.Native.Nat.{ℕ, suc, _+_, _-_, _*_, _^_, _≤_, _<_}
 use mathlib.Core.Path.{_≡_, refl, sym, ap, _∙_}
-use mathlib.Core.Bool.{Bool, true, false, _&&_, true≢false}
+use mathlib.Core.Bool.{Bool, true, false, _&&_, _||_, true≢false}
 use mathlib.Core.List.{[], _∷_, _++_}
 use native.Mathlib.Omega.{arith}
 use native.Mathlib.Nat.{pow-suc, pow-le-pow-right}
@@ -12,13 +12,14 @@ use lib.ListN.{length, take, drop, getD, length-drop, drop-of-length-le}
 use lib.Seq.{drop-cons, take-suc, getD-drop}
 use borrow.Author.Tests.{eq-eqb, ne-eqb, leb-true, le-leb, lt-leb}
 use Rattle.text.specs.Bytes.{Bytes, every, same}
-use Rattle.text.specs.Separators.{isDigit}
+use Rattle.text.specs.Separators.{isDigit, isCapital}
 use Rattle.text.proofs.Bools.{and-assoc, and-true}
 use Rattle.text.proofs.Bools.{passes as test-passes}
 use Rattle.text.proofs.Everys.{every-at}
 use Rattle.text.proofs.Tests.{and-first, and-second}
-use Rattle.elements.specs.Types.{valueFrom, countOf, unsigned, isFigure, isReal, figures, isOf, sizeOf, fits}
+use Rattle.elements.specs.Types.{valueFrom, countOf, unsigned, isFigure, isReal, isId, figures, isOf, sizeOf, fits}
 use Rattle.elements.specs.declared.types.Kind.{Kind}
+use Rattle.elements.specs.declared.types.Kind.the-variants.{AN, ID}
 use Rattle.elements.specs.Post.{Unsigned, Written}
 
 -- a test that fails among others
@@ -179,3 +180,43 @@ module _ (kind : Kind) (least most : ℕ) (s : Bytes) (size : ℕ) (e : size ≡
   pub fits-by : least ≤ size → size ≤ most → isOf kind s ≡ fits kind least most s
   unfolding fits
   fits-by l m = rw (← e, le-leb least size l, le-leb size most m)
+
+-- any bytes are AN
+pub fits-text : (least most : ℕ) (s : Bytes) → leb least (length s) && leb (length s) most ≡ true → fits AN least most s ≡ true
+unfolding fits
+fits-text least most s e = rw e
+
+-- an ID of one, two or three bytes, byte by byte
+abbrev idByte : ℕ → Bool
+idByte b = isCapital b || isDigit b
+
+regroup : (a b c : Bool) → a && (b && (c && true)) ≡ a && b && c
+regroup a b c = simp (and-assoc, and-true)
+
+module _ (least most : ℕ) (s : Bytes) (l : least ≤ length s) (m : length s ≤ most) where
+  pub fits-id-one : length s ≡ 1 → idByte (getD s 0 0) ≡ true → fits ID least most s ≡ true
+  fits-id-one n e = sym (fits-by ID least most s (length s) refl l m) ∙ by-bytes s n e
+    where
+      by-bytes : (s : Bytes) → length s ≡ 1 → idByte (getD s 0 0) ≡ true → isId s ≡ true
+      by-bytes [] n e = absurd (omega arith)
+      by-bytes (a ∷ []) n e = rw e
+      by-bytes (a ∷ (b ∷ s)) n e = absurd (omega arith)
+
+  pub fits-id-two : length s ≡ 2 → idByte (getD s 0 0) && idByte (getD s 1 0) ≡ true → fits ID least most s ≡ true
+  fits-id-two n e = sym (fits-by ID least most s (length s) refl l m) ∙ by-bytes s n e
+    where
+      by-bytes : (s : Bytes) → length s ≡ 2 → idByte (getD s 0 0) && idByte (getD s 1 0) ≡ true → isId s ≡ true
+      by-bytes [] n e = absurd (omega arith)
+      by-bytes (a ∷ []) n e = absurd (omega arith)
+      by-bytes (a ∷ (b ∷ [])) n e = ap (λ (t : Bool). idByte a && t) (and-true (idByte b)) ∙ e
+      by-bytes (a ∷ (b ∷ (c ∷ s))) n e = absurd (omega arith)
+
+  pub fits-id-three : length s ≡ 3 → idByte (getD s 0 0) && idByte (getD s 1 0) && idByte (getD s 2 0) ≡ true → fits ID least most s ≡ true
+  fits-id-three n e = sym (fits-by ID least most s (length s) refl l m) ∙ by-bytes s n e
+    where
+      by-bytes : (s : Bytes) → length s ≡ 3 → idByte (getD s 0 0) && idByte (getD s 1 0) && idByte (getD s 2 0) ≡ true → isId s ≡ true
+      by-bytes [] n e = absurd (omega arith)
+      by-bytes (a ∷ []) n e = absurd (omega arith)
+      by-bytes (a ∷ (b ∷ [])) n e = absurd (omega arith)
+      by-bytes (a ∷ (b ∷ (c ∷ []))) n e = regroup (idByte a) (idByte b) (idByte c) ∙ e
+      by-bytes (a ∷ (b ∷ (c ∷ (d ∷ s)))) n e = absurd (omega arith)

@@ -12,10 +12,11 @@ use Rattle.text.specs.View.{Piece, present}
 use Rattle.elements.specs.Types.{isNumber, unsigned, fits}
 use Rattle.elements.specs.Data.{Value, Simple, Composite, Element, Note, Rules, value, unitValues, nonconformance}
 use Rattle.elements.specs.Checks.{Check, check, each, firstBroken}
-use Rattle.elements.specs.Rules.{ruleOf, fewComponents, headed, fitsShape, noteHolds, namedFirst}
-use Rattle.elements.specs.Noted.{notedPiece, notedComponents}
+use Rattle.elements.specs.Rules.{ruleOf, fewComponents, headed, fitsShape, noteHolds, namedFirst, ruledChecks}
+use Rattle.elements.specs.Noted.{notedPiece, notedComponents, notedView}
 use Rattle.elements.specs.declared.types.Kind.the-variants.{AN}
 use Rattle.elements.specs.declared.verdict.Verdict.{Verdict}
+use Rattle.elements.specs.declared.verdict.Verdict.the-variants.{Holds}
 use Rattle.elements.specs.declared.rules.Rule.{Rule}
 
 -- the bytes behind a leading `-` start at r
@@ -112,3 +113,13 @@ pub record Reaches (count needed r : ℕ) : Type 0 where
   pub far : count ≤ r
   pub enough : needed ≤ r
   pub near : (last : ℕ) → count ≤ last → needed ≤ last → r ≤ last
+
+-- the tag has rules for `last` elements
+pub record Ruled (tag last : ℕ) : Type 0 where
+  pub counted : last ≡ length (rulesOf tag .elements)
+  pub some : 1 ≤ last
+
+-- no rule of the tag is broken by the notes of a segment without component separators, whichever byte that separator is
+abbrev pub AllHold : Bytes → List ℕ → (end count tag : ℕ) → Type 0
+AllHold s starts end count tag =
+    (component : ℕ) → Holds ≡ firstBroken (ruledChecks nonconformance tag (notedView s starts end count true component))

@@ -5,4 +5,5 @@ pub mod ruled;
 mod rules;
 pub mod segment;
 pub mod types;
+mod usual;
 pub mod verdict;

@@ -8,9 +8,10 @@ ghost use Rattle.elements.specs.Checks.{firstBroken};
 ghost use Rattle.elements.specs.Data.{Paired, Required, pairsFrom, rulesDTM, nonconformance};
 ghost use Rattle.elements.specs.Rules.{ruleOf, fewComponents, noteHolds, ruledChecks};
 ghost use Rattle.elements.specs.Noted.{partBetween, notedView};
-ghost use Rattle.elements.specs.Post.{notedText, rulesOf, notedElement, isThere, notedAt, noteTests, manyVerdict, elementsVerdict, Reaches};
+ghost use Rattle.elements.specs.Post.{notedText, rulesOf, notedElement, isThere, notedAt, noteTests, manyVerdict, elementsVerdict, Reaches, Ruled};
 use crate::components;
 use crate::rules;
+use crate::usual;
 use crate::verdict::Verdict;
 use rows::tags;
 
@@ -38,7 +39,13 @@ fn before(n: usize) -> usize
 }
 
 // The bytes of element k; none past the last.
-fn element<'a>(s: &'a [u8], starts: &[usize; 33], end: usize, count: usize, k: usize) -> &'a [u8]
+pub(crate) fn element<'a>(
+    s: &'a [u8],
+    starts: &[usize; 33],
+    end: usize,
+    count: usize,
+    k: usize,
+) -> &'a [u8]
     requires { ⌜ k < 32 ⌝ }
     ensures { λ r. ⌜ now r ≡ notedElement (now (s .entry)) (now (starts .entry)) end count k ⌝ }
 {
@@ -226,7 +233,43 @@ fn reach(count: usize, needed: usize) -> usize
     count
 }
 
-// Answers 9, 8, 10 and 11 of a segment with that tag.
+// Answers 9, 8, 10 and 11 of a segment with that tag, which has rules for `last` elements, rule by rule.
+fn rules_verdict(
+    s: &[u8],
+    starts: &[usize; 33],
+    end: usize,
+    count: usize,
+    plain: bool,
+    component: u8,
+    tag: u8,
+    last: usize,
+) -> Verdict
+    requires { ⌜ Ruled tag last ⌝ }
+    ensures { λ r. ⌜
+        r ≡ firstBroken (ruledChecks nonconformance tag
+        (notedView (now (s .entry)) (now (starts .entry)) end count plain component))
+        ⌝ }
+{
+    if let Verdict::Broken(n, e) = too_many(s, starts, end, count, plain, component, tag, last) {
+        return Verdict::Broken(n, e);
+    }
+    let upto = reach(count, rules::needed_of(tag));
+    if let Verdict::Broken(n, e) = elements_verdict(
+        s,
+        starts,
+        end,
+        count,
+        plain,
+        component,
+        tag,
+        upto,
+    ) {
+        return Verdict::Broken(n, e);
+    }
+    notes_verdict(s, starts, end, count, tag)
+}
+
+// Answers 9, 8, 10 and 11 of a segment with that tag. A usual shape is told at once; any other goes through the rules.
 pub fn ruled_verdict(
     s: &[u8],
     starts: &[usize; 33],
@@ -245,23 +288,10 @@ pub fn ruled_verdict(
     if last == 0 {
         return Verdict::Holds;
     }
-    if let Verdict::Broken(n, e) = too_many(s, starts, end, count, plain, component, tag, last) {
-        return Verdict::Broken(n, e);
+    if plain & usual::usual(s, starts, end, count, tag) {
+        return Verdict::Holds;
     }
-    let upto = reach(count, rules::needed_of(tag));
-    if let Verdict::Broken(n, e) = elements_verdict(
-        s,
-        starts,
-        end,
-        count,
-        plain,
-        component,
-        tag,
-        upto,
-    ) {
-        return Verdict::Broken(n, e);
-    }
-    notes_verdict(s, starts, end, count, tag)
+    rules_verdict(s, starts, end, count, plain, component, tag, last)
 }
 
 // The bytes of element k by the notes, the tag being element 0; none past the last, and none past element 31.

@@ -1,47 +1,12 @@
--- `ruled_verdict` meets its contract: 9, then 8 and 10, then 11.
+-- `ruled_verdict` meets its contract: no rules, a usual shape, or rule by rule.
 -- Assumes nothing.
-use Prim.Native.Nat.{ℕ, _≤_}
-use mathlib.Core.Path.{_≡_, sym, _∙_}
-use lib.ListN.{length}
-use denote.Ref.{now}
-use Rattle.text.specs.View.{Piece}
-use Rattle.elements.specs.Post.{rulesOf, lastMust, notedAt, manyVerdict}
-use Rattle.elements.specs.declared.verdict.Verdict.the-variants.{Holds}
-use Rattle.elements.proofs.Profile.{last-small, needed-last}
-use Rattle.elements.proofs.Judging.{few-count}
-use Rattle.elements.proofs.Deciding.{decide-plain, decide-many, decide-elements, decide-notes}
+use mathlib.Core.Path.{sym, _∙_}
 use native.Mathlib.Omega.{arith}
+use Rattle.elements.proofs.Deciding.{decide-plain}
+use Rattle.elements.proofs.Shapes.{usual-holds}
 use borrow.Author.Needs.{needs}
 use Rattle.elements.proofs.ruled.ruled_verdict.Statement.{statement}
 use Rattle.elements.proofs.ruled.ruled_verdict.Tie as tie
-
--- the elements by the notes
-abbrev at : tie.Start → ℕ → Piece
-at c = notedAt (now (c .args .s)) (now (c .args .starts)) (c .args .end) (c .args .count) (c .args .plain) (c .args .component)
-
--- what holds behind each test: the tag has rules, 9 is silent, and the pass goes as far as it has to
-ruled : (c : tie.Else1) → length ((rulesOf (c .before .before .before .args .tag)) .elements) ≡ 0 → ⊥
-ruled c z = c .if1 .left (c .before .last-of .ensures ∙ z)
-
-few : (c : tie.After-enum-told) → Holds ≡ manyVerdict (rulesOf (c .before .before .before .before .before .before .args .tag))
-    (at (c .before .before .before .before .before .before)) (c .before .before .before .before .before .before .args .count)
-few c = sym (c .enum-told .given .1) ∙ c .before .before .too-many .ensures
-
-fewer : (c : tie.After-enum-told) → c .before .before .before .before .before .before .args .count ≤ length
-    ((rulesOf (c .before .before .before .before .before .before .args .tag)) .elements)
-fewer c = few-count (c .before .before .before .before .before .before .args .tag) (c .before .before .before .before .before .before .args .count)
-    (at (c .before .before .before .before .before .before)) (sym (few c))
-
-enough : (c : tie.After-reach) → lastMust
-    ((rulesOf (c .before .before .before .before .before .before .before .before .args .tag)) .elements) ≤ c .reach .result
-enough c = omega (arith, c .before .needed-of .ensures, c .reach .ensures .enough)
-
-near : (c : tie.After-reach) → c .reach .result ≤ length
-    ((rulesOf (c .before .before .before .before .before .before .before .before .args .tag)) .elements)
-near c =
-    c .reach .ensures .near (length ((rulesOf (c .before .before .before .before .before .before .before .before .args .tag)) .elements))
-    (fewer (c .before .before))
-    (omega (arith, c .before .needed-of .ensures, needed-last (c .before .before .before .before .before .before .before .before .args .tag)))
 
 last-of-requires : tie.Need-last-of-requires
 last-of-requires c κs = search needs
@@ -49,71 +14,19 @@ last-of-requires c κs = search needs
 returns : tie.Need-returns
 returns c = decide-plain _ _ _ _ _ _ _ (sym (c .before .last-of .ensures) ∙ c .if1 .taken)
 
-too-many-requires : tie.Need-too-many-requires
-too-many-requires c κs = search needs
-
-enum-known-n : tie.Need-enum-known-n
-enum-known-n c = search needs
+usual-requires : tie.Need-usual-requires
+usual-requires c κs = search needs
 
 returns-2 : tie.Need-returns-2
-returns-2 c = decide-many _ _ _ _ _ _ _ (ruled (c .before .before .before .before)) _ _
-    (sym (c .before .n .given .1) ∙ c .before .before .before .too-many .ensures)
+returns-2 c = usual-holds _ _ _ _ _ (c .before .usual .result) _ _ (c .if2 .taken) (c .before .usual .ensures)
 
-enum-told : tie.Need-enum-told
-enum-told c = search needs
-
-needed-of-requires : tie.Need-needed-of-requires
-needed-of-requires c κs = search needs
-
-reach-requires : tie.Need-reach-requires
-reach-requires c κs = search needs
-
-elements-verdict-requires : tie.Need-elements-verdict-requires
-elements-verdict-requires c κs = omega (arith, near c, last-small (c .before .before .before .before .before .before .before .before .args .tag))
-
-enum-known-n-2 : tie.Need-enum-known-n-2
-enum-known-n-2 c = search needs
+rules-verdict-requires : tie.Need-rules-verdict-requires
+rules-verdict-requires c κs = record { counted = c .before .before .before .last-of .ensures; some = omega (arith, c .before .before .if1 .left) }
 
 returns-3 : tie.Need-returns-3
-returns-3 c =
-    decide-elements _ _ _ _ _ _ _ (ruled (c .before .before .before .before .before .before .before .before .before))
-    (few (c .before .before .before .before .before .before)) _ (c .before .before .before .before .reach .ensures .far)
-    (enough (c .before .before .before .before)) (near (c .before .before .before .before)) _ _
-    (sym (c .before .n2 .given .1) ∙ c .before .before .before .elements-verdict .ensures)
-
-enum-told-2 : tie.Need-enum-told-2
-enum-told-2 c = search needs
-
-notes-verdict-requires : tie.Need-notes-verdict-requires
-notes-verdict-requires c κs = omega (
-  arith,
-  fewer (c .before .before .before .before .before),
-  last-small
-      (c .before .before .before .before .before .before .before .before .before .before .before .args .tag),
-)
-
-returns-4 : tie.Need-returns-4
-returns-4 c = c .notes-verdict .ensures
-    ∙ decide-notes _ _ _ _ _ _ _ (ruled (c .before .before .before .before .before .before .before .before .before))
-    (few (c .before .before .before .before .before .before)) _ (c .before .before .before .before .reach .ensures .far)
-    (enough (c .before .before .before .before)) (near (c .before .before .before .before))
-    (sym (c .before .enum-told2 .given .1) ∙ c .before .before .before .elements-verdict .ensures)
+returns-3 c = c .rules-verdict .ensures
 
 pub ruled-verdict-spec : {M : Type 1} → statement M
 ruled-verdict-spec =
     tie.close
-    (tie.spec
-    last-of-requires
-    returns
-    too-many-requires
-    enum-known-n
-    returns-2
-    enum-told
-    needed-of-requires
-    reach-requires
-    elements-verdict-requires
-    enum-known-n-2
-    returns-3
-    enum-told-2
-    notes-verdict-requires
-    returns-4)
+    (tie.spec last-of-requires returns usual-requires returns-2 rules-verdict-requires returns-3)
