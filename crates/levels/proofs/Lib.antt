@@ -8,5 +8,7 @@ pub mod Judgements
 pub mod Children
 pub mod Depth
 pub mod Telling
+pub mod Greater
+pub mod Nearby
 pub mod Once
 pub mod Cases

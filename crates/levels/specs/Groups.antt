@@ -1,14 +1,15 @@
--- The tests of answers 14 and 15 once it is known whether there is a parent.
+-- The tests of answers 14 and 15, and the answers, once it is known whether there is a parent.
 -- Assumes nothing.
-use Prim.Native.Nat.{ℕ}
+use Prim.Native.Nat.{ℕ, suc}
 use mathlib.Core.Bool.{Bool, not, _&&_, _||_}
 use mathlib.Core.List.{List, [], _∷_}
 use lib.Dec.{leb}
 use Rattle.text.specs.Bytes.{Bytes, bytes, same}
-use Rattle.elements.specs.Checks.{Check, check}
-use Rattle.levels.specs.Profile.{LevelProfile, mayStandAlone, mayBeMarked, mayHang}
+use Rattle.elements.specs.Checks.{Check, check, firstBroken}
+use Rattle.levels.specs.Profile.{LevelProfile, codeOf, mayStandAlone, mayBeMarked, mayHang}
 use Rattle.levels.specs.Levels.{Level}
-use Rattle.levels.specs.Rules.{absent}
+use Rattle.levels.specs.Rules.{absent, judgedBy}
+use Rattle.levels.specs.declared.judging.Judged.{Judged}
 
 -- a mark is none, `0`, or, of a code that may be marked, `1`
 abbrev pub markFits : LevelProfile → ℕ → Bytes → Bool
@@ -26,3 +27,13 @@ childChecks profile parent shut code mark =
 -- a level as far as its record tells
 abbrev pub levelWith : ℕ → ℕ → ℕ → Level
 levelWith parent depth code = record { id = []; mark = []; segment = 0; parent = parent; depth = depth; code = code }
+
+-- the answer for an HL without a parent, by its code and mark
+unfoldable pub judgedRoot : LevelProfile → Bytes → Bytes → Judged
+judgedRoot profile code mark = judgedBy (firstBroken (aloneChecks profile (codeOf profile code) mark)) (levelWith 0 1 (codeOf profile code))
+
+-- and for one under the level l, which has the number `above`
+unfoldable pub judgedUnder : LevelProfile → ℕ → Level → Bytes → Bytes → Judged
+judgedUnder profile above l code mark =
+    judgedBy (firstBroken (childChecks profile (l .code) (same (l .mark) (bytes "0")) (codeOf profile code) mark))
+    (levelWith above (suc (l .depth)) (codeOf profile code))

@@ -4,3 +4,4 @@ pub mod Rules
 pub mod Groups
 pub mod Told
 pub mod Post
+pub mod Shortcuts

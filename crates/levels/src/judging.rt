@@ -1,15 +1,14 @@
 // Judging an HL by the levels before it.
 use crate::codes;
 use crate::marks;
-use crate::search;
 use crate::tables;
 use elements::verdict::Verdict;
 ghost use mathlib.Core.Path.{_≡_};
 ghost use Rattle.elements.specs.Checks.{firstBroken};
 ghost use Rattle.levels.specs.Profile.{nonconformance};
-ghost use Rattle.levels.specs.Rules.{judgedBy, judged};
-ghost use Rattle.levels.specs.Groups.{aloneChecks, childChecks, levelWith};
-ghost use Rattle.levels.specs.Told.{told};
+ghost use Rattle.levels.specs.Rules.{judgedBy};
+ghost use Rattle.levels.specs.Groups.{aloneChecks, childChecks, levelWith, judgedRoot, judgedUnder};
+ghost use Rattle.levels.specs.Told.{toldLevel};
 
 // The answer for an HL.
 pub enum Judged {
@@ -61,32 +60,28 @@ fn answer(verdict: Verdict, parent: usize, depth: usize, code: usize) -> Judged
     }
 }
 
-// The answer for an HL with these elements after the levels that the tables tell of.
-pub fn judge_level(
+// The answer for an HL that names no parent, by its code and mark.
+pub fn judge_root(code: &[u8], mark: &[u8]) -> Judged
+    ensures { λ r. ⌜ r ≡ judgedRoot nonconformance (now (code .entry)) (now (mark .entry)) ⌝ }
+{
+    let own = codes::code_number(code);
+    answer(judge_alone(own, mark), 0, 1, own)
+}
+
+// The answer for an HL whose parent is the level `above` that the tables tell of, by its code and mark.
+pub fn judge_under(
     s: &[u8],
     separator: u8,
     segments: &[u64],
     levels: &[u64],
-    count: usize,
-    id: &[u8],
-    parent: &[u8],
+    above: usize,
     code: &[u8],
     mark: &[u8],
 ) -> Judged
-    ensures { λ r. ⌜ r ≡ judged nonconformance (told (now (s .entry)) separator (now (segments .entry)) (now (levels .entry)) count)
-        (record { id = now (id .entry); parent = now (parent .entry); code = now (code .entry); mark = now (mark .entry) }) ⌝ }
+    ensures { λ r. ⌜ r ≡ judgedUnder nonconformance above (toldLevel (now (s .entry)) separator (now (segments .entry)) (now (levels .entry)) above)
+        (now (code .entry)) (now (mark .entry)) ⌝ }
 {
-    if search::find_level(s, separator, segments, levels, count, id) != 0 {
-        return Judged::Refused(12, 1);
-    }
     let own = codes::code_number(code);
-    if parent.len() == 0 {
-        return answer(judge_alone(own, mark), 0, 1, own);
-    }
-    let above = search::find_level(s, separator, segments, levels, count, parent);
-    if above == 0 {
-        return Judged::Refused(13, 2);
-    }
     let shut = marks::level_marked(s, separator, segments, levels, above, b'0');
     let verdict = judge_child(tables::level_code(levels, above), shut, own, mark);
     answer(verdict, above, tables::level_depth(levels, above) + 1, own)

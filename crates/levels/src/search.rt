@@ -9,7 +9,7 @@ ghost use Rattle.levels.specs.Told.{entryOf, startOf, told};
 ghost use Rattle.levels.specs.Post.{MayEnd};
 
 // Where the HL01 of level n begins: behind `HL` and a separator, or where the bytes end.
-fn id_start(s: &[u8], segments: &[u64], levels: &[u64], n: usize) -> usize
+pub(crate) fn id_start(s: &[u8], segments: &[u64], levels: &[u64], n: usize) -> usize
     ensures { λ r. ⌜ r ≡ min (startOf (now (segments .entry)) (entryOf 4 (now (levels .entry)) n 0) + 3) (length (now (s .entry))) ⌝ }
 {
     let start = tables::segment_start(segments, tables::level_segment(levels, n));
@@ -23,7 +23,7 @@ fn id_start(s: &[u8], segments: &[u64], levels: &[u64], n: usize) -> usize
 }
 
 // Whether a piece of that length may end here: the bytes end, or a separator follows.
-fn may_end(s: &[u8], separator: u8, from: usize, len: usize) -> bool
+pub(crate) fn may_end(s: &[u8], separator: u8, from: usize, len: usize) -> bool
     requires { ⌜ from ≤ length (now s) ⌝ }
     ensures { λ r. ⌜ MayEnd separator (drop from (now (s .entry))) len r ⌝ }
 {

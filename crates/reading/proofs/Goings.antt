@@ -42,7 +42,7 @@ use Rattle.reading.proofs.Standings.{standing-start, standing-refuses, 
 
 -- at the start
 pub going-start : (how : How) (s : Bytes) (classes : List ℕ) (before : Tables) (queue starts : List ℕ) → length queue ≡ 264 → length starts ≡ 33
-    → Going how s classes before (before .segments) (before .levels) queue starts 0 0 0 0 (record { count = 0; row = 0; again = false; known = 0 })
+    → Going how s classes before (before .segments) (before .levels) queue starts 0 0 0 0 (record { count = 0; row = 0; again = false; known = 0; greatest = 0 })
 going-start how s classes before queue starts q r = record {
   stands = record { gs = []; rows = []; standing = standing-start how before s };
   ready = ready-first classes s queue q;
@@ -152,7 +152,7 @@ module _ {how : How} {s : Bytes} {classes queue starts : List ℕ} {at end count
     -- `settle` on what `judge` said
     module _ (fit : Fitted (how .separators)) (j : Judgement)
         (judged : (before : Tables) (gs : List Placed) (rows : List ℕ) (g more : Bytes) → Fitted (how .separators) → Noted how s starts notes g more
-        → Standing how before s segments levels at (state .count) (state .row) (state .again) (state .known) gs rows
+        → Standing how before s segments levels at (state .count) (state .row) (state .again) (state .known) (state .greatest) gs rows
         → Judges rows (onto [] (seen how gs)) (viewOf (how .separators) g) j)
         (segments′ levels′ : List ℕ) (r : Step)
         (settles : (how : How) (before : Tables) (s : Bytes) (gs : List Placed) (rows : List ℕ) (g more : Bytes)

@@ -31,15 +31,16 @@ use Rattle.elements.specs.declared.verdict.Verdict.{Verdict}
 use Rattle.elements.specs.declared.verdict.Verdict.the-variants.{Holds, Broken as Faulty}
 use Rattle.elements.proofs.Verdicts.{keeps-holds}
 use Rattle.elements.proofs.Right.{ruled-right, text-right}
-use Rattle.levels.specs.Levels.{claimOf, textOf}
+use Rattle.levels.specs.Levels.{Claim, claimOf, textOf}
 use Rattle.levels.specs.Rules.{levelChecks, judged}
+use Rattle.levels.specs.Shortcuts.{keyOf, Ordered}
 use Rattle.levels.specs.Told.{told}
 use Rattle.reading.specs.Profile.{nonconformance}
 use Rattle.reading.specs.Segments.{tagIn, isHL, isSE, seen, onto, levelsIn}
 use Rattle.reading.specs.Rules.{closingChecks}
 use Rattle.reading.specs.Records.{Tables}
 use Rattle.reading.specs.Standing.{Standing}
-use Rattle.reading.specs.Judgements.{notedClaim, notedClosing, segmentOf, brokenBy, byLevel, byClosing, lateJudgement, Noted, Judges}
+use Rattle.reading.specs.Judgements.{notedClaim, notedClosing, segmentOf, brokenBy, byLevel, byClosing, lateJudgement, JudgesLate, Noted, Judges}
 use Rattle.reading.specs.declared.how.How.{How}
 use Rattle.reading.specs.declared.judging.Judgement.{Judgement}
 use Rattle.reading.specs.declared.judging.Judgement.the-variants.{Broken, Plain}
@@ -96,9 +97,9 @@ pub judges-tag : {how : How} {s : Bytes} {starts : List ℕ} {notes : Notes} {g 
 judges-tag {how} {g = g} rows h t l noted fit nt =
     unknown-tag nonconformance rows h (viewOf (how .separators) g) (nt .data-only) (rw (← (noted ∙ tag-is nt fit)) l)
 
-module _ {how : How} {before : Tables} {s : Bytes} {segments levels : List ℕ} {at count row : ℕ} {again : Bool} {known : ℕ} {gs : List Placed} {rows : List ℕ}
+module _ {how : How} {before : Tables} {s : Bytes} {segments levels : List ℕ} {at count row : ℕ} {again : Bool} {known greatest : ℕ} {gs : List Placed} {rows : List ℕ}
     {starts : List ℕ} {notes : Notes} {g more : Bytes} (fit : Fitted (how .separators)) (nt : Noted how s starts notes g more)
-    (st : Standing how before s segments levels at count row again known gs rows) (t : ℕ)
+    (st : Standing how before s segments levels at count row again known greatest gs rows) (t : ℕ)
     (tag-noted : t ≡ tagNumber (notedElement s starts (notes .end) (notes .count) 0)) where
   abbrev v : View
   v = viewOf (how .separators) g
@@ -160,7 +161,7 @@ module _ {how : How} {before : Tables} {s : Bytes} {segments levels : List ℕ} 
           unfolding tagNumber
           hl-no-se hl = rw (eqb→eq (tagIn v) 12 hl) tt
 
-          by-level : T (isHL v) → Judges rows h v (byLevel x (judged (nonconformance .levels) (levelsIn nonconformance h) (claimOf v)))
+          by-level : T (isHL v) → Judges rows h v (byLevel x (keyOf (claimOf v .id)) (judged (nonconformance .levels) (levelsIn nonconformance h) (claimOf v)))
           unfolding judged
           by-level hl =
               let checks = levelChecks (nonconformance .levels) (levelsIn nonconformance h) (claimOf v) in
@@ -172,6 +173,7 @@ module _ {how : How} {before : Tables} {s : Bytes} {segments levels : List ℕ} 
                 record { kept = all-kept nonconformance rows h v (nt .data-only) known-tag ends x fits elements level closing; fits = fits },
                 passes (isHL v) hl,
                 hl-no-se hl,
+                refl,
                 refl,
               ))
               (λ n k q. rw q (bad-level nonconformance rows h v (nt .data-only) known-tag ends x fits elements hl n k q))
@@ -206,14 +208,14 @@ module _ {how : How} {before : Tables} {s : Bytes} {segments levels : List ℕ} 
               ap numberOf (text-is nt 1 (omega arith) ∙ sym (se-count (how .separators) g elements e)) ∙ counted-number (how .separators) g elements e in
               let control : notedElement s starts (notes .end) (notes .count) 2 ≡ textOf (elementOf v 2) =
               text-is nt 2 (omega arith) ∙ sym (se-control (how .separators) g elements e) in
-              let first = control-of-first how before s segments levels at count row again known gs rows (some-before e) st in
+              let first = control-of-first how before s segments levels at count row again known greatest gs rows (some-before e) st in
               let long : suc count ≡ suc (length h) = omega (arith, history-long how gs, st .count-is) in
               rw (total, control, first, long, st .tells .told-is) refl
 
           -- what the notes and tables say of an HL and of an SE
           abbrev hl-says : Judgement
-          hl-says = byLevel x (judged (nonconformance .levels) (told s (how .separators .element) segments levels known)
-              (notedClaim s starts (notes .end) (notes .count)))
+          hl-says = byLevel x (keyOf (notedElement s starts (notes .end) (notes .count) 1))
+              (judged (nonconformance .levels) (told s (how .separators .element) segments levels known) (notedClaim s starts (notes .end) (notes .count)))
 
           abbrev se-says : Judgement
           se-says = byClosing x (firstBroken (notedClosing s (how .separators .element) starts (notes .end) (notes .count) segments levels count known))
@@ -227,7 +229,9 @@ module _ {how : How} {before : Tables} {s : Bytes} {segments levels : List ℕ} 
               by : (a b : Bool) → eqb t 12 ≡ a → eqb t 33 ≡ b → Judges rows h v (cond a hl-says (cond b se-says (Plain x)))
               by true b p q =
                   let e : tagIn v ≡ 12 = sym tag-known ∙ eqb→eq t 12 (rw p tt) in
-                  rw (st .tells .told-is, its-claim e) (by-level (rw e tt))
+                  rw (st .tells .told-is)
+                  (subst (λ (c : Claim). Judges rows h v (byLevel x (keyOf (c .id)) (judged (nonconformance .levels) (levelsIn nonconformance h) c)))
+                  (sym (its-claim e)) (by-level (rw e tt)))
               by false true p q =
                   let e : tagIn v ≡ 33 = sym tag-known ∙ eqb→eq t 33 (rw q tt) in
                   subst (λ (cs : List Check). Judges rows h v (byClosing x (firstBroken cs))) (sym (its-closing-tests e)) (by-closing (rw e tt))
@@ -244,7 +248,9 @@ module _ {how : How} {before : Tables} {s : Bytes} {segments levels : List ℕ} 
         -- 12 to 16, where those hold
         pub judges-rest : (d : Verdict)
             → d ≡ firstBroken (ruledChecks (nonconformance .elements) t (notedView s starts (notes .end) (notes .count) (notes .plain) (how .separators .component)))
-            → d ≡ Holds → (state : State) → state .count ≡ count → state .known ≡ known
-            → (j : Judgement) → j ≡ lateJudgement (how .separators .element) s starts notes state segments levels t x → Judges rows h v j
-        judges-rest d is q state counted levelled j says =
-            subst (λ (j : Judgement). Judges rows h v j) (sym says) (judges-late (keeps-holds (ruledChecks (nonconformance .elements) (tagIn v) v) .0 (sym ruled-is ∙ sym is ∙ q)) state counted levelled)
+            → d ≡ Holds → (state : State) → state .count ≡ count → state .known ≡ known → state .greatest ≡ greatest
+            → (j : Judgement) → JudgesLate (how .separators .element) s starts notes state segments levels t x j → Judges rows h v j
+        judges-rest d is q state counted levelled bounded j says =
+            let ordered : Ordered (state .greatest) (told s (how .separators .element) segments levels (state .known)) =
+            rw (levelled, bounded, st .tells .told-is) (st .ordered) in
+            subst (λ (j : Judgement). Judges rows h v j) (sym (says ordered)) (judges-late (keeps-holds (ruledChecks (nonconformance .elements) (tagIn v) v) .0 (sym ruled-is ∙ sym is ∙ q)) state counted levelled)

@@ -33,6 +33,7 @@ pub mod CutWalk
 pub mod CutExits
 pub mod CutFacts
 pub mod Closings
+pub mod Placings
 pub mod OpeningText
 pub mod JudgeSteps
 pub mod Settles

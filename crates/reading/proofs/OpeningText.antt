@@ -46,13 +46,13 @@ unfolding tagOf rowAt list842 tagNumber
 tag-1 = refl
 
 -- the ST's control number, where a segment was passed
-pub control-of-first : (how : How) (before : Tables) (s : Bytes) (segments levels : List ℕ) (at count row : ℕ) (again : Bool) (known : ℕ) (gs : List Placed)
-    (rows : List ℕ) → 0 < count → Standing how before s segments levels at count row again known gs rows
+pub control-of-first : (how : How) (before : Tables) (s : Bytes) (segments levels : List ℕ) (at count row : ℕ) (again : Bool) (known greatest : ℕ)
+    (gs : List Placed) (rows : List ℕ) → 0 < count → Standing how before s segments levels at count row again known greatest gs rows
     → openingControl s (how .separators .element) segments ≡ textOf (elementOf (opening (onto [] (seen how gs))) 2)
 unfolding openingControl
-control-of-first how before s segments levels at count row again known [] rows some st = absurd (omega (arith, st .count-is))
-control-of-first how before s segments levels at count row again known (g ∷ gs) [] some st = absurd (omega (arith, st .rows-are))
-control-of-first how before s segments levels at count row again known (g ∷ gs) (r ∷ rows) some st =
+control-of-first how before s segments levels at count row again known greatest [] rows some st = absurd (omega (arith, st .count-is))
+control-of-first how before s segments levels at count row again known greatest (g ∷ gs) [] some st = absurd (omega (arith, st .rows-are))
+control-of-first how before s segments levels at count row again known greatest (g ∷ gs) (r ∷ rows) some st =
     let q = how .separators in
     let l = st .passed .leads in
     let w : Says q s (Whole (g .segment) (l .0)) = subst (λ (c : Cut). Says q s c) (l .1) (cut-says q s) in

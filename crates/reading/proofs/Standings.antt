@@ -1,6 +1,6 @@
 -- The reader from one segment to the next: what it knows at the start, after a segment that is passed, and where it stops.
 -- Assumes nothing.
-use Prim.Native.Nat.{ℕ, suc, _+_, _*_, _/_, _≤_, _<_}
+use Prim.Native.Nat.{ℕ, suc, _+_, _*_, _/_, _≤_, _<_, max}
 use mathlib.Core.Path.{_≡_, refl, sym, ap, subst, _∙_}
 use mathlib.Core.Bool.{Bool, true, false, not}
 use mathlib.Core.List.{List, [], _∷_, _++_, append-assoc}
@@ -15,14 +15,18 @@ use Rattle.text.proofs.Lists.{map-append}
 use Rattle.text.proofs.View.{Fitted}
 use Rattle.rows.specs.Tags.{tag}
 use Rattle.rows.specs.Following.{Fits, lastOf, twice}
-use Rattle.levels.specs.Levels.{Level, levelOf, recordOf, recordsOf, claimOf}
+use Rattle.elements.specs.Checks.{Keeps}
+use Rattle.levels.specs.Levels.{Level, called, levelOf, recordOf, recordsOf, claimOf}
+use Rattle.levels.specs.Rules.{levelChecks}
+use Rattle.levels.specs.Shortcuts.{keyOf}
 use Rattle.levels.specs.Told.{storedAt}
 use Rattle.levels.proofs.Calling.{Everyone}
 use Rattle.levels.proofs.Depth.{Within4}
+use Rattle.levels.proofs.Greater.{ordered-none, ordered-more}
 use Rattle.levels.proofs.Telling.{tells-none, told-segment-stored, told-level-stored}
 use Rattle.reading.specs.Profile.{nonconformance}
 use Rattle.reading.specs.Segments.{tagIn, isHL, isSE, seen, onto, levelsIn}
-use Rattle.reading.specs.Rules.{Kept}
+use Rattle.reading.specs.Rules.{hlChecks, Kept}
 use Rattle.reading.specs.Records.{Tables, segmentRecords, levelRecords, Room, over}
 use Rattle.reading.specs.Reads.{cutBy, skipBy, Passed, Read}
 use Rattle.reading.specs.Standing.{Standing}
@@ -85,8 +89,15 @@ twice-more : (r : ℕ) (already : Bool) (w : List ℕ) (x : ℕ) → twice r alr
 twice-more r already [] x = refl
 twice-more r already (y ∷ w) x = twice-more y (eqb y r) w x
 
+-- an HL that keeps its rules has a new HL01
+new-name : (h : List View) (v : View) → isHL v ≡ true → Keeps (hlChecks nonconformance h v) → called (claimOf v .id) (levelsIn nonconformance h) ≡ 0
+unfolding hlChecks
+new-name h v e k =
+    let kept : Keeps (levelChecks (nonconformance .levels) (levelsIn nonconformance h) (claimOf v)) = rw e at k in
+    eqb→eq (called (claimOf v .id) (levelsIn nonconformance h)) 0 (kept .0)
+
 -- at the start
-pub standing-start : (how : How) (before : Tables) (s : Bytes) → Standing how before s (before .segments) (before .levels) 0 0 0 false 0 [] []
+pub standing-start : (how : How) (before : Tables) (s : Bytes) → Standing how before s (before .segments) (before .levels) 0 0 0 false 0 0 [] []
 unfolding levelsIn
 standing-start how before s = record {
   passed = passed-none nonconformance how before s;
@@ -98,10 +109,11 @@ standing-start how before s = record {
   again-is = refl;
   known-is = refl;
   tells = tells-none s (how .separators .element) (before .segments) (before .levels);
+  ordered = ordered-none;
 }
 
-module _ {how : How} {before : Tables} {s : Bytes} {segments levels : List ℕ} {at count row : ℕ} {again : Bool} {known : ℕ} {gs : List Placed} {rows : List ℕ}
-    (st : Standing how before s segments levels at count row again known gs rows) where
+module _ {how : How} {before : Tables} {s : Bytes} {segments levels : List ℕ} {at count row : ℕ} {again : Bool} {known greatest : ℕ} {gs : List Placed} {rows : List ℕ}
+    (st : Standing how before s segments levels at count row again known greatest gs rows) where
   abbrev before-views : List View
   before-views = onto [] (seen how gs)
 
@@ -207,7 +219,7 @@ module _ {how : How} {before : Tables} {s : Bytes} {segments levels : List ℕ} 
     -- a segment that makes no level is passed
     pub standing-plain : (r : ℕ) → Kept nonconformance before-views v → Fits rows (tagIn v) r → isHL v ≡ false → T (not (isSE v))
         → count < length segments / 3
-        → Standing how before s (storedAt 3 segments count (at ∷ length g ∷ r ∷ [])) levels (at + length g + 1) (count + 1) r (eqb r row) known gs′ (rows ++ (r ∷ []))
+        → Standing how before s (storedAt 3 segments count (at ∷ length g ∷ r ∷ [])) levels (at + length g + 1) (count + 1) r (eqb r row) known greatest gs′ (rows ++ (r ∷ []))
     standing-plain r k f hl se room =
         let same : levelsIn nonconformance (onto [] (seen how gs′)) ≡ levelsIn nonconformance before-views =
         ap (levelsIn nonconformance) history-more ∙ levels-other before-views v hl in
@@ -222,6 +234,7 @@ module _ {how : How} {before : Tables} {s : Bytes} {segments levels : List ℕ} 
           again-is = again-more r;
           known-is = ap length same ∙ st .known-is;
           tells = rw (← one, same) (told-segment-stored (st .tells) at (length g) r (omega arith));
+          ordered = rw same (st .ordered);
         }
 
     -- a segment that makes a level is passed
@@ -229,10 +242,11 @@ module _ {how : How} {before : Tables} {s : Bytes} {segments levels : List ℕ} 
     new = levelOf (nonconformance .levels) (suc (length before-views)) (claimOf v) (levelsIn nonconformance before-views)
 
     pub standing-level : Fitted (how .separators) → (r : ℕ) → Kept nonconformance before-views v → Fits rows (tagIn v) r → isHL v ≡ true → T (not (isSE v))
-        → count < length segments / 3 → known < length levels / 4 → (numbers : List ℕ) → numbers ≡ recordOf new
+        → count < length segments / 3 → known < length levels / 4 → (numbers : List ℕ) → numbers ≡ recordOf new → (key : ℕ)
+        → key ≡ keyOf (claimOf v .id)
         → Standing how before s (storedAt 3 segments count (at ∷ length g ∷ r ∷ [])) (storedAt 4 levels known numbers) (at + length g + 1) (count + 1) r (eqb r row)
-        (known + 1) gs′ (rows ++ (r ∷ []))
-    standing-level fit r k f hl se room level-room numbers is =
+        (known + 1) (max greatest key) gs′ (rows ++ (r ∷ []))
+    standing-level fit r k f hl se room level-room numbers is key keyed =
         let p = passed-next r k f se (room-level hl room level-room) in
         let more-levels : levelsIn nonconformance (onto [] (seen how gs′)) ≡ new ∷ levelsIn nonconformance before-views =
         ap (levelsIn nonconformance) history-more ∙ levels-hl before-views v hl in
@@ -256,6 +270,7 @@ module _ {how : How} {before : Tables} {s : Bytes} {segments levels : List ℕ} 
           known-is = ap length more-levels ∙ omega (arith, st .known-is);
           tells = rw (← one, ← two, more-levels, is)
               (told-level-stored (st .tells) at (length g) r (omega arith) new (omega (arith, history-long how gs, st .count-is)) (deep .0 .1) (omega arith) written);
+          ordered = rw (more-levels, keyed) (ordered-more greatest (levelsIn nonconformance before-views) (st .ordered) new (new-name before-views v hl (k .level)));
         }
 
     -- the SE closes the transaction

@@ -24,6 +24,7 @@ use Rattle.levels.specs.Levels.{Claim, claimOf, levelOf, recordOf}
 use Rattle.levels.specs.Rules.{filled, judged}
 use Rattle.levels.specs.declared.judging.Judged.{Judged}
 use Rattle.levels.specs.declared.judging.Judged.the-variants.{Entitled, Refused}
+use Rattle.levels.specs.Shortcuts.{keyOf, Ordered}
 use Rattle.levels.specs.Told.{told}
 use Rattle.reading.specs.Profile.{nonconformance}
 use Rattle.reading.specs.Segments.{tagIn, isHL, isSE, seen, onto, levelsIn}
@@ -74,24 +75,35 @@ brokenBy Holds = Broken 6 0
 brokenBy (Faulty number element) = Broken number element
 
 -- what the late rules say, by the notes and the tables
-abbrev pub byLevel : ℕ → Judged → Judgement
-byLevel row (Entitled parent depth code) = Level row parent depth code
-byLevel row (Refused number element) = Broken number element
+abbrev pub byLevel : ℕ → ℕ → Judged → Judgement
+byLevel row key (Entitled parent depth code) = Level row parent depth code key
+byLevel row key (Refused number element) = Broken number element
 
 abbrev pub byClosing : ℕ → Verdict → Judgement
 byClosing row Holds = Last row
 byClosing row (Faulty number element) = Broken number element
 
+abbrev pub hlJudgement : ℕ → Bytes → List ℕ → Notes → State → List ℕ → List ℕ → ℕ → Judgement
+hlJudgement separator s starts notes state segments levels row =
+    byLevel row (keyOf (notedElement s starts (notes .end) (notes .count) 1))
+    (judged (nonconformance .levels) (told s separator segments levels (state .known)) (notedClaim s starts (notes .end) (notes .count)))
+
 abbrev pub lateJudgement : ℕ → Bytes → List ℕ → Notes → State → List ℕ → List ℕ → ℕ → ℕ → Judgement
 lateJudgement separator s starts notes state segments levels tag row =
     cond (eqb tag 12)
-    (byLevel row (judged (nonconformance .levels) (told s separator segments levels (state .known)) (notedClaim s starts (notes .end) (notes .count))))
+    (hlJudgement separator s starts notes state segments levels row)
     (cond (eqb tag 33)
     (byClosing row (firstBroken (notedClosing s separator starts (notes .end) (notes .count) segments levels (state .count) (state .known))))
     (Plain row))
 
+-- where the levels that the tables tell of are as the shortcuts take them
+abbrev pub JudgesHl : ℕ → Bytes → List ℕ → Notes → State → List ℕ → List ℕ → ℕ → Judgement → Type 0
+JudgesHl separator s starts notes state segments levels row r =
+    Ordered (state .greatest) (told s separator segments levels (state .known)) → r ≡ hlJudgement separator s starts notes state segments levels row
+
 abbrev pub JudgesLate : ℕ → Bytes → List ℕ → Notes → State → List ℕ → List ℕ → ℕ → ℕ → Judgement → Type 0
-JudgesLate separator s starts notes state segments levels tag row r = r ≡ lateJudgement separator s starts notes state segments levels tag row
+JudgesLate separator s starts notes state segments levels tag row r =
+    Ordered (state .greatest) (told s separator segments levels (state .known)) → r ≡ lateJudgement separator s starts notes state segments levels tag row
 
 -- the notes are right for the segment g, which was cut and has data bytes
 pub record Noted (how : How) (s : Bytes) (starts : List ℕ) (notes : Notes) (g more : Bytes) : Type 0 where
@@ -115,17 +127,18 @@ pub record Sound (rows : List ℕ) (h : List View) (v : View) (r : ℕ) : Type 0
 abbrev pub Judges : List ℕ → List View → View → Judgement → Type 0
 Judges rows h v (Broken number element) = FirstBroken (rules nonconformance rows h v) number element
 Judges rows h v (Plain r) = Sound rows h v r × (isHL v ≡ false) × T (not (isSE v))
-Judges rows h v (Level r parent depth code) =
+Judges rows h v (Level r parent depth code key) =
     Sound rows h v r × (isHL v ≡ true) × T (not (isSE v))
     × (suc (length h) ∷ parent ∷ depth ∷ code ∷ []
     ≡ recordOf (levelOf (nonconformance .levels) (suc (length h)) (claimOf v) (levelsIn nonconformance h)))
+    × (key ≡ keyOf (claimOf v .id))
 Judges rows h v (Last r) = Sound rows h v r × (isHL v ≡ false) × T (isSE v)
 
 -- where the notes are right and the reader stands before the segment, the judgement says what the rules say
 abbrev pub JudgesNext : How → Bytes → List ℕ → Notes → State → (segments levels : List ℕ) → Judgement → Type 0
 JudgesNext how s starts notes state segments levels r =
     (before : Tables) (gs : List Placed) (rows : List ℕ) (g more : Bytes) → Fitted (how .separators) → Noted how s starts notes g more
-    → Standing how before s segments levels (notes .at) (state .count) (state .row) (state .again) (state .known) gs rows
+    → Standing how before s segments levels (notes .at) (state .count) (state .row) (state .again) (state .known) (state .greatest) gs rows
     → Judges rows (onto [] (seen how gs)) (viewOf (how .separators) g) r
 
 -- the notes name a segment of this known tag that ends well

@@ -28,8 +28,9 @@ use Rattle.reading.specs.declared.settling.Step.{Step}
 use Rattle.reading.specs.declared.settling.Step.the-variants.{Done, Passed}
 
 -- what the reader carries after one segment more
-abbrev pub stateAfter : State → ℕ → ℕ → State
-stateAfter state row known = record { count = state .count + 1; row = row; again = eqb row (state .row); known = known }
+abbrev pub stateAfter : State → ℕ → ℕ → ℕ → State
+stateAfter state row known greatest =
+    record { count = state .count + 1; row = row; again = eqb row (state .row); known = known; greatest = greatest }
 
 -- a refusal at the segment
 abbrev pub refusedAt : ℕ → Notes → State → ℕ → Step
@@ -59,7 +60,7 @@ pub record InRoom (segments levels : List ℕ) (notes : Notes) (state : State) :
 pub record Settling (how : How) (before : Tables) (s : Bytes) (segments levels : List ℕ) (notes : Notes) (state : State) (gs : List Placed) (rows : List ℕ)
     (g more : Bytes) (judgement : Judgement) : Type 0 where
   pub fit : Fitted (how .separators)
-  pub standing : Standing how before s segments levels (notes .at) (state .count) (state .row) (state .again) (state .known) gs rows
+  pub standing : Standing how before s segments levels (notes .at) (state .count) (state .row) (state .again) (state .known) (state .greatest) gs rows
   pub cut : cutBy how (drop (notes .at) s) ≡ Whole g more
   pub whole : drop (notes .at) s ≡ g ++ how .separators .terminator ∷ more
   pub place : notes .end ≡ notes .at + length g
@@ -69,7 +70,7 @@ pub record Settling (how : How) (before : Tables) (s : Bytes) (segments levels :
 pub record Stands (how : How) (before : Tables) (s : Bytes) (segments levels : List ℕ) (at : ℕ) (state : State) : Type 0 where
   pub gs : List Placed
   pub rows : List ℕ
-  pub standing : Standing how before s segments levels at (state .count) (state .row) (state .again) (state .known) gs rows
+  pub standing : Standing how before s segments levels at (state .count) (state .row) (state .again) (state .known) (state .greatest) gs rows
 
 -- the answer is right, or the reader stands behind the segment
 abbrev pub Settles : How → Tables → Bytes → Notes → List ℕ → List ℕ → Step → Type 0
@@ -86,8 +87,8 @@ SettlesBy judgement notes state segments levels segments′ levels′ r =
 abbrev pub SettlesPlain : ℕ → Notes → State → (segments segments′ : List ℕ) → Step → Type 0
 SettlesPlain row notes state segments segments′ r = (levels : List ℕ) → SettlesBy (Plain row) notes state segments levels segments′ levels r
 
-abbrev pub SettlesLevel : (row parent depth code : ℕ) → Notes → State → (segments levels segments′ levels′ : List ℕ) → Step → Type 0
-SettlesLevel row parent depth code = SettlesBy (Level row parent depth code)
+abbrev pub SettlesLevel : (row parent depth code key : ℕ) → Notes → State → (segments levels segments′ levels′ : List ℕ) → Step → Type 0
+SettlesLevel row parent depth code key = SettlesBy (Level row parent depth code key)
 
 abbrev pub SettlesLast : ℕ → Notes → State → (segments segments′ : List ℕ) → Step → Type 0
 SettlesLast row notes state segments segments′ r = (levels : List ℕ) → SettlesBy (Last row) notes state segments levels segments′ levels r

@@ -7,18 +7,16 @@ ghost use Rattle.rows.specs.Next.{nextTable};
 ghost use Rattle.elements.specs.Checks.{firstBroken};
 ghost use Rattle.elements.specs.Post.{notedElement};
 ghost use Rattle.elements.specs.Rules.{endChecks};
-ghost use Rattle.levels.specs.Profile.{nonconformance};
-ghost use Rattle.levels.specs.Rules.{judged};
-ghost use Rattle.levels.specs.Told.{told};
-ghost use Rattle.reading.specs.Judgements.{notedClaim, openingControl, notedClosing, Inside, segmentOf, brokenBy, JudgesLate, Known, JudgesNext};
+ghost use Rattle.reading.specs.Judgements.{openingControl, notedClosing, Inside, segmentOf, brokenBy, JudgesHl, JudgesLate, Known, JudgesNext};
 use crate::how::How;
+use crate::placing;
 use elements::ruled;
 use elements::segment;
 use elements::types;
 use elements::verdict::Verdict;
 use levels::filling;
-use levels::judging;
 use levels::judging::Judged;
+use levels::keys;
 use rows::next;
 use rows::tags;
 use text::lookup;
@@ -29,8 +27,8 @@ pub(crate) enum Judgement {
     Broken(usize, usize),
     // Its row; it makes no level and does not close the transaction.
     Plain(u8),
-    // Its row, and the parent, depth and code of the level that it makes.
-    Level(u8, usize, usize, usize),
+    // Its row, the parent, depth and code of the level that it makes, and the key of its HL01.
+    Level(u8, usize, usize, usize, usize),
     // The row of the SE that closes the transaction.
     Last(u8),
 }
@@ -46,12 +44,13 @@ pub(crate) struct Notes {
 }
 
 // What the reader carries from segment to segment: how many segments were passed, the last row, whether it stands for the second time in a
-// row, and how many levels there are.
+// row, how many levels there are, and a number that no key of their HL01 is above.
 pub(crate) struct State {
     pub count: usize,
     pub row: u8,
     pub again: bool,
     pub known: usize,
+    pub greatest: usize,
 }
 
 // The number of the segment's tag.
@@ -61,33 +60,40 @@ fn tag_of(s: &[u8], starts: &[usize; 33], notes: Notes) -> u8
     tags::tag_number(ruled::noted_element(s, starts, notes.end, notes.count, 0))
 }
 
-// The answer for an HL.
+// What the rules of levels say of an HL with that row.
 fn judge_hl(
     s: &[u8],
     separator: u8,
     starts: &[usize; 33],
     notes: Notes,
+    state: State,
     segments: &[u64],
     levels: &[u64],
-    known: usize,
-) -> Judged
-    ensures { λ r. ⌜ r ≡ judged nonconformance (told (now (s .entry)) separator (now (segments .entry)) (now (levels .entry)) known) (notedClaim (now (s .entry)) (now (starts .entry)) (notes .end) (notes .count)) ⌝ }
+    row: u8,
+) -> Judgement
+    ensures { λ r. ⌜ JudgesHl separator (now (s .entry)) (now (starts .entry)) notes state (now (segments .entry)) (now (levels .entry)) row r ⌝ }
 {
     let id = ruled::noted_element(s, starts, notes.end, notes.count, 1);
     let parent = ruled::noted_element(s, starts, notes.end, notes.count, 2);
     let code = ruled::noted_element(s, starts, notes.end, notes.count, 3);
     let mark = ruled::noted_element(s, starts, notes.end, notes.count, 4);
-    judging::judge_level(
+    let key = keys::id_key(id);
+    match placing::judge_level(
         s,
         separator,
         segments,
         levels,
-        known,
+        state.known,
+        state.greatest,
         id,
+        key,
         parent,
         code,
         mark,
-    )
+    ) {
+        Judged::Entitled(above, depth, number) => Judgement::Level(row, above, depth, number, key),
+        Judged::Refused(number, element) => Judgement::Broken(number, element),
+    }
 }
 
 // Whether two parts have the same bytes.
@@ -181,10 +187,7 @@ fn judge_late(
 {
     let separator = how.separators.element;
     if tag == tags::HL {
-        return match judge_hl(s, separator, starts, notes, segments, levels, state.known) {
-            Judged::Entitled(parent, depth, code) => Judgement::Level(row, parent, depth, code),
-            Judged::Refused(number, element) => Judgement::Broken(number, element),
-        };
+        return judge_hl(s, separator, starts, notes, state, segments, levels, row);
     }
     if tag == tags::SE {
         return match judge_se(

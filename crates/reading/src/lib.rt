@@ -3,6 +3,7 @@ pub mod answer;
 mod cutting;
 pub mod how;
 mod judging;
+mod placing;
 pub mod reading;
 mod settling;
 mod storing;

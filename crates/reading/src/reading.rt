@@ -80,6 +80,7 @@ fn read_on(
         row: 0,
         again: false,
         known: 0,
+        greatest: 0,
     };
     loop {
         match cutting::next_segment(

@@ -1,6 +1,6 @@
 // What a judgement does: the answer where the reading ends, else the records of the segment, stored where there is room.
 ghost use mathlib.Core.Path.{_≡_};
-ghost use Prim.Native.Nat.{_/_, _≤_, _<_};
+ghost use Prim.Native.Nat.{_/_, _≤_, _<_, max};
 ghost use lib.ListN.{length};
 ghost use Rattle.reading.specs.Settling.{stateAfter, refusedAt, acceptedAt, InRoom, SettlesBy, SettlesPlain, SettlesLevel, SettlesLast};
 use crate::answer::Answer;
@@ -17,16 +17,24 @@ pub(crate) enum Step {
     Passed(State),
 }
 
+// The greater of the two.
+fn greater(a: usize, b: usize) -> usize
+    ensures { λ r. ⌜ r ≡ max a b ⌝ }
+{
+    if a < b { b } else { a }
+}
+
 // What the reader carries after one segment more.
-fn after(state: State, row: u8, known: usize) -> State
+fn after(state: State, row: u8, known: usize, greatest: usize) -> State
     requires { ⌜ state .count < 9000000000000000000 ⌝ }
-    ensures { λ r. ⌜ r ≡ stateAfter state row known ⌝ }
+    ensures { λ r. ⌜ r ≡ stateAfter state row known greatest ⌝ }
 {
     State {
         count: state.count + 1,
         row,
         again: row == state.row,
         known,
+        greatest,
     }
 }
 
@@ -66,7 +74,7 @@ fn pass_plain(row: u8, notes: Notes, state: State, segments: &mut [u64]) -> Step
         return refusal(17, notes, state, 0);
     }
     storing::put_segment(segments, state.count, notes.at, notes.end - notes.at, row);
-    Step::Passed(after(state, row, state.known))
+    Step::Passed(after(state, row, state.known, state.greatest))
 }
 
 // Passes a segment that makes a level, where there is room for both records.
@@ -75,13 +83,14 @@ fn pass_level(
     parent: usize,
     depth: usize,
     code: usize,
+    key: usize,
     notes: Notes,
     state: State,
     segments: &mut [u64],
     levels: &mut [u64],
 ) -> Step
     requires { ⌜ InRoom (now segments) (now levels) notes state ⌝ }
-    ensures { λ r. ⌜ SettlesLevel row parent depth code notes state (now (segments .entry)) (now (levels .entry)) (now (segments .exit)) (now (levels .exit)) r ⌝ }
+    ensures { λ r. ⌜ SettlesLevel row parent depth code key notes state (now (segments .entry)) (now (levels .entry)) (now (segments .exit)) (now (levels .exit)) r ⌝ }
 {
     if !storing::segment_room(segments, state.count) {
         return refusal(17, notes, state, 0);
@@ -91,7 +100,8 @@ fn pass_level(
     }
     storing::put_segment(segments, state.count, notes.at, notes.end - notes.at, row);
     storing::put_level(levels, state.known, state.count + 1, parent, depth, code);
-    Step::Passed(after(state, row, state.known + 1))
+    let greatest = greater(state.greatest, key);
+    Step::Passed(after(state, row, state.known + 1, greatest))
 }
 
 // Accepts with this segment as the last, where there is room for its record.
@@ -122,8 +132,18 @@ pub(crate) fn settle(
     match judgement {
         Judgement::Broken(number, element) => refusal(number, notes, state, element),
         Judgement::Plain(row) => pass_plain(row, notes, state, segments),
-        Judgement::Level(row, parent, depth, code) => {
-            pass_level(row, parent, depth, code, notes, state, segments, levels)
+        Judgement::Level(row, parent, depth, code, key) => {
+            pass_level(
+                row,
+                parent,
+                depth,
+                code,
+                key,
+                notes,
+                state,
+                segments,
+                levels,
+            )
         }
         Judgement::Last(row) => close(row, notes, state, segments),
     }

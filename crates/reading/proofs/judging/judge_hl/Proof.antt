@@ -1,7 +1,6 @@
 -- `judge_hl` meets its contract.
 -- Assumes nothing.
-use mathlib.Core.Path.{_∙_}
-use Rattle.reading.proofs.Closings.{claims-same}
+use Rattle.reading.proofs.Placings.{hl-judged}
 use borrow.Author.Needs.{needs}
 use Rattle.reading.proofs.judging.judge_hl.Statement.{statement}
 use Rattle.reading.proofs.judging.judge_hl.Tie as tie
@@ -18,11 +17,23 @@ noted-element-requires-3 c κs = search needs
 noted-element-requires-4 : tie.Need-noted-element-requires-4
 noted-element-requires-4 c κs = search needs
 
+id-key-requires : tie.Need-id-key-requires
+id-key-requires c κs = search needs
+
 judge-level-requires : tie.Need-judge-level-requires
-judge-level-requires c κs = search needs
+judge-level-requires c κs = c .id-key .ensures
+
+enum-known-above : tie.Need-enum-known-above
+enum-known-above c = search needs
+
+enum-known-number : tie.Need-enum-known-number
+enum-known-number c = search needs
 
 returns : tie.Need-returns
-returns c = c .judge-level .ensures ∙ claims-same _ _ _ _ _ _ _ _ _ (c .before .before .before .before .noted-element .ensures) (c .before .before .before .noted-element2 .ensures) (c .before .before .noted-element3 .ensures) (c .before .noted-element4 .ensures)
+returns c = λ o. hl-judged _ _ _ _ _ _ _ _ _ _ _ _ _ (c .before .before .before .before .before .before .before .before .noted-element .ensures) (c .before .before .before .before .before .before .before .noted-element2 .ensures) (c .before .before .before .before .before .before .noted-element3 .ensures) (c .before .before .before .before .before .noted-element4 .ensures) (c .before .before .before .before .id-key .ensures) (c .before .before .before .judge-level .ensures o) (c .before .above .given .1)
+
+returns-2 : tie.Need-returns-2
+returns-2 c = λ o. hl-judged _ _ _ _ _ _ _ _ _ (c .before .before .before .before .before .before .before .before .before .before .before .before .args .row) _ _ _ (c .before .before .before .before .before .before .before .before .noted-element .ensures) (c .before .before .before .before .before .before .before .noted-element2 .ensures) (c .before .before .before .before .before .before .noted-element3 .ensures) (c .before .before .before .before .before .noted-element4 .ensures) (c .before .before .before .before .id-key .ensures) (c .before .before .before .judge-level .ensures o) (c .before .number .given .1)
 
 pub judge-hl-spec : {M : Type 1} → statement M
 judge-hl-spec =
@@ -32,5 +43,9 @@ judge-hl-spec =
     noted-element-requires-2
     noted-element-requires-3
     noted-element-requires-4
+    id-key-requires
     judge-level-requires
-    returns)
+    enum-known-above
+    enum-known-number
+    returns
+    returns-2)

@@ -34,7 +34,7 @@ returns-2 c =
 returns-3 : tie.Need-returns-3
 returns-3 c =
     let start = c .before .before .before .before .before .before .before .before .before in
-    λ before gs rows g more fit nt st. judges-rest fit nt st _ (start .pre .1 .tagged) (start .pre .1 .listed) (start .pre .1 .ended) _ (rw (start .pre .0) at (c .before .before .before .before .before .row-after .ensures)) (c .before .before .before .before .if1 .left) _ (c .before .before .before .ruled-verdict .ensures) (c .before .enum-told .given .1) (start .args .state) refl refl _ (c .judge-late .ensures)
+    λ before gs rows g more fit nt st. judges-rest fit nt st _ (start .pre .1 .tagged) (start .pre .1 .listed) (start .pre .1 .ended) _ (rw (start .pre .0) at (c .before .before .before .before .before .row-after .ensures)) (c .before .before .before .before .if1 .left) _ (c .before .before .before .ruled-verdict .ensures) (c .before .enum-told .given .1) (start .args .state) refl refl refl _ (c .judge-late .ensures)
 
 pub judge-known-spec : {M : Type 1} → statement M
 judge-known-spec =

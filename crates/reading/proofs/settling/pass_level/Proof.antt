@@ -27,7 +27,7 @@ same-length : tie.Need-same-length
 same-length c = search needs
 
 returns : tie.Need-returns
-returns c = λ how before s gs rows g more t. full-level t _ _ _ _ refl (no-room (c .before .before .segment-room .result) _ _ (c .before .before .segment-room .ensures) (c .before .if1 .taken)) _ (c .refusal .ensures)
+returns c = λ how before s gs rows g more t. full-level t _ _ _ _ _ refl (no-room (c .before .before .segment-room .result) _ _ (c .before .before .segment-room .ensures) (c .before .if1 .taken)) _ (c .refusal .ensures)
 
 level-room-requires : tie.Need-level-room-requires
 level-room-requires c κs = search needs
@@ -42,7 +42,7 @@ same-length-3 : tie.Need-same-length-3
 same-length-3 c = search needs
 
 returns-2 : tie.Need-returns-2
-returns-2 c = λ how before s gs rows g more t. full-levels t _ _ _ _ refl (no-room (c .before .before .level-room .result) _ _ (c .before .before .level-room .ensures) (c .before .if2 .taken)) _ (c .refusal2 .ensures)
+returns-2 c = λ how before s gs rows g more t. full-levels t _ _ _ _ _ refl (no-room (c .before .before .level-room .result) _ _ (c .before .before .level-room .ensures) (c .before .if2 .taken)) _ (c .refusal2 .ensures)
 
 sub-put-segment : tie.Need-sub-put-segment
 sub-put-segment c = search needs
@@ -56,16 +56,19 @@ add-put-level c = search needs
 put-level-requires : tie.Need-put-level-requires
 put-level-requires c κs = level-fits (c .before .before .before .before .before .before .before)
 
+greater-requires : tie.Need-greater-requires
+greater-requires c κs = search needs
+
 add-after : tie.Need-add-after
 add-after c =
-    let start = c .before .before .before .before .before .before .before .before .before .before .before .before .before .before .before .before .before .before .before in
-    let level : start .args .state .known < length (start .args .levels .now) / 4 = level-fits (c .before .before .before .before .before .before .before .before .before .before .before) in
+    let start = c .before .before .before .before .before .before .before .before .before .before .before .before .before .before .before .before .before .before .before .before in
+    let level : start .args .state .known < length (start .args .levels .now) / 4 = level-fits (c .before .before .before .before .before .before .before .before .before .before .before .before) in
     record { fits = omega (arith, level, start .good .1 .1 .1 .1 .0) }
 
 after-requires : tie.Need-after-requires
 after-requires c κs =
-    let start = c .before .before .before .before .before .before .before .before .before .before .before .before .before .before .before .before .before .before .before in
-    let segment : start .args .state .count < length (start .args .segments .now) / 3 = segment-fits (c .before .before .before .before .before .before .before .before .before .before .before .before .before .before) in
+    let start = c .before .before .before .before .before .before .before .before .before .before .before .before .before .before .before .before .before .before .before .before in
+    let segment : start .args .state .count < length (start .args .segments .now) / 3 = segment-fits (c .before .before .before .before .before .before .before .before .before .before .before .before .before .before .before) in
     omega (arith, segment, start .good .1 .1 .1 .0)
 
 same-length-4 : tie.Need-same-length-4
@@ -76,7 +79,7 @@ same-length-5 c = search needs
 
 returns-3 : tie.Need-returns-3
 returns-3 c = λ how before s gs rows g more t.
-    settles-level t _ _ _ _ refl (segment-fits (c .before .before .before .before .before .before .before .before .before .before .before .before .before .before .before)) (level-fits (c .before .before .before .before .before .before .before .before .before .before .before .before)) _ (c .before .before .before .before .before .before .before .before .before .put-segment .ensures) _ (c .before .before .before .before .put-level .ensures) _ (c .after .ensures)
+    settles-level t _ _ _ _ _ refl (segment-fits (c .before .before .before .before .before .before .before .before .before .before .before .before .before .before .before .before)) (level-fits (c .before .before .before .before .before .before .before .before .before .before .before .before .before)) _ (c .before .before .before .before .before .before .before .before .before .before .put-segment .ensures) _ (c .before .before .before .before .before .put-level .ensures) _ (rw (c .before .before .greater .ensures) at (c .after .ensures))
 
 pub pass-level-spec : {M : Type 1} → statement M
 pass-level-spec =
@@ -95,6 +98,7 @@ pass-level-spec =
     put-segment-requires
     add-put-level
     put-level-requires
+    greater-requires
     add-after
     after-requires
     same-length-4

@@ -1,0 +1,22 @@
+-- `judge_root` meets its contract.
+-- Assumes nothing.
+use Rattle.levels.proofs.Judgements.{root-is}
+use borrow.Author.Needs.{needs}
+use Rattle.levels.proofs.judging.judge_root.Statement.{statement}
+use Rattle.levels.proofs.judging.judge_root.Tie as tie
+
+code-number-requires : tie.Need-code-number-requires
+code-number-requires c κs = search needs
+
+judge-alone-requires : tie.Need-judge-alone-requires
+judge-alone-requires c κs = search needs
+
+answer-requires : tie.Need-answer-requires
+answer-requires c κs = search needs
+
+returns : tie.Need-returns
+returns c = root-is _ _ _ _ _ (c .before .before .code-number .ensures) (c .before .judge-alone .ensures) (c .answer .ensures)
+
+pub judge-root-spec : {M : Type 1} → statement M
+judge-root-spec =
+    tie.close (tie.spec code-number-requires judge-alone-requires answer-requires returns)
