@@ -13,11 +13,11 @@ use lib.Seq.{take-length}
 use borrow.Author.Tests.{eq-eqb, ne-eqb, eqb-true, leb-true, le-leb, lt-leb}
 use Rattle.text.specs.Bytes.{Bytes, among}
 use Rattle.text.proofs.Bools.{or-assoc, or-false}
-use Rattle.text.proofs.Tests.{and-first, and-second, at-below}
+use Rattle.text.proofs.Tests.{at-below}
 use Rattle.elements.specs.Types.{isNumber, valueOf, figures, daysIn, isDate, isTime, numberOf, fits}
 use Rattle.elements.specs.Post.{Written}
 use Rattle.elements.specs.declared.types.Kind.the-variants.{DT, TM}
-use Rattle.elements.proofs.Values.{fails-second, fits-by}
+use Rattle.elements.proofs.Values.{fails-second, all-four, fits-by}
 use Rattle.elements.proofs.Months.{twenty-eight}
 
 -- a test that fails among others
@@ -117,14 +117,12 @@ pub fits-early : (s : Bytes) (month day : ℕ) → length s ≡ 8 → isNumber s
     → leb 1 month && leb month 12 && leb 1 day && leb day 28 ≡ true → fits DT 8 8 s ≡ true
 fits-early s month day l e m d t =
     let year = figures 0 4 s in
-    let month-low = and-first (leb 1 month) (leb month 12) (and-first (leb 1 month && leb month 12) (leb 1 day) (and-first (leb 1 month && leb month 12 && leb 1 day) (leb day 28) t)) in
-    let month-high = and-second (leb 1 month) (leb month 12) (and-first (leb 1 month && leb month 12) (leb 1 day) (and-first (leb 1 month && leb month 12 && leb 1 day) (leb day 28) t)) in
-    let day-low = and-second (leb 1 month && leb month 12) (leb 1 day) (and-first (leb 1 month && leb month 12 && leb 1 day) (leb day 28) t) in
-    let day-high = and-second (leb 1 month && leb month 12 && leb 1 day) (leb day 28) t in
-    let last : 28 ≤ daysIn year month = twenty-eight year month (omega (arith, leb-true 1 month month-low)) (omega (arith, leb-true month 12 month-high)) in
+    let told = all-four (leb 1 month) (leb month 12) (leb 1 day) (leb day 28) t in
+    let last : 28 ≤ daysIn year month =
+    twenty-eight year month (omega (arith, leb-true 1 month (told .one))) (omega (arith, leb-true month 12 (told .two))) in
     sym (fits-by DT 8 8 s (length s) refl (omega arith) (omega arith))
     ∙ sym (date-day s l e day (daysIn year month) d (ap (daysIn year) m))
-    ∙ rw (day-low, le-leb day (daysIn year month) (omega (arith, last, leb-true day 28 day-high)))
+    ∙ rw (told .three, le-leb day (daysIn year month) (omega (arith, last, leb-true day 28 (told .four))))
 
 pub fits-four : (s : Bytes) → length s ≡ 4 → isTime s ≡ true → fits TM 4 8 s ≡ true
 fits-four s l e = sym (fits-by TM 4 8 s (length s) refl (omega arith) (omega arith)) ∙ e

@@ -12,6 +12,7 @@ pub mod Profile
 pub mod Judging
 pub mod Pairings
 pub mod Deciding
+pub mod Suiting
 pub mod Shapes
 pub mod Agreement
 pub mod Right

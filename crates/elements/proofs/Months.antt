@@ -34,7 +34,8 @@ early m = eqb m 0 || leb 28 (getD (0 ∷ monthDays) m 0)
 pub twenty-eight : (y m : ℕ) → 0 < m → m < 13 → 28 ≤ daysIn y m
 unfolding daysIn
 twenty-eight y m a b =
-    either (eqb m 2 && isLeap y) (getD (0 ∷ monthDays) m 0) (leb-true 28 (getD (0 ∷ monthDays) m 0) (rw (ne-eqb m 0 (omega arith)) at (at-below 13 early refl m b)))
+    either (eqb m 2 && isLeap y) (getD (0 ∷ monthDays) m 0)
+    (leb-true 28 (getD (0 ∷ monthDays) m 0) (rw (ne-eqb m 0 (omega arith)) at (at-below 13 early refl m b)))
   where
     either : (t : Bool) (n : ℕ) → 28 ≤ n → 28 ≤ cond t 29 n
     either true n l = omega arith

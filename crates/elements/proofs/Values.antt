@@ -27,6 +27,30 @@ pub fails-second : (a c : Bool) → a && false && c ≡ false
 fails-second true c = refl
 fails-second false c = refl
 
+-- three and four tests that pass together pass one by one
+pub record Three (a b c : Bool) : Type 0 where
+  pub one : a ≡ true
+  pub two : b ≡ true
+  pub three : c ≡ true
+
+pub all-three : (a b c : Bool) → a && b && c ≡ true → Three a b c
+all-three a b c e = record {
+  one = and-first a b (and-first (a && b) c e);
+  two = and-second a b (and-first (a && b) c e);
+  three = and-second (a && b) c e;
+}
+
+pub record Four (a b c d : Bool) : Type 0 where
+  pub one : a ≡ true
+  pub two : b ≡ true
+  pub three : c ≡ true
+  pub four : d ≡ true
+
+pub all-four : (a b c d : Bool) → a && b && c && d ≡ true → Four a b c d
+all-four a b c d e =
+    let first = all-three a b c (and-first (a && b && c) d e) in
+    record { one = first .one; two = first .two; three = first .three; four = and-second (a && b && c) d e }
+
 -- a count that has passed i bytes of s, of which n pass the test: all that count are those and the rest
 pub record Counted (f : ℕ → Bool) (s : Bytes) (all i n : ℕ) : Type 0 where
   pub so-far : all ≡ n + countOf f (drop i s)

@@ -3,7 +3,7 @@
 use mathlib.Core.Path.{sym, _∙_}
 use native.Mathlib.Omega.{arith}
 use Rattle.elements.proofs.Deciding.{decide-plain}
-use Rattle.elements.proofs.Shapes.{usual-holds}
+use Rattle.elements.proofs.Suiting.{usual-holds}
 use borrow.Author.Needs.{needs}
 use Rattle.elements.proofs.ruled.ruled_verdict.Statement.{statement}
 use Rattle.elements.proofs.ruled.ruled_verdict.Tie as tie

@@ -31,7 +31,8 @@ figures-requires-2 c κs = written _ _ _ (digits (c .before)) (omega arith) (ome
 
 returns-3 : tie.Need-returns-3
 returns-3 c e =
-    fits-early (now (c .before .before .before .before .before .before .args .p)) _ _ (c .before .before .before .before .if1 .left) (digits (c .before .before)) (c .before .figures .ensures) (c .figures2 .ensures) e
+    fits-early (now (c .before .before .before .before .before .before .args .p)) _ _
+    (c .before .before .before .before .if1 .left) (digits (c .before .before)) (c .before .figures .ensures) (c .figures2 .ensures) e
 
 pub is-early-date-spec : {M : Type 1} → statement M
 is-early-date-spec =

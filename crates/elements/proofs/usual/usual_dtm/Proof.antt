@@ -3,7 +3,8 @@
 use mathlib.Core.Path.{sym}
 use mathlib.Core.Bool.{true≢false}
 use Rattle.text.proofs.Tests.{and-first, and-second}
-use Rattle.elements.proofs.Shapes.{all-three, usual-DTM-date, usual-DTM-time}
+use Rattle.elements.proofs.Values.{all-three}
+use Rattle.elements.proofs.Shapes.{usual-DTM-date, usual-DTM-time}
 use borrow.Author.Needs.{needs}
 use Rattle.elements.proofs.usual.usual_dtm.Statement.{statement}
 use Rattle.elements.proofs.usual.usual_dtm.Tie as tie
@@ -42,9 +43,12 @@ is-short-time-requires c κs = search needs
 
 returns-4 : tie.Need-returns-4
 returns-4 c e =
-    let told = all-three (c .before .before .before .before .before .is-short-id .result) (c .before .before .before .is-early-date .result) (c .is-short-time .result) e in
+    let told =
+    all-three (c .before .before .before .before .before .is-short-id .result)
+    (c .before .before .before .is-early-date .result) (c .is-short-time .result) e in
     usual-DTM-time _ _ _ _ (c .before .before .before .before .before .before .before .if2 .left)
-    (rw (c .before .before .before .before .before .before .element .ensures) at (c .before .before .before .before .before .is-short-id .ensures (told .one)))
+    (rw (c .before .before .before .before .before .before .element .ensures) at
+    (c .before .before .before .before .before .is-short-id .ensures (told .one)))
     (rw (c .before .before .before .before .element2 .ensures) at (c .before .before .before .is-early-date .ensures (told .two)))
     (rw (c .before .element3 .ensures) at (c .is-short-time .ensures (told .three)))
 

@@ -2,7 +2,8 @@
 -- Assumes nothing.
 use mathlib.Core.Path.{sym}
 use mathlib.Core.Bool.{true≢false}
-use Rattle.elements.proofs.Shapes.{all-three, all-four, usual-HL-bare, usual-HL-marked}
+use Rattle.elements.proofs.Values.{all-three, all-four}
+use Rattle.elements.proofs.Shapes.{usual-HL-bare, usual-HL-marked}
 use borrow.Author.Needs.{needs}
 use Rattle.elements.proofs.usual.usual_hl.Statement.{statement}
 use Rattle.elements.proofs.usual.usual_hl.Tie as tie
@@ -33,9 +34,12 @@ is-short-id-requires c κs = search needs
 
 returns-3 : tie.Need-returns-3
 returns-3 c e =
-    let told = all-three (c .before .before .before .before .before .is-text .result) (c .before .before .before .is-short .result) (c .before .is-short-id .result) e in
+    let told =
+    all-three (c .before .before .before .before .before .is-text .result)
+    (c .before .before .before .is-short .result) (c .before .is-short-id .result) e in
     usual-HL-bare _ _ _ _ (c .before .before .before .before .before .before .before .if2 .left)
-    (rw (c .before .before .before .before .before .before .element .ensures) at (c .before .before .before .before .before .is-text .ensures (told .one)))
+    (rw (c .before .before .before .before .before .before .element .ensures) at
+    (c .before .before .before .before .before .is-text .ensures (told .one)))
     (rw (c .before .before .before .before .element2 .ensures) at (c .before .before .before .is-short .ensures (told .two)))
     (rw (c .before .before .element3 .ensures) at (c .before .is-short-id .ensures (told .three))) (c .if3 .taken)
 
@@ -47,10 +51,14 @@ is-short-id-requires-2 c κs = search needs
 
 returns-4 : tie.Need-returns-4
 returns-4 c e =
-    let told = all-four (c .before .before .before .before .before .before .before .is-text .result) (c .before .before .before .before .before .is-short .result) (c .before .before .before .is-short-id .result) (c .is-short-id2 .result) e in
+    let told =
+    all-four (c .before .before .before .before .before .before .before .is-text .result) (c .before .before .before .before .before .is-short .result)
+    (c .before .before .before .is-short-id .result) (c .is-short-id2 .result) e in
     usual-HL-marked _ _ _ _ (c .before .before .before .before .before .before .before .before .before .if2 .left)
-    (rw (c .before .before .before .before .before .before .before .before .element .ensures) at (c .before .before .before .before .before .before .before .is-text .ensures (told .one)))
-    (rw (c .before .before .before .before .before .before .element2 .ensures) at (c .before .before .before .before .before .is-short .ensures (told .two)))
+    (rw (c .before .before .before .before .before .before .before .before .element .ensures) at
+    (c .before .before .before .before .before .before .before .is-text .ensures (told .one)))
+    (rw (c .before .before .before .before .before .before .element2 .ensures) at
+    (c .before .before .before .before .before .is-short .ensures (told .two)))
     (rw (c .before .before .before .before .element3 .ensures) at (c .before .before .before .is-short-id .ensures (told .three)))
     (rw (c .before .element4 .ensures) at (c .is-short-id2 .ensures (told .four)))
 

@@ -3,7 +3,8 @@
 use mathlib.Core.Path.{sym}
 use mathlib.Core.Bool.{true≢false}
 use Rattle.text.proofs.Tests.{and-first, and-second}
-use Rattle.elements.proofs.Shapes.{all-four, usual-N1-name, usual-N1-code}
+use Rattle.elements.proofs.Values.{all-four}
+use Rattle.elements.proofs.Shapes.{usual-N1-name, usual-N1-code}
 use borrow.Author.Needs.{needs}
 use Rattle.elements.proofs.usual.usual_n1.Statement.{statement}
 use Rattle.elements.proofs.usual.usual_n1.Tie as tie
@@ -48,10 +49,14 @@ is-text-requires-2 c κs = search needs
 
 returns-4 : tie.Need-returns-4
 returns-4 c e =
-    let told = all-four (c .before .before .before .before .before .before .before .is-short-id .result) (c .before .before .before .before .before .is-text .result) (c .before .before .is-short-id2 .result) (c .is-text2 .result) e in
+    let told =
+    all-four (c .before .before .before .before .before .before .before .is-short-id .result) (c .before .before .before .before .before .is-text .result)
+    (c .before .before .is-short-id2 .result) (c .is-text2 .result) e in
     usual-N1-code _ _ _ _ (c .before .before .before .before .before .before .before .before .before .if2 .left)
-    (rw (c .before .before .before .before .before .before .before .before .element .ensures) at (c .before .before .before .before .before .before .before .is-short-id .ensures (told .one)))
-    (rw (c .before .before .before .before .before .before .element2 .ensures) at (c .before .before .before .before .before .is-text .ensures (told .two)))
+    (rw (c .before .before .before .before .before .before .before .before .element .ensures) at
+    (c .before .before .before .before .before .before .before .is-short-id .ensures (told .one)))
+    (rw (c .before .before .before .before .before .before .element2 .ensures) at
+    (c .before .before .before .before .before .is-text .ensures (told .two)))
     (rw (c .before .before .before .element3 .ensures) at (c .before .before .is-short-id2 .ensures (told .three)))
     (rw (c .before .element4 .ensures) at (c .is-text2 .ensures (told .four)))
 

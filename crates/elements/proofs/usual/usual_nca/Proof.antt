@@ -4,7 +4,8 @@ use mathlib.Core.Path.{sym, _∙_}
 use mathlib.Core.Bool.{_&&_, true≢false}
 use borrow.Author.Tests.{not-false}
 use Rattle.text.proofs.Tests.{and-first, and-second}
-use Rattle.elements.proofs.Shapes.{all-four, usual-NCA-code, usual-NCA-unit}
+use Rattle.elements.proofs.Values.{all-four}
+use Rattle.elements.proofs.Shapes.{usual-NCA-code, usual-NCA-unit}
 use borrow.Author.Needs.{needs}
 use Rattle.elements.proofs.usual.usual_nca.Statement.{statement}
 use Rattle.elements.proofs.usual.usual_nca.Tie as tie
@@ -64,9 +65,12 @@ returns-5 c e =
     let unit = c .before .before .before .is-short-id2 .result in
     let told = all-four number code note unit (not-false (number && code && note && unit) (c .before .before .if4 .left)) in
     usual-NCA-unit _ _ _ _ (c .before .before .before .before .before .before .before .before .before .before .before .before .if2 .left)
-    (rw (c .before .before .before .before .before .before .before .before .before .before .before .element .ensures) at (c .before .before .before .before .before .before .before .before .before .before .is-short .ensures (told .one)))
-    (rw (c .before .before .before .before .before .before .before .before .before .element2 .ensures) at (c .before .before .before .before .before .before .before .before .is-short-id .ensures (told .two)))
-    (rw (c .before .before .before .before .before .before .element3 .ensures) at (c .before .before .before .before .before .is-short2 .ensures (told .three)))
+    (rw (c .before .before .before .before .before .before .before .before .before .before .before .element .ensures) at
+    (c .before .before .before .before .before .before .before .before .before .before .is-short .ensures (told .one)))
+    (rw (c .before .before .before .before .before .before .before .before .before .element2 .ensures) at
+    (c .before .before .before .before .before .before .before .before .is-short-id .ensures (told .two)))
+    (rw (c .before .before .before .before .before .before .element3 .ensures) at
+    (c .before .before .before .before .before .is-short2 .ensures (told .three)))
     (rw (c .before .element5 .ensures) at (sym (c .fits2 .ensures) ∙ e))
     (rw (c .before .before .before .before .element4 .ensures) at (c .before .before .before .is-short-id2 .ensures (told .four)))
 

@@ -27,7 +27,8 @@ returns-2 : tie.Need-returns-2
 returns-2 c e =
     let first = c .before .before .fits2 .result in
     let control = c .is-text .result in
-    usual-SE _ _ _ _ (c .before .before .before .before .if1 .left) (rw (c .before .before .before .element .ensures) at (sym (c .before .before .fits2 .ensures) ∙ and-first first control e))
+    usual-SE _ _ _ _ (c .before .before .before .before .if1 .left)
+    (rw (c .before .before .before .element .ensures) at (sym (c .before .before .fits2 .ensures) ∙ and-first first control e))
     (rw (c .before .element2 .ensures) at (c .is-text .ensures (and-second first control e)))
 
 pub usual-se-spec : {M : Type 1} → statement M
