@@ -1,13 +1,13 @@
 -- The last level and those above it: how the loop climbs, and that a level that it finds is the one that a search of all levels finds.
 -- Assumes nothing.
 use Prim.Native.Nat.{ℕ, zero, suc, _+_, _-_, _/_, _≤_, _<_, min}
-use mathlib.Core.Path.{_≡_, refl, sym, ap, subst, _∙_}
-use mathlib.Core.Bool.{Bool, true, false, cond, _&&_}
+use mathlib.Core.Path.{_≡_, refl, sym, ap, _∙_}
+use mathlib.Core.Bool.{Bool, true, false, cond}
 use mathlib.Core.Logic.{by-cases, inl, inr}
 use mathlib.Core.List.{List, [], _∷_}
 use native.Mathlib.Omega.{arith}
 use native.Mathlib.Decide.{decLt}
-use lib.Dec.{T, leb}
+use lib.Dec.{leb}
 use lib.ListN.{length, drop, getD, length-drop}
 use borrow.Author.Tests.{eq-eqb, ne-eqb, le-leb, lt-leb, leb-true}
 use borrow.Author.Count.{below-more}
@@ -83,7 +83,6 @@ between-says high n e =
 -- The climb: what is left to be looked at decides.
 pub record Climbs (s : Bytes) (separator : ℕ) (segments levels : List ℕ) (count : ℕ) (id : Bytes) (all n steps : ℕ) : Type 0 where
   pub free : Free separator id
-  pub all-are : all ≡ min count (length levels / 4)
   pub still : near id (told s separator segments levels count) ≡ nearFrom id (toldUpTo s separator segments levels all) steps n
 
 -- before the last level is looked at
@@ -92,7 +91,6 @@ pub climbs-all : (s : Bytes) (separator : ℕ) (segments levels : List ℕ) (cou
 unfolding near
 climbs-all s separator segments levels count id first all e h are = record {
   free = free-when separator id (rw (e, first-length separator id) at h);
-  all-are = are;
   still =
       ap (near id) (told-all s separator segments levels count all are)
       ∙ ap (nearFrom id (toldUpTo s separator segments levels all) 4) (told-length s separator segments levels all);
@@ -132,7 +130,6 @@ module _ {s : Bytes} {separator : ℕ} {segments levels : List ℕ} {count : ℕ
         → Climbs s separator segments levels count id all (entryOf 4 levels n 1) (steps - 1)
     climbs-more e = record {
       free = k .free;
-      all-are = k .all-are;
       still = looks ∙ ap (λ (b : Bool). cond b n (nearFrom id ls (steps - 1) (entryOf 4 levels n 1))) e;
     }
 

@@ -20,7 +20,6 @@ use Rattle.levels.proofs.Greater.{above-all}
 use Rattle.levels.proofs.Nearby.{near-called}
 use Rattle.levels.proofs.Judgements.{judged-used, judged-alone, judged-nobody, judged-child}
 use Rattle.reading.specs.Judgements.{byLevel}
-use Rattle.reading.specs.declared.judging.Judgement.{Judgement}
 use Rattle.reading.proofs.Closings.{claims-same}
 
 -- a key above all others

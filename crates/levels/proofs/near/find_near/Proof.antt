@@ -2,7 +2,6 @@
 -- Assumes nothing.
 use Rattle.levels.proofs.Nearby.{Climbs, climbs-all, climbs-below, climbs-past, climbs-end, climbs-met, climbs-more, near-unfree}
 use mathlib.Core.Path.{sym, _∙_}
-use native.Mathlib.Omega.{arith}
 use borrow.Author.Needs.{needs}
 use Rattle.levels.proofs.near.find_near.Statement.{statement}
 use Rattle.levels.proofs.near.find_near.Tie as tie

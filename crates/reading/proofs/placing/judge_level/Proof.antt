@@ -3,7 +3,7 @@
 use mathlib.Core.List.{List}
 use borrow.Author.Tests.{not-true, not-false}
 use Rattle.levels.specs.Levels.{Claim, Level}
-use Rattle.levels.specs.Told.{toldLevel, told}
+use Rattle.levels.specs.Told.{told}
 use Rattle.levels.proofs.Seeking.{told-called}
 use Rattle.reading.proofs.Placings.{placed-used, placed-root, placed-nowhere, placed-under}
 use borrow.Author.Needs.{needs}
