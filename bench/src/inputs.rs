@@ -75,11 +75,33 @@ fn report(size: usize, levels: usize, opens: &str, lines: &[&str]) -> Vec<u8> {
     report.close()
 }
 
+/// The same, with names that count downwards and levels that hang under two items in turn: no name is greater than those
+/// before it, and no parent is the last level or above it.
+fn scattered(size: usize, levels: usize, opens: &str, lines: &[&str]) -> Vec<u8> {
+    let mut report = Report::new();
+    for item in ["A", "B"] {
+        report.add(&format!("HL*{item}*R*I*1"));
+    }
+    let share = size / levels;
+    for level in 1..=levels {
+        let item = if level % 2 == 0 { "A" } else { "B" };
+        report.add(&format!("HL*{}*{item}*F*0", 2 * levels - level));
+        report.add(opens);
+        let mut line = 0;
+        while report.bytes.len() + 12 < level * share {
+            report.add(lines[line % lines.len()]);
+            line += 1;
+        }
+    }
+    report.close()
+}
+
 /// All inputs, the large ones first.
 pub fn inputs() -> Vec<Input> {
     vec![
         Input { name: "1 MB, 50 levels", bytes: report(LARGE, 50, "NCD*1", &FAULT) },
         Input { name: "1 MB, 1,000 levels", bytes: report(LARGE, 1000, "NCD*1", &FAULT) },
+        Input { name: "1 MB, 1,000 levels, no order", bytes: scattered(LARGE, 1000, "NCD*1", &FAULT) },
         Input { name: "1 MB, short plain segments", bytes: report(LARGE, 50, "NCD*1", &SHORT) },
         Input { name: "1 MB, long elements", bytes: report(LARGE, 50, "NCD*1", &LONG) },
         Input { name: "100 bytes", bytes: report(100, 1, "NCD*1", &FAULT[5..6]) },

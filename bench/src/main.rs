@@ -97,7 +97,7 @@ fn compare(input: &Input, rounds: usize) {
         theirs.measure(&input.bytes, &mut tables, by_hand);
     }
     println!(
-        "{:<28} {bytes:>8} {segments:>8} {levels:>7} {:>8.0} {:>8.0} {:>6.2}",
+        "{:<30} {bytes:>8} {segments:>8} {levels:>7} {:>8.0} {:>8.0} {:>6.2}",
         input.name,
         mine.megabytes_a_second(),
         theirs.megabytes_a_second(),
@@ -109,7 +109,7 @@ fn main() {
     let rounds = std::env::args().nth(1).map_or(ROUNDS, |word| word.parse().expect("a number of rounds"));
     println!("best of {rounds} rounds, MB a second");
     println!(
-        "{:<28} {:>8} {:>8} {:>7} {:>8} {:>8} {:>6}",
+        "{:<30} {:>8} {:>8} {:>7} {:>8} {:>8} {:>6}",
         "input", "bytes", "segments", "levels", "proved", "by hand", "ratio"
     );
     for input in inputs::inputs() {
