@@ -52,6 +52,14 @@ impl Report {
         self.segments += 1;
     }
 
+    /// The lines again and again, up to about so many bytes.
+    fn fill(&mut self, bytes: usize, lines: &[&str]) {
+        let mut lines = lines.iter().cycle();
+        while self.bytes.len() + 12 < bytes {
+            self.add(lines.next().expect("there is a line"));
+        }
+    }
+
     fn close(mut self) -> Vec<u8> {
         self.add(&format!("SE*{}*0001", self.segments + 1));
         self.bytes
@@ -66,11 +74,7 @@ fn report(size: usize, levels: usize, opens: &str, lines: &[&str]) -> Vec<u8> {
     for level in 1..=levels {
         report.add(&format!("HL*{level}*R*I*0"));
         report.add(opens);
-        let mut line = 0;
-        while report.bytes.len() + 12 < level * share {
-            report.add(lines[line % lines.len()]);
-            line += 1;
-        }
+        report.fill(level * share, lines);
     }
     report.close()
 }
@@ -87,11 +91,7 @@ fn scattered(size: usize, levels: usize, opens: &str, lines: &[&str]) -> Vec<u8>
         let item = if level % 2 == 0 { "A" } else { "B" };
         report.add(&format!("HL*{}*{item}*F*0", 2 * levels - level));
         report.add(opens);
-        let mut line = 0;
-        while report.bytes.len() + 12 < level * share {
-            report.add(lines[line % lines.len()]);
-            line += 1;
-        }
+        report.fill(level * share, lines);
     }
     report.close()
 }
