@@ -1,7 +1,7 @@
 // Runs the cases of each file that the arguments name, and prints what comes of each. A case is a header of sixteen bytes and its input:
-//   0        1 a reading, 2 a rewriting, 3 an element lookup, 4 a component lookup
+//   0        1 a reading, 2 a rewriting, 3 an element lookup, 4 a component lookup, 5 a reading of a long input
 //   1 to 3   element, component, terminator; of a lookup the separator alone
-//   4 to 6   the new set of a rewriting
+//   4 to 6   the new set of a rewriting; how long a long input is, which goes on with bytes `~` behind its own
 //   7, 9     how many numbers the segment table and the level table have, two bytes each, the lower first
 //   11       the number that a lookup asks for, or how many bytes the output of a rewriting has, two bytes
 //   13       how long the input is, three bytes
@@ -170,6 +170,38 @@ fn read_case(header: &[u8], input: &[u8]) {
     );
 }
 
+// Bytes `~`, one more than a reading takes.
+fn longest() -> [u8; 1048577]
+    ensures { λ r. ⌜ 1048577 ≡ length r ⌝ }
+{
+    [b'~'; 1048577]
+}
+
+// Puts bytes at the start of others, where they fit.
+fn copy(from: &[u8], to: &mut [u8]) {
+    if to.len() < from.len() {
+        return;
+    }
+    let mut i: usize = 0;
+    while i < from.len() {
+        to[i] = from[i];
+        i += 1;
+    }
+}
+
+// A reading of the lent bytes with the input at their start.
+fn read_long(header: &[u8], input: &[u8], bytes: &mut [u8]) {
+    copy(input, bytes);
+    read_case(header, bytes);
+}
+
+// A reading of an input that is as long as the header says.
+fn long_case(header: &[u8], input: &[u8]) {
+    let mut bytes = longest();
+    let length = least(three_at(header, 4), 1048577);
+    read_long(header, input, &mut bytes[..length]);
+}
+
 // The answer of a rewriting, and the tables and the output afterwards.
 fn rewrite_lent(
     input: &[u8],
@@ -226,6 +258,7 @@ fn run_case(header: &[u8], input: &[u8]) {
         2 => rewrite_case(header, input),
         3 => print_span(lookup::element_span(input, separator, asked)),
         4 => print_span(lookup::component_span(input, separator, asked)),
+        5 => long_case(header, input),
         _ => word(b"no such kind\n"),
     }
 }

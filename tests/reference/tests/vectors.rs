@@ -29,8 +29,8 @@ fn names_and_limits() {
     assert_eq!(
         names,
         [
-            "answers", "astray", "bounds", "lookups", "pairs", "rewriting", "rooms", "rowsa", "rowsb",
-            "rowsc", "rowsd", "separators", "truncated", "worked"
+            "answers", "astray", "bounds", "long", "lookups", "pairs", "rewriting", "rooms", "rowsa",
+            "rowsb", "rowsc", "rowsd", "separators", "truncated", "worked"
         ]
     );
     let mut names: Vec<String> = Vec::new();
@@ -42,7 +42,7 @@ fn names_and_limits() {
         let fits = |rooms: (usize, usize)| rooms.0 <= TABLE_NUMBERS && rooms.1 <= TABLE_NUMBERS;
         for told in &group.cases {
             match told.case {
-                Case::Read { rooms, .. } => assert!(fits(rooms)),
+                Case::Read { rooms, .. } | Case::Long { rooms, .. } => assert!(fits(rooms)),
                 Case::Rewrite { rooms, output, .. } => assert!(fits(rooms) && output <= OUTPUT_BYTES),
                 _ => {}
             }
@@ -74,7 +74,7 @@ fn played(name: &str, mut file: &[u8]) -> String {
         let old = Separators::new(header[1], header[2], header[3]);
         let new = Separators::new(header[4], header[5], header[6]);
         let asked = number(&header[11..13]);
-        if header[0] >= 3 {
+        if header[0] == 3 || header[0] == 4 {
             assert_eq!(header[2..11], [0; 9]);
             let (start, length) = match header[0] {
                 3 => element_span(input, header[1], asked),
@@ -86,12 +86,17 @@ fn played(name: &str, mut file: &[u8]) -> String {
         let mut segments: Vec<u64> = (0..number(&header[7..9]) as u64).map(|at| 700_000 + at).collect();
         let mut levels: Vec<u64> = (0..number(&header[9..11]) as u64).map(|at| 800_000 + at).collect();
         let mut output: Vec<u8> = (0..asked).map(|at| ((at * 7 + 3) % 256) as u8).collect();
-        let answer = if header[0] == 1 {
-            assert_eq!(header[4..7], [0; 3]);
-            assert_eq!(asked, 0);
-            read_plain(input, old, &mut segments, &mut levels)
-        } else {
-            plain_rewrite(input, old, new, &mut segments, &mut levels, &mut output)
+        let answer = match header[0] {
+            1 => {
+                assert_eq!(header[4..7], [0; 3]);
+                assert_eq!(asked, 0);
+                read_plain(input, old, &mut segments, &mut levels)
+            }
+            2 => plain_rewrite(input, old, new, &mut segments, &mut levels, &mut output),
+            _ => {
+                let behind = vec![b'~'; number(&header[4..7]) - input.len()];
+                read_plain(&[input, &behind].concat(), old, &mut segments, &mut levels)
+            }
         };
         out += &answer.numbers().map(|number| number.to_string()).join(" ");
         out += "\n";

@@ -27,6 +27,17 @@ pub enum Case {
         /// How many bytes the output has.
         output: usize,
     },
+    /// Kind 5.
+    Long {
+        /// The bytes that the input starts with.
+        input: Vec<u8>,
+        /// The separators.
+        separators: Separators,
+        /// How many numbers each table has, segments first.
+        rooms: (usize, usize),
+        /// How long the input is: behind its first bytes stand bytes `~`.
+        length: usize,
+    },
     /// Kind 3.
     Element {
         /// The segment's bytes.
@@ -82,10 +93,14 @@ impl Case {
     /// The header of sixteen bytes and the input.
     pub fn encode(&self, file: &mut Vec<u8>) {
         let none = Separators::new(0, 0, 0);
+        let length = |bytes: &[u8]| Separators::new(bytes[0], bytes[1], bytes[2]);
         let (kind, old, new, rooms, asked, input) = match self {
             Case::Read { input, separators, rooms } => (1, *separators, none, *rooms, 0, input),
             Case::Rewrite { input, separators, new, rooms, output } => {
                 (2, *separators, *new, *rooms, *output, input)
+            }
+            Case::Long { input, separators, rooms, length: bytes } => {
+                (5, *separators, length(&little(*bytes, 3)), *rooms, 0, input)
             }
             Case::Element { segment, separator, number } => {
                 (3, Separators::new(*separator, 0, 0), none, (0, 0), *number, segment)
@@ -118,6 +133,13 @@ impl Case {
                 let answer = rewrite(input, *separators, *new, segments, levels, &mut output);
                 print_answer(out, answer, &tables);
                 print_line(out, "output", &output);
+            }
+            Case::Long { input, separators, rooms, length } => {
+                let mut tables = Tables::lent(*rooms);
+                let mut long = input.clone();
+                long.resize(*length, b'~');
+                let answer = read(&long, *separators, &mut tables.segments, &mut tables.levels);
+                print_answer(out, answer, &tables);
             }
             Case::Element { segment, separator, number } => {
                 print_span(out, element_span(segment, *separator, *number));

@@ -5,6 +5,7 @@ mod astray;
 mod bounds;
 mod case;
 mod generated;
+mod long;
 mod lookups;
 mod pairs;
 mod places;
@@ -42,6 +43,7 @@ pub fn groups() -> Vec<Group> {
         ("answers", answers::cases()),
         ("astray", astray::cases()),
         ("bounds", bounds::cases()),
+        ("long", long::cases()),
         ("lookups", lookups::cases()),
         ("pairs", pairs::cases()),
         ("rewriting", rewriting::cases()),
