@@ -19,8 +19,8 @@ use Rattle.text.proofs.Everys.{every-at}
 use Rattle.text.proofs.Pieces.{pieces-some}
 use Rattle.elements.specs.Checks.{each, Keeps}
 use Rattle.elements.specs.Rules.{dataPiece, byteChecks}
-use Rattle.reading.proofs.CutClasses.{belongs}
-use Rattle.reading.proofs.CutQueue.{Under}
+use Rattle.reading.proofs.CutMarks.{belongs}
+use Rattle.reading.proofs.CutQueue.{All}
 
 -- the same test of n elements holds if it holds at each
 pub keeps-of : (number a n : ℕ) (test : ℕ → Bool) → ((k : ℕ) → a ≤ k → k < a + n → T (test k)) → Keeps (each number a n test)
@@ -50,11 +50,10 @@ pub every-snoc : {A : Type 0} (f : A → Bool) (xs : List A) (y : A) → every f
 every-snoc f [] y = and-true (f y)
 every-snoc f (x ∷ xs) y = ap (λ (t : Bool). f x && t) (every-snoc f xs y) ∙ sym (and-assoc (f x) (every f xs) (f y))
 
--- bytes of low classes pass a test that each of those classes does
-pub under-every : (class : ℕ → ℕ) (bound : ℕ) (f : ℕ → Bool) (s : Bytes) → ((b : ℕ) → class b < bound → T (f b)) → Under class bound s
-    → T (every f s)
-under-every class bound f [] h u = tt
-under-every class bound f (b ∷ s) h u = both (f b) (every f s) (h b (u .0)) (under-every class bound f s h (u .1))
+-- bytes with a property pass a test that each byte with it does
+pub all-every : (P : ℕ → Type 0) (f : ℕ → Bool) (s : Bytes) → ((b : ℕ) → P b → T (f b)) → All P s → T (every f s)
+all-every P f [] h u = tt
+all-every P f (b ∷ s) h u = both (f b) (every f s) (h b (u .0)) (all-every P f s h (u .1))
 
 -- a test of the bytes of pieces, with one byte more in front
 every-before : (f : ℕ → Bool) (t : Bool) (b : ℕ) (ps : List Bytes) → 0 < length ps

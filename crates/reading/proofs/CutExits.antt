@@ -18,15 +18,14 @@ use Rattle.text.specs.Post.{Meets}
 use Rattle.text.specs.declared.separators.Separators.{Separators}
 use Rattle.text.proofs.Bools.{both, first-of, second-of, apart}
 use Rattle.text.proofs.Pieces.{pieces-free, pieces-closed}
-use Rattle.reading.specs.Classes.{classOf}
 use Rattle.reading.specs.Cutting.{BadSegment, GoodSegment, Cuts, Stops}
 use Rattle.reading.specs.declared.cutting.Next.{Next}
 use Rattle.reading.specs.declared.cutting.Next.the-variants.{Open, Bad, Segment}
-use Rattle.reading.proofs.CutClasses.{belongs, allowed, refused}
-use Rattle.reading.proofs.CutQueue.{Under, left-none, used-up}
-use Rattle.reading.proofs.CutBytes.{every-middle, under-every, data-kept, data-told}
+use Rattle.reading.proofs.CutMarks.{belongs, Allowed, refused}
+use Rattle.reading.proofs.CutQueue.{All, left-none, used-up}
+use Rattle.reading.proofs.CutBytes.{every-middle, all-every, data-kept, data-told}
 use Rattle.reading.proofs.CutEnds.{filled, Ended, ends-kept, ends-told}
-use Rattle.reading.proofs.CutWalk.{under-append, free-append, Walk, data-good, good-free, place, next, inside, piece}
+use Rattle.reading.proofs.CutWalk.{all-append, free-append, Walk, data-good, good-free, place, next, inside, piece}
 use Rattle.reading.proofs.CutWalk.{piece-place, piece-whole, piece-free, piece-good, piece-alone, piece-well, next-ready, byte-there}
 
 -- bytes that begin with this one
@@ -54,7 +53,7 @@ span-start sep s ps k e h = rw (e, lt-ltb k (length ps) h)
 four : (a b c d : Bool) → T a → T b → T c → T d → T (((a && b) && c) && d)
 four a b c d w x y z = both ((a && b) && c) d (both (a && b) c (both a b w x) y) z
 
-module _ {q : Separators} {table : List ℕ} {s : Bytes} {at : ℕ} {queue starts : List ℕ} {head tail seen count : ℕ} {ended : Bool}
+module _ {q : Separators} {table : List Bool} {s : Bytes} {at : ℕ} {queue starts : List ℕ} {head tail seen count : ℕ} {ended : Bool}
     {start behind : ℕ} (w : Walk q table s at queue starts head tail seen count ended start behind) where
   module _ (some : head < tail) where
     -- the next special place
@@ -80,8 +79,8 @@ module _ {q : Separators} {table : List ℕ} {s : Bytes} {at : ℕ} {queue start
         ∙ ap (λ (l : List Bytes). w .gone ++ l) (pieces-free (q .element) final (piece-free w some))
 
     -- they may stand in a segment
-    passed-good : Under (classOf q) 5 passed
-    passed-good = under-append (classOf q) 5 (closed (q .element) (w .gone)) final (w .good-gone) (piece-good w some)
+    passed-good : All (Allowed q) passed
+    passed-good = all-append (Allowed q) (closed (q .element) (w .gone)) final (w .good-gone) (piece-good w some)
 
     -- they are free of the terminator
     passed-free : Free (q .terminator) passed
@@ -136,7 +135,7 @@ module _ {q : Separators} {table : List ℕ} {s : Bytes} {at : ℕ} {queue start
       whole = rw (← byte-there w some (q .terminator) e) passed-whole;
       free = passed-free;
       place = passed-long;
-      data-only = data-kept q passed (under-every (classOf q) 5 (belongs q) passed (allowed q) passed-good);
+      data-only = data-kept q passed (all-every (Allowed q) (belongs q) passed (λ b h. h .1) passed-good);
       elements = ap length passed-pieces ∙ simp length-append (omega (arith, w .count-is));
       begins = passed-begins;
       room = w .room;
@@ -152,7 +151,7 @@ module _ {q : Separators} {table : List ℕ} {s : Bytes} {at : ℕ} {queue start
         (no-t : getD s here 0 ≡ q .terminator → ⊥) where
       -- the byte at the place may not stand in a segment
       bad : T (belongs q (getD s here 0)) → ⊥
-      bad = refused q (getD s here 0) (rw (← w .right .class (getD s here 0)) (next w some .special)) no-e no-c no-t
+      bad = refused q (getD s here 0) (rw (← w .right .marks (getD s here 0)) (next w some .special)) no-e no-c no-t
 
       -- a terminator follows the bad byte
       spoilt : (end : ℕ) → Meets s here (q .terminator) end → BadSegment q s at end

@@ -32,11 +32,11 @@ fitted-apart q f = record {
 }
 
 -- before anything is seen, an empty queue is ready
-pub ready-first : (table : List ℕ) (s : Bytes) (queue : List ℕ) → length queue ≡ 264 → Ready table s 0 queue 0 0 0
+pub ready-first : (table : List Bool) (s : Bytes) (queue : List ℕ) → length queue ≡ 72 → Ready table s 0 queue 0 0 0
 ready-first table s queue h = record { listed = listed-none table s 0 (left queue 0 0) (omega arith) refl; few = omega arith; size = h }
 
 -- a cut starts within the bytes
-pub ready-within : {table : List ℕ} {s : Bytes} {at : ℕ} {queue : List ℕ} {head tail seen : ℕ} → Ready table s at queue head tail seen → at ≤ length s
+pub ready-within : {table : List Bool} {s : Bytes} {at : ℕ} {queue : List ℕ} {head tail seen : ℕ} → Ready table s at queue head tail seen → at ≤ length s
 ready-within r = omega (arith, r .listed .place, r .listed .within)
 
 -- `Open` is the stop with answer 3
@@ -58,7 +58,7 @@ pieces-few : (sep : ℕ) (s : Bytes) → length (pieces sep s) ≤ length s + 1
 pieces-few sep [] = omega arith
 pieces-few sep (b ∷ s) = omega (arith, before-few (eqb b sep) b (pieces sep s) (pieces-some sep s), pieces-few sep s)
 
-module _ {q : Separators} {table : List ℕ} {s : Bytes} {at : ℕ} {queue starts : List ℕ} {end count : ℕ} {plain ended : Bool} {head tail seen : ℕ}
+module _ {q : Separators} {table : List Bool} {s : Bytes} {at : ℕ} {queue starts : List ℕ} {end count : ℕ} {plain ended : Bool} {head tail seen : ℕ}
     (g : GoodSegment q table s at queue starts end count plain ended head tail seen) where
   -- a segment is cut off whole
   pub good-cut : cutOf q (drop at s) ≡ Whole (g .segment) (g .more)

@@ -6,33 +6,35 @@ use mathlib.Core.Bool.{Bool, true, false}
 use mathlib.Core.List.{List, [], _∷_, _++_, append-assoc, head-eq-of-cons-eq, tail-eq-of-cons-eq}
 use native.Mathlib.Omega.{arith}
 use native.Mathlib.Numerals.{add-one}
-use lib.Dec.{leb}
 use lib.ListN.{length, drop, getD, length-append, length-drop}
 use lib.Seq.{drop-cons, drop-drop, drop-at}
-use borrow.Author.Tests.{leb-true, leb-false}
 use Rattle.text.specs.Bytes.{Bytes}
-use Rattle.reading.specs.Classes.{classIn}
+use Rattle.reading.specs.Marks.{markIn}
 use Rattle.reading.specs.Queue.{mark, specials, Listed, left}
 use Rattle.reading.proofs.CutIndex.{specials-append}
 
--- every byte has a class below this one
-abbrev pub Under : (ℕ → ℕ) → ℕ → Bytes → Type 0
-Under class bound [] = Unit {0}
-Under class bound (b ∷ s) = (class b < bound) × Under class bound s
+-- each of the bytes has the property
+abbrev pub All : (ℕ → Type 0) → Bytes → Type 0
+All P [] = Unit {0}
+All P (b ∷ s) = P b × All P s
+
+-- the table does not mark the byte
+abbrev pub Data : List Bool → ℕ → Type 0
+Data table b = markIn table b ≡ false
 
 -- the first special byte of a window, and the gap before it
-record Opens (table : List ℕ) (at : ℕ) (window : Bytes) (p : ℕ) (places : List ℕ) : Type 0 where
+record Opens (table : List Bool) (at : ℕ) (window : Bytes) (p : ℕ) (places : List ℕ) : Type 0 where
   gap : Bytes
   byte : ℕ
   rest : Bytes
   whole : window ≡ gap ++ byte ∷ rest
-  data-only : Under (classIn table) 3 gap
-  special : 3 ≤ classIn table byte
+  data-only : All (Data table) gap
+  special : markIn table byte ≡ true
   place : p ≡ at + length gap
   others : places ≡ specials table (suc p) rest
 
 -- by whether the window's first byte is special
-opens-by : (table : List ℕ) (at b : ℕ) (w : Bytes) (p : ℕ) (places : List ℕ) (t : Bool) → leb 3 (classIn table b) ≡ t
+opens-by : (table : List Bool) (at b : ℕ) (w : Bytes) (p : ℕ) (places : List ℕ) (t : Bool) → markIn table b ≡ t
     → p ∷ places ≡ mark t at (specials table (suc at) w) → (p ∷ places ≡ specials table (suc at) w → Opens table (suc at) w p places)
     → Opens table at (b ∷ w) p places
 opens-by table at b w p places true h e f = record {
@@ -41,7 +43,7 @@ opens-by table at b w p places true h e f = record {
   rest = w;
   whole = refl;
   data-only = tt;
-  special = leb-true 3 (classIn table b) h;
+  special = h;
   place = omega (arith, head-eq-of-cons-eq e);
   others = tail-eq-of-cons-eq e ∙ ap (λ (n : ℕ). specials table (suc n) w) (sym (head-eq-of-cons-eq e));
 }
@@ -52,40 +54,40 @@ opens-by table at b w p places false h e f =
       byte = r .byte;
       rest = r .rest;
       whole = ap (λ (x : Bytes). b ∷ x) (r .whole);
-      data-only = (leb-false 3 (classIn table b) h, r .data-only);
+      data-only = (h, r .data-only);
       special = r .special;
       place = omega (arith, r .place);
       others = r .others;
     }
 
 -- a window with a special place opens so
-opens : (table : List ℕ) (at : ℕ) (w : Bytes) (p : ℕ) (places : List ℕ) → p ∷ places ≡ specials table at w → Opens table at w p places
+opens : (table : List Bool) (at : ℕ) (w : Bytes) (p : ℕ) (places : List ℕ) → p ∷ places ≡ specials table at w → Opens table at w p places
 opens table at [] p places e = absurd (omega (arith, ap length e))
-opens table at (b ∷ w) p places e = opens-by table at b w p places (leb 3 (classIn table b)) refl e (opens table (suc at) w p places)
+opens table at (b ∷ w) p places e = opens-by table at b w p places (markIn table b) refl e (opens table (suc at) w p places)
 
 -- without special places a window is data: by its first byte, which is not special
-data-by : (table : List ℕ) (at b : ℕ) (w : Bytes) (t : Bool) → leb 3 (classIn table b) ≡ t → [] ≡ mark t at (specials table (suc at) w)
-    → ([] ≡ specials table (suc at) w → Under (classIn table) 3 w) → Under (classIn table) 3 (b ∷ w)
+data-by : (table : List Bool) (at b : ℕ) (w : Bytes) (t : Bool) → markIn table b ≡ t → [] ≡ mark t at (specials table (suc at) w)
+    → ([] ≡ specials table (suc at) w → All (Data table) w) → All (Data table) (b ∷ w)
 data-by table at b w true h e f = absurd (omega (arith, ap length e))
-data-by table at b w false h e f = (leb-false 3 (classIn table b) h, f e)
+data-by table at b w false h e f = (h, f e)
 
 -- and byte by byte
-data-of : (table : List ℕ) (at : ℕ) (w : Bytes) → [] ≡ specials table at w → Under (classIn table) 3 w
+data-of : (table : List Bool) (at : ℕ) (w : Bytes) → [] ≡ specials table at w → All (Data table) w
 data-of table at [] e = tt
-data-of table at (b ∷ w) e = data-by table at b w (leb 3 (classIn table b)) refl e (data-of table (suc at) w)
+data-of table at (b ∷ w) e = data-by table at b w (markIn table b) refl e (data-of table (suc at) w)
 
 -- what the first place of the queue says of the bytes: data up to it, and a special byte at it
-pub record Front (table : List ℕ) (s : Bytes) (here p seen : ℕ) (places : List ℕ) : Type 0 where
+pub record Front (table : List Bool) (s : Bytes) (here p seen : ℕ) (places : List ℕ) : Type 0 where
   pub gap : Bytes
   pub whole : drop here s ≡ gap ++ drop p s
   pub place : p ≡ here + length gap
-  pub data-only : Under (classIn table) 3 gap
+  pub data-only : All (Data table) gap
   pub inside : p < length s
-  pub special : 3 ≤ classIn table (getD s p 0)
+  pub special : markIn table (getD s p 0) ≡ true
   pub others : Listed table s (p + 1) seen places
 
 -- from the window to the bytes
-front-by : {table : List ℕ} {s : Bytes} {here p seen : ℕ} {places : List ℕ} (l : Listed table s here seen (p ∷ places))
+front-by : {table : List Bool} {s : Bytes} {here p seen : ℕ} {places : List ℕ} (l : Listed table s here seen (p ∷ places))
     (f : Opens table here (l .window) p places) → drop p s ≡ f .byte ∷ (f .rest ++ drop seen s)
     → drop here s ≡ f .gap ++ (f .byte ∷ (f .rest ++ drop seen s)) → Front table s here p seen places
 front-by {table} {s} {here} {p} {seen} {places} l f d w =
@@ -108,7 +110,7 @@ front-by {table} {s} {here} {p} {seen} {places} l f d w =
     }
 
 -- what the first of the listed places says
-pub front : {table : List ℕ} {s : Bytes} {here p seen : ℕ} {places : List ℕ} → Listed table s here seen (p ∷ places) → Front table s here p seen places
+pub front : {table : List Bool} {s : Bytes} {here p seen : ℕ} {places : List ℕ} → Listed table s here seen (p ∷ places) → Front table s here p seen places
 front {table} {s} {here} {p} {seen} {places} l =
     let f = opens table here (l .window) p places (l .special) in
     let rest = f .byte ∷ (f .rest ++ drop seen s) in
@@ -130,9 +132,9 @@ left-cons queue head tail h g =
 pub left-none : (queue : List ℕ) (head tail : ℕ) → tail ≤ head → left queue head tail ≡ []
 left-none queue head tail h = let z : tail - head ≡ 0 = omega arith in rw z
 
-module _ {table : List ℕ} {s : Bytes} {at seen : ℕ} {places : List ℕ} (l : Listed table s at seen places) (none : places ≡ []) where
+module _ {table : List Bool} {s : Bytes} {at seen : ℕ} {places : List ℕ} (l : Listed table s at seen places) (none : places ≡ []) where
   -- used up: only data stands up to `seen`
-  pub used-up : Under (classIn table) 3 (l .window)
+  pub used-up : All (Data table) (l .window)
   used-up = data-of table at (l .window) (sym none ∙ l .special)
 
   -- and filled anew from there

@@ -16,32 +16,32 @@ use Rattle.text.specs.Bytes.{Bytes, every}
 use Rattle.text.specs.Pieces.{Free, Clean, closed}
 use Rattle.text.specs.declared.separators.Separators.{Separators}
 use Rattle.text.proofs.Pieces.{closed-snoc, clean-snoc, free-snoc}
-use Rattle.reading.specs.Classes.{classOf, classIn, Table}
+use Rattle.reading.specs.Marks.{Table}
 use Rattle.reading.specs.Queue.{Indexed, left, Ready}
 use Rattle.reading.specs.Cutting.{Apart}
-use Rattle.reading.proofs.CutClasses.{class-component, class-element, no-terminator, no-component, no-element}
-use Rattle.reading.proofs.CutQueue.{Under, Front, front, left-cons, left-none, refilled}
+use Rattle.reading.proofs.CutMarks.{Allowed, no-component, no-element, data-allowed, component-allowed, element-allowed}
+use Rattle.reading.proofs.CutQueue.{All, Data, Front, front, left-cons, left-none, refilled}
 use Rattle.reading.proofs.CutEnds.{endsIn, well, ends-snoc, ends-gap, ended-more}
 
--- a bound on the classes holds of bytes with others behind them
-pub under-append : (class : ℕ → ℕ) (bound : ℕ) (x y : Bytes) → Under class bound x → Under class bound y → Under class bound (x ++ y)
-under-append class bound [] y u v = v
-under-append class bound (b ∷ x) y u v = (u .0, under-append class bound x y (u .1) v)
+-- a property of the bytes holds of bytes with others behind them
+pub all-append : (P : ℕ → Type 0) (x y : Bytes) → All P x → All P y → All P (x ++ y)
+all-append P [] y u v = v
+all-append P (b ∷ x) y u v = (u .0, all-append P x y (u .1) v)
 
 -- and so does being free of a byte
 pub free-append : (sep : ℕ) (x y : Bytes) → Free sep x → Free sep y → Free sep (x ++ y)
 free-append sep [] y u v = v
 free-append sep (b ∷ x) y u v = (u .0, free-append sep x y (u .1) v)
 
--- one bound on the classes follows from another
-under-map : (f g : ℕ → ℕ) (m n : ℕ) (x : Bytes) → ((b : ℕ) → f b < m → g b < n) → Under f m x → Under g n x
-under-map f g m n [] h u = tt
-under-map f g m n (b ∷ x) h u = (h b (u .0), under-map f g m n x h (u .1))
+-- one property follows from another
+all-map : (P Q : ℕ → Type 0) (x : Bytes) → ((b : ℕ) → P b → Q b) → All P x → All Q x
+all-map P Q [] h u = tt
+all-map P Q (b ∷ x) h u = (h b (u .0), all-map P Q x h (u .1))
 
--- bytes whose classes are bounded are free of a byte whose class is not
-under-free : (f : ℕ → ℕ) (m sep : ℕ) (x : Bytes) → ((b : ℕ) → f b < m → b ≡ sep → ⊥) → Under f m x → Free sep x
-under-free f m sep [] h u = tt
-under-free f m sep (b ∷ x) h u = (h b (u .0), under-free f m sep x h (u .1))
+-- bytes with a property are free of a byte without it
+all-free : (P : ℕ → Type 0) (sep : ℕ) (x : Bytes) → ((b : ℕ) → P b → b ≡ sep → ⊥) → All P x → Free sep x
+all-free P sep [] h u = tt
+all-free P sep (b ∷ x) h u = (h b (u .0), all-free P sep x h (u .1))
 
 -- the starts that are kept: piece k starts behind the pieces before it, each with its separator
 abbrev Begins : ℕ → ℕ → List ℕ → ℕ → List Bytes → Type 0
@@ -69,7 +69,7 @@ last-with c piece [] here behind place e h p f =
 last-with c piece (b ∷ gap) here behind place e h p f = ne-eqb place behind (λ z. omega arith) ∙ sym (ends-gap c piece b gap f)
 
 -- after some turns: the pieces that are gone, the bytes of the one that is begun, and where the walk stands
-pub record Walk (q : Separators) (table : List ℕ) (s : Bytes) (at : ℕ) (queue starts : List ℕ) (head tail seen count : ℕ) (ended : Bool)
+pub record Walk (q : Separators) (table : List Bool) (s : Bytes) (at : ℕ) (queue starts : List ℕ) (head tail seen count : ℕ) (ended : Bool)
     (start behind : ℕ) : Type 0 where
   pub right : Table q table
   pub differ : Apart q
@@ -81,8 +81,8 @@ pub record Walk (q : Separators) (table : List ℕ) (s : Bytes) (at : ℕ) (queu
   pub free : Free (q .element) begun
   pub start-is : start ≡ at + length (closed (q .element) gone)
   pub place : here ≡ start + length begun
-  pub good-gone : Under (classOf q) 5 (closed (q .element) gone)
-  pub good-begun : Under (classOf q) 5 begun
+  pub good-gone : All (Allowed q) (closed (q .element) gone)
+  pub good-begun : All (Allowed q) begun
   pub count-is : length gone ≡ count
   pub begins : (k : ℕ) → k ≤ 32 → k ≤ count → getD starts k 0 ≡ at + length (closed (q .element) (take k gone))
   pub room : length starts ≡ 33
@@ -96,7 +96,7 @@ pub record Walk (q : Separators) (table : List ℕ) (s : Bytes) (at : ℕ) (queu
   pub ready : Ready table s here queue head tail seen
 
 -- before the first turn
-pub walk-none : {q : Separators} {table : List ℕ} {s : Bytes} {at : ℕ} {queue : List ℕ} (starts : List ℕ) {head tail seen : ℕ} → Table q table → Apart q
+pub walk-none : {q : Separators} {table : List Bool} {s : Bytes} {at : ℕ} {queue : List ℕ} (starts : List ℕ) {head tail seen : ℕ} → Table q table → Apart q
     → Ready table s at queue head tail seen → length starts ≡ 33 → Walk q table s at queue (set starts 0 at) head tail seen 0 true at at
 walk-none {at = at} starts right differ r h = record {
   right = right;
@@ -123,23 +123,23 @@ walk-none {at = at} starts right differ r h = record {
 }
 
 -- what may stand in a segment is free of the terminator
-pub good-free : (q : Separators) (x : Bytes) → Under (classOf q) 5 x → Free (q .terminator) x
-good-free q x u = under-free (classOf q) 5 (q .terminator) x (λ b h. no-terminator q b h) u
+pub good-free : (q : Separators) (x : Bytes) → All (Allowed q) x → Free (q .terminator) x
+good-free q x u = all-free (Allowed q) (q .terminator) x (λ b h. h .0) u
 
-module _ {q : Separators} {table : List ℕ} (right : Table q table) where
+module _ {q : Separators} {table : List Bool} (right : Table q table) where
   -- data may stand in a segment
-  pub data-good : (x : Bytes) → Under (classIn table) 3 x → Under (classOf q) 5 x
-  data-good x u = under-map (classIn table) (classOf q) 3 5 x (λ b h. omega (arith, right .class b)) u
+  pub data-good : (x : Bytes) → All (Data table) x → All (Allowed q) x
+  data-good x u = all-map (Data table) (Allowed q) x (λ b h. data-allowed q b (rw (right .marks b) at h)) u
 
   -- it is free of the element separator
-  data-element : Apart q → (x : Bytes) → Under (classIn table) 3 x → Free (q .element) x
-  data-element differ x u = under-free (classIn table) 3 (q .element) x (λ b h. no-element q b differ (rw (right .class b) at h)) u
+  data-element : (x : Bytes) → All (Data table) x → Free (q .element) x
+  data-element x u = all-free (Data table) (q .element) x (λ b h. no-element q b (rw (right .marks b) at h)) u
 
   -- and of the component separator
-  data-component : Apart q → (x : Bytes) → Under (classIn table) 3 x → Free (q .component) x
-  data-component differ x u = under-free (classIn table) 3 (q .component) x (λ b h. no-component q b differ (rw (right .class b) at h)) u
+  data-component : (x : Bytes) → All (Data table) x → Free (q .component) x
+  data-component x u = all-free (Data table) (q .component) x (λ b h. no-component q b (rw (right .marks b) at h)) u
 
-module _ {q : Separators} {table : List ℕ} {s : Bytes} {at : ℕ} {queue starts : List ℕ} {head tail seen count : ℕ} {ended : Bool}
+module _ {q : Separators} {table : List Bool} {s : Bytes} {at : ℕ} {queue starts : List ℕ} {head tail seen count : ℕ} {ended : Bool}
     {start behind : ℕ} (w : Walk q table s at queue starts head tail seen count ended start behind) where
   -- there are no more pieces than bytes
   pub count-small : count ≤ length s
@@ -177,21 +177,21 @@ module _ {q : Separators} {table : List ℕ} {s : Bytes} {at : ℕ} {queue start
 
     -- it is free of the element separator
     pub piece-free : Free (q .element) piece
-    piece-free = free-append (q .element) (w .begun) (next .gap) (w .free) (data-element (w .right) (w .differ) (next .gap) (next .data-only))
+    piece-free = free-append (q .element) (w .begun) (next .gap) (w .free) (data-element (w .right) (next .gap) (next .data-only))
 
     -- its bytes may stand in a segment
-    pub piece-good : Under (classOf q) 5 piece
-    piece-good = under-append (classOf q) 5 (w .begun) (next .gap) (w .good-begun) (data-good (w .right) (next .gap) (next .data-only))
+    pub piece-good : All (Allowed q) piece
+    piece-good = all-append (Allowed q) (w .begun) (next .gap) (w .good-begun) (data-good (w .right) (next .gap) (next .data-only))
 
     -- it is free of the component separator where none was met
     pub piece-alone : behind ≡ at → Free (q .component) piece
-    piece-alone e = free-append (q .component) (w .begun) (next .gap) (w .alone e .1) (data-component (w .right) (w .differ) (next .gap) (next .data-only))
+    piece-alone e = free-append (q .component) (w .begun) (next .gap) (w .alone e .1) (data-component (w .right) (next .gap) (next .data-only))
 
     -- the place is behind the last component separator exactly if an element ends in it
     piece-last : 0 < count → eqb place behind ≡ endsIn (q .component) piece
     piece-last l =
         last-with (q .component) (w .begun) (next .gap) (w .here) behind place (w .last l) (w .high) (next .place)
-        (data-component (w .right) (w .differ) (next .gap) (next .data-only))
+        (data-component (w .right) (next .gap) (next .data-only))
 
     -- an element's last component is not empty exactly if the place is not behind a component separator
     pub piece-well : 0 < count → not (eqb place behind) ≡ well (q .component) piece
@@ -226,8 +226,8 @@ module _ {q : Separators} {table : List ℕ} {s : Bytes} {at : ℕ} {queue start
           start-is = far;
           place = omega arith;
           good-gone = rw snoc
-              (under-append (classOf q) 5 (closed (q .element) (w .gone)) (piece ++ q .element ∷ []) (w .good-gone)
-              (under-append (classOf q) 5 piece (q .element ∷ []) piece-good (omega (arith, class-element q (w .differ)), tt)));
+              (all-append (Allowed q) (closed (q .element) (w .gone)) (piece ++ q .element ∷ []) (w .good-gone)
+              (all-append (Allowed q) piece (q .element ∷ []) piece-good (element-allowed q (w .differ), tt)));
           good-begun = tt;
           count-is = simp length-append (omega (arith, w .count-is));
           begins = begins-more (q .element) at starts count (w .gone) piece (place + 1) (w .room) (w .count-is) far (w .begins);
@@ -260,7 +260,7 @@ module _ {q : Separators} {table : List ℕ} {s : Bytes} {at : ℕ} {queue start
       start-is = w .start-is;
       place = rw (length-append piece (q .component ∷ [])) (omega (arith, piece-place));
       good-gone = w .good-gone;
-      good-begun = under-append (classOf q) 5 piece (q .component ∷ []) piece-good (omega (arith, class-component q (w .differ)), tt);
+      good-begun = all-append (Allowed q) piece (q .component ∷ []) piece-good (component-allowed q (w .differ), tt);
       count-is = w .count-is;
       begins = w .begins;
       room = w .room;

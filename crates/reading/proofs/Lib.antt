@@ -24,7 +24,7 @@ pub mod Pending
 pub mod Children
 pub mod Continue
 pub mod NotEarly
-pub mod CutClasses
+pub mod CutMarks
 pub mod CutIndex
 pub mod CutQueue
 pub mod CutBytes

@@ -34,7 +34,7 @@ pub record BadSegment (q : Separators) (s : Bytes) (at end : ℕ) : Type 0 where
   pub broken : Keeps (byteChecks (viewOf q segment)) → ⊥
 
 -- from `at` on stands a segment with its terminator at `end`, and its bytes are data and separators
-pub record GoodSegment (q : Separators) (table : List ℕ) (s : Bytes) (at : ℕ) (queue starts : List ℕ) (end count : ℕ) (plain ended : Bool)
+pub record GoodSegment (q : Separators) (table : List Bool) (s : Bytes) (at : ℕ) (queue starts : List ℕ) (end count : ℕ) (plain ended : Bool)
     (head tail seen : ℕ) : Type 0 where
   pub segment : Bytes
   pub more : Bytes
@@ -55,7 +55,7 @@ pub record GoodSegment (q : Separators) (table : List ℕ) (s : Bytes) (at : ℕ
   pub ready : Ready table s (end + 1) queue head tail seen
 
 -- what `next_segment` answers
-abbrev pub Cuts : Separators → List ℕ → Bytes → ℕ → List ℕ → List ℕ → Next → Type 0
+abbrev pub Cuts : Separators → List Bool → Bytes → ℕ → List ℕ → List ℕ → Next → Type 0
 Cuts q table s at queue starts Open = Free (q .terminator) (drop at s)
 Cuts q table s at queue starts (Bad end) = BadSegment q s at end
 Cuts q table s at queue starts (Segment end count plain ended head tail seen) =

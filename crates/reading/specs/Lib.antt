@@ -7,7 +7,7 @@ pub mod Records
 pub mod Reads
 pub mod Conditions
 pub mod Standing
-pub mod Classes
+pub mod Marks
 pub mod Queue
 pub mod Cutting
 pub mod Judgements

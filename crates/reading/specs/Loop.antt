@@ -2,6 +2,7 @@
 -- Assumes nothing.
 use Prim.Native.Nat.{ℕ}
 use mathlib.Core.Path.{_≡_}
+use mathlib.Core.Bool.{Bool}
 use mathlib.Core.List.{List}
 use lib.ListN.{length}
 use Rattle.text.specs.Bytes.{Bytes}
@@ -11,8 +12,8 @@ use Rattle.reading.specs.Settling.{Stands}
 use Rattle.reading.specs.declared.how.How.{How}
 use Rattle.reading.specs.declared.judging.State.{State}
 
-pub record Going (how : How) (s : Bytes) (classes : List ℕ) (before : Tables) (segments levels queue starts : List ℕ) (at head tail seen : ℕ)
+pub record Going (how : How) (s : Bytes) (marks : List Bool) (before : Tables) (segments levels queue starts : List ℕ) (at head tail seen : ℕ)
     (state : State) : Type 0 where
   pub stands : Stands how before s segments levels at state
-  pub ready : Ready classes s at queue head tail seen
+  pub ready : Ready marks s at queue head tail seen
   pub room : length starts ≡ 33

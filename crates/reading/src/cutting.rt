@@ -1,10 +1,9 @@
-// The next segment: where it ends, where its elements start, and what its bytes alone tell of it. The bytes are looked at once, 256 at a
+// The next segment: where it ends, where its elements start, and what its bytes alone tell of it. The bytes are looked at once, 64 at a
 // time: the places of the separators, and of bytes that are no data, go into a lent queue, and a segment visits only those places.
 ghost use mathlib.Core.Path.{_≡_};
 ghost use Prim.Native.Nat.{_+_, _≤_, _<_};
-ghost use lib.Dec.{leb};
 ghost use lib.ListN.{length, set};
-ghost use Rattle.reading.specs.Classes.{classIn, Table, Fills};
+ghost use Rattle.reading.specs.Marks.{markIn, Table, Fills};
 ghost use Rattle.reading.specs.Queue.{bit, Indexed, Reaches, Ready};
 ghost use Rattle.reading.specs.Cutting.{Apart, Cuts, Stops};
 use text::separators::Separators;
@@ -28,58 +27,49 @@ pub(crate) enum Next {
     },
 }
 
-// The bytes from `from` to `last` get this class.
-fn fill(classes: &mut [u8; 256], from: usize, last: usize, class: u8)
-    requires { ⌜ length (now classes) ≡ 256 ⌝ }
+// The bytes from `from` to `last` get this mark.
+fn fill(marks: &mut [bool; 256], from: usize, last: usize, mark: bool)
+    requires { ⌜ length (now marks) ≡ 256 ⌝ }
     requires { ⌜ from ≤ last ⌝ }
     requires { ⌜ last < 256 ⌝ }
-    ensures { λ _. ⌜ Fills (now (classes .entry)) from last class (now (classes .exit)) ⌝ }
+    ensures { λ _. ⌜ Fills (now (marks .entry)) from last mark (now (marks .exit)) ⌝ }
 {
     let mut i = from;
     while i <= last {
-        classes[i] = class;
+        marks[i] = mark;
         i += 1;
     }
 }
 
-// The class of every byte: 0 digit, 1 capital, 2 other data, 3 element, 4 component, 5 terminator, 6 none of these.
-pub(crate) fn set_classes(classes: &mut [u8; 256], separators: Separators)
-    requires { ⌜ length (now classes) ≡ 256 ⌝ }
-    ensures { λ _. ⌜ Table separators (now (classes .exit)) ⌝ }
+// Marks the separators and every byte that is no data.
+pub(crate) fn set_marks(marks: &mut [bool; 256], separators: Separators)
+    requires { ⌜ length (now marks) ≡ 256 ⌝ }
+    ensures { λ _. ⌜ Table separators (now (marks .exit)) ⌝ }
 {
-    fill(classes, 0, 255, 6);
-    fill(classes, 32, 126, 2);
-    fill(classes, 65, 90, 1);
-    fill(classes, 48, 57, 0);
-    classes[separators.element as usize] = 3;
-    classes[separators.component as usize] = 4;
-    classes[separators.terminator as usize] = 5;
+    fill(marks, 0, 255, true);
+    fill(marks, 32, 126, false);
+    marks[separators.element as usize] = true;
+    marks[separators.component as usize] = true;
+    marks[separators.terminator as usize] = true;
 }
 
-// The class of a byte.
-fn class(classes: &[u8; 256], byte: u8) -> u8
-    requires { ⌜ length (now classes) ≡ 256 ⌝ }
-    ensures { λ r. ⌜ r ≡ classIn (now (classes .entry)) byte ⌝ }
+// 1 for a byte that is marked, else 0.
+fn mark(marks: &[bool; 256], byte: u8) -> usize
+    requires { ⌜ length (now marks) ≡ 256 ⌝ }
+    ensures { λ r. ⌜ r ≡ bit (markIn (now (marks .entry)) byte) ⌝ }
 {
-    classes[byte as usize]
-}
-
-// 1 for a class whose places go into the queue, else 0.
-fn special(class: u8) -> usize
-    ensures { λ r. ⌜ r ≡ bit (leb 3 class) ⌝ }
-{
-    if 3 <= class { 1 } else { 0 }
+    marks[byte as usize] as usize
 }
 
 // Puts the special places from `from` up to `to` into the queue and answers how many. Every place is stored, and the next one takes its
 // entry unless it is special: the loops neither branch nor end early.
-fn index(s: &[u8], classes: &[u8; 256], from: usize, to: usize, queue: &mut [usize; 264]) -> usize
+fn index(s: &[u8], marks: &[bool; 256], from: usize, to: usize, queue: &mut [usize; 72]) -> usize
     requires { ⌜ to ≤ length (now s) ⌝ }
     requires { ⌜ from ≤ to ⌝ }
-    requires { ⌜ to ≤ from + 256 ⌝ }
-    requires { ⌜ length (now classes) ≡ 256 ⌝ }
-    requires { ⌜ length (now queue) ≡ 264 ⌝ }
-    ensures { λ r. ⌜ Indexed (now (classes .entry)) (now (s .entry)) from to r (now (queue .exit)) ⌝ }
+    requires { ⌜ to ≤ from + 64 ⌝ }
+    requires { ⌜ length (now marks) ≡ 256 ⌝ }
+    requires { ⌜ length (now queue) ≡ 72 ⌝ }
+    ensures { λ r. ⌜ Indexed (now (marks .entry)) (now (s .entry)) from to r (now (queue .exit)) ⌝ }
 {
     let mut number: usize = 0;
     let mut i = from;
@@ -87,25 +77,25 @@ fn index(s: &[u8], classes: &[u8; 256], from: usize, to: usize, queue: &mut [usi
         let mut j: usize = 0;
         while j < 8 {
             queue[number] = i + j;
-            number += special(class(classes, s[i + j]));
+            number += mark(marks, s[i + j]);
             j += 1;
         }
         i += 8;
     }
     while i < to {
         queue[number] = i;
-        number += special(class(classes, s[i]));
+        number += mark(marks, s[i]);
         i += 1;
     }
     number
 }
 
-// How far the next index goes: 256 bytes, or up to the end.
+// How far the next index goes: 64 bytes, or up to the end.
 fn reach(seen: usize, len: usize) -> usize
     requires { ⌜ seen < len ⌝ }
     ensures { λ r. ⌜ Reaches seen len r ⌝ }
 {
-    if 256 < len - seen { seen + 256 } else { len }
+    if 64 < len - seen { seen + 64 } else { len }
 }
 
 // Keeps where an element starts: the tag, number 0, and the first 32 elements.
@@ -136,20 +126,20 @@ fn stop(s: &[u8], from: usize, terminator: u8) -> Next
 // separator, or `at`. An element ends badly where its end is that place; the tag, element 0, may.
 pub(crate) fn next_segment(
     s: &[u8],
-    classes: &[u8; 256],
+    marks: &[bool; 256],
     separators: Separators,
     at: usize,
     mut head: usize,
     mut tail: usize,
     mut seen: usize,
-    queue: &mut [usize; 264],
+    queue: &mut [usize; 72],
     starts: &mut [usize; 33],
 ) -> Next
-    requires { ⌜ Table separators (now classes) ⌝ }
+    requires { ⌜ Table separators (now marks) ⌝ }
     requires { ⌜ Apart separators ⌝ }
-    requires { ⌜ Ready (now classes) (now s) at (now queue) head tail seen ⌝ }
+    requires { ⌜ Ready (now marks) (now s) at (now queue) head tail seen ⌝ }
     requires { ⌜ length (now starts) ≡ 33 ⌝ }
-    ensures { λ r. ⌜ Cuts separators (now (classes .entry)) (now (s .entry)) at (now (queue .exit)) (now (starts .exit)) r ⌝ }
+    ensures { λ r. ⌜ Cuts separators (now (marks .entry)) (now (s .entry)) at (now (queue .exit)) (now (starts .exit)) r ⌝ }
 {
     let mut count: usize = 0;
     let mut ended = true;
@@ -157,7 +147,7 @@ pub(crate) fn next_segment(
     let mut behind = at;
     starts[0] = at;
     loop {
-        if head < tail {
+        while head < tail {
             let place = queue[head];
             let byte = s[place];
             head += 1;
@@ -183,13 +173,12 @@ pub(crate) fn next_segment(
                 return stop(s, place, separators.terminator);
             }
             behind = place + 1;
-            continue;
         }
         if s.len() <= seen {
             return Next::Open;
         }
         let to = reach(seen, s.len());
-        tail = index(s, classes, seen, to, queue);
+        tail = index(s, marks, seen, to, queue);
         head = 0;
         seen = to;
     }

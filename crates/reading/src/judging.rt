@@ -48,8 +48,8 @@ pub(crate) struct Notes {
 pub(crate) struct State {
     pub count: usize,
     pub row: u8,
-    pub again: bool,
     pub known: usize,
+    pub again: bool,
     pub greatest: usize,
 }
 

@@ -9,7 +9,7 @@ ghost use Rattle.text.proofs.View.{Fitted};
 ghost use Rattle.rows.specs.Next.{nextTable};
 ghost use Rattle.elements.specs.Checks.{firstBroken};
 ghost use Rattle.elements.specs.Rules.{byteChecks};
-ghost use Rattle.reading.specs.Classes.{Table};
+ghost use Rattle.reading.specs.Marks.{Table};
 ghost use Rattle.reading.specs.Profile.{nonconformance};
 ghost use Rattle.reading.specs.Records.{Tables};
 ghost use Rattle.reading.specs.Reads.{limit, Read, Reads};
@@ -57,19 +57,19 @@ fn bad_bytes(s: &[u8], how: How, at: usize, end: usize, count: usize) -> Answer
 fn read_on(
     s: &[u8],
     how: How,
-    classes: &[u8; 256],
+    marks: &[bool; 256],
     table: &[u8; 2686],
     segments: &mut [u64],
     levels: &mut [u64],
 ) -> Answer
     requires { ⌜ Fitted (how .separators) ⌝ }
     requires { ⌜ length (now s) ≤ limit ⌝ }
-    requires { ⌜ Table (how .separators) (now classes) ⌝ }
+    requires { ⌜ Table (how .separators) (now marks) ⌝ }
     requires { ⌜ now table ≡ nextTable ⌝ }
     ensures { λ r. ⌜ Read nonconformance how (now (s .entry)) (record { segments = now (segments .entry); levels = now (levels .entry) }) r
         (record { segments = now (segments .exit); levels = now (levels .exit) }) ⌝ }
 {
-    let mut queue: [usize; 264] = [0; 264];
+    let mut queue: [usize; 72] = [0; 72];
     let mut starts: [usize; 33] = [0; 33];
     let mut at: usize = 0;
     let mut head: usize = 0;
@@ -85,7 +85,7 @@ fn read_on(
     loop {
         match cutting::next_segment(
             s,
-            classes,
+            marks,
             how.separators,
             at,
             head,
@@ -170,8 +170,8 @@ pub fn read(s: &[u8], how: How, segments: &mut [u64], levels: &mut [u64]) -> Ans
             element: 0,
         };
     }
-    let mut classes: [u8; 256] = [0; 256];
-    cutting::set_classes(&mut classes, how.separators);
+    let mut marks: [bool; 256] = [false; 256];
+    cutting::set_marks(&mut marks, how.separators);
     let table = next::next_table();
-    read_on(s, how, &classes, &table, segments, levels)
+    read_on(s, how, &marks, &table, segments, levels)
 }

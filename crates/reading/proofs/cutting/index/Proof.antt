@@ -1,32 +1,29 @@
 -- `index` meets its contract: the bytes from `from` up to i have been passed, in the inner loop up to i + j.
 -- Assumes nothing.
-use Prim.Native.Nat.{ℕ, _+_, _-_, _≤_}
-use mathlib.Core.Path.{ap, _∙_}
+use Prim.Native.Nat.{_+_, _-_, _≤_}
 use native.Mathlib.Omega.{arith}
-use lib.Dec.{leb}
 use borrow.Author.Needs.{needs}
-use Rattle.reading.specs.Queue.{bit}
-use Rattle.reading.proofs.CutIndex.{Counted, counted-none, counted-more, counted-at, counted-all, bit-small}
+use Rattle.reading.proofs.CutIndex.{Counted, counted-none, counted-more, counted-at, counted-all, at-most-one}
 use Rattle.reading.proofs.cutting.index.Statement.{statement}
 use Rattle.reading.proofs.cutting.index.Tie as tie
 
 abbrev Inv-loop2 : tie.InvT-loop2
-Inv-loop2 s classes from to queue₀ number₀ i j₀ queue number j = (j ≤ 8) × Counted classes s from (i + j) number queue
+Inv-loop2 s marks from to queue₀ number₀ i j₀ queue number j = (j ≤ 8) × Counted marks s from (i + j) number queue
 
 abbrev μ-loop2 : tie.MeasureT-loop2
-μ-loop2 s classes from to queue₀ number₀ i j₀ queue number j = 8 - j
+μ-loop2 s marks from to queue₀ number₀ i j₀ queue number j = 8 - j
 
 abbrev Inv-loop : tie.InvT-loop
-Inv-loop s classes from to queue₀ number₀ i₀ queue number i = (i ≤ to) × Counted classes s from i number queue
+Inv-loop s marks from to queue₀ number₀ i₀ queue number i = (i ≤ to) × Counted marks s from i number queue
 
 abbrev μ-loop : tie.MeasureT-loop
-μ-loop s classes from to queue₀ number₀ i₀ queue number i = to - i
+μ-loop s marks from to queue₀ number₀ i₀ queue number i = to - i
 
 abbrev Inv-loop3 : tie.InvT-loop3
-Inv-loop3 s classes from to queue₀ number₀ i₀ queue number i = (i ≤ to) × Counted classes s from i number queue
+Inv-loop3 s marks from to queue₀ number₀ i₀ queue number i = (i ≤ to) × Counted marks s from i number queue
 
 abbrev μ-loop3 : tie.MeasureT-loop3
-μ-loop3 s classes from to queue₀ number₀ i₀ queue number i = to - i
+μ-loop3 s marks from to queue₀ number₀ i₀ queue number i = to - i
 
 loop-holds : tie.Need-loop-holds Inv-loop2 μ-loop2 Inv-loop μ-loop Inv-loop3 μ-loop3
 loop-holds c = (omega arith, counted-none _ _ _ _ (omega arith) (c .before .pre .1 .1 .1 .1))
@@ -47,21 +44,18 @@ element-write-queue :
     tie.Need-element-write-queue Inv-loop2 μ-loop2 Inv-loop μ-loop Inv-loop3 μ-loop3
 element-write-queue c = search needs
 
-add-class : tie.Need-add-class Inv-loop2 μ-loop2 Inv-loop μ-loop Inv-loop3 μ-loop3
-add-class c = search needs
+add-mark : tie.Need-add-mark Inv-loop2 μ-loop2 Inv-loop μ-loop Inv-loop3 μ-loop3
+add-mark c = search needs
 
-shared-slice-read-class :
-    tie.Need-shared-slice-read-class Inv-loop2 μ-loop2 Inv-loop μ-loop Inv-loop3 μ-loop3
-shared-slice-read-class c = search needs
+shared-slice-read-mark :
+    tie.Need-shared-slice-read-mark Inv-loop2 μ-loop2 Inv-loop μ-loop Inv-loop3 μ-loop3
+shared-slice-read-mark c = search needs
 
-class-requires : tie.Need-class-requires Inv-loop2 μ-loop2 Inv-loop μ-loop Inv-loop3 μ-loop3
-class-requires c κs = search needs
-
-special-requires : tie.Need-special-requires Inv-loop2 μ-loop2 Inv-loop μ-loop Inv-loop3 μ-loop3
-special-requires c κs = search needs
+mark-requires : tie.Need-mark-requires Inv-loop2 μ-loop2 Inv-loop μ-loop Inv-loop3 μ-loop3
+mark-requires c κs = search needs
 
 add-number : tie.Need-add-number Inv-loop2 μ-loop2 Inv-loop μ-loop Inv-loop3 μ-loop3
-add-number c = record { fits = omega (arith, c .special .ensures, bit-small (leb 3 (c .before .class .result))) }
+add-number c = record { fits = omega (arith, at-most-one _ (c .mark .ensures)) }
 
 add-j : tie.Need-add-j Inv-loop2 μ-loop2 Inv-loop μ-loop Inv-loop3 μ-loop3
 add-j c = search needs
@@ -73,8 +67,8 @@ loop2-again : tie.Need-loop2-again Inv-loop2 μ-loop2 Inv-loop μ-loop Inv-loop3
 loop2-again c = (
   omega arith,
   counted-at
-      (counted-more (c .before .before .before .before .loop2 .inv .1) _ (omega arith) (omega arith)
-      (c .special .ensures ∙ ap (λ (x : ℕ). bit (leb 3 x)) (c .before .class .ensures)))
+      (counted-more (c .before .before .before .loop2 .inv .1) _ (omega arith) (omega arith)
+      (c .mark .ensures))
       _ (omega arith),
 )
 
@@ -97,19 +91,15 @@ element-write-queue-2 :
     tie.Need-element-write-queue-2 Inv-loop2 μ-loop2 Inv-loop μ-loop Inv-loop3 μ-loop3
 element-write-queue-2 c = search needs
 
-shared-slice-read-class-2 :
-    tie.Need-shared-slice-read-class-2 Inv-loop2 μ-loop2 Inv-loop μ-loop Inv-loop3 μ-loop3
-shared-slice-read-class-2 c = search needs
+shared-slice-read-mark-2 :
+    tie.Need-shared-slice-read-mark-2 Inv-loop2 μ-loop2 Inv-loop μ-loop Inv-loop3 μ-loop3
+shared-slice-read-mark-2 c = search needs
 
-class-requires-2 : tie.Need-class-requires-2 Inv-loop2 μ-loop2 Inv-loop μ-loop Inv-loop3 μ-loop3
-class-requires-2 c κs = search needs
-
-special-requires-2 :
-    tie.Need-special-requires-2 Inv-loop2 μ-loop2 Inv-loop μ-loop Inv-loop3 μ-loop3
-special-requires-2 c κs = search needs
+mark-requires-2 : tie.Need-mark-requires-2 Inv-loop2 μ-loop2 Inv-loop μ-loop Inv-loop3 μ-loop3
+mark-requires-2 c κs = search needs
 
 add-number-2 : tie.Need-add-number-2 Inv-loop2 μ-loop2 Inv-loop μ-loop Inv-loop3 μ-loop3
-add-number-2 c = record { fits = omega (arith, c .special2 .ensures, bit-small (leb 3 (c .before .class2 .result))) }
+add-number-2 c = record { fits = omega (arith, at-most-one _ (c .mark2 .ensures)) }
 
 add-i-2 : tie.Need-add-i-2 Inv-loop2 μ-loop2 Inv-loop μ-loop Inv-loop3 μ-loop3
 add-i-2 c = search needs
@@ -120,8 +110,8 @@ loop3-less c = search needs
 loop3-again : tie.Need-loop3-again Inv-loop2 μ-loop2 Inv-loop μ-loop Inv-loop3 μ-loop3
 loop3-again c = (
   omega arith,
-  counted-more (c .before .before .before .before .loop3 .inv .1) _ (omega arith) (omega arith)
-      (c .special2 .ensures ∙ ap (λ (x : ℕ). bit (leb 3 x)) (c .before .class2 .ensures)),
+  counted-more (c .before .before .before .loop3 .inv .1) _ (omega arith) (omega arith)
+      (c .mark2 .ensures),
 )
 
 returns : tie.Need-returns Inv-loop2 μ-loop2 Inv-loop μ-loop Inv-loop3 μ-loop3
@@ -143,10 +133,9 @@ index-spec =
     add-queue
     mul-queue
     element-write-queue
-    add-class
-    shared-slice-read-class
-    class-requires
-    special-requires
+    add-mark
+    shared-slice-read-mark
+    mark-requires
     add-number
     add-j
     loop2-less
@@ -157,9 +146,8 @@ index-spec =
     loop3-holds
     mul-queue-2
     element-write-queue-2
-    shared-slice-read-class-2
-    class-requires-2
-    special-requires-2
+    shared-slice-read-mark-2
+    mark-requires-2
     add-number-2
     add-i-2
     loop3-less

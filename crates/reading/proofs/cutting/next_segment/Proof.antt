@@ -1,7 +1,7 @@
--- `next_segment` meets its contract: the loop's invariant is the walk over the queue. With each turn an entry of the queue is used up,
--- or more bytes are seen.
+-- `next_segment` meets its contract: the invariant of both loops is the walk over the queue. With each turn of the inner one an entry of
+-- the queue is used up, and with each of the outer one more bytes are seen.
 -- Assumes nothing.
-use Prim.Native.Nat.{_+_, _-_, _*_}
+use Prim.Native.Nat.{_-_}
 use native.Mathlib.Omega.{arith}
 use lib.ListN.{length}
 use borrow.Author.Needs.{needs}
@@ -10,108 +10,122 @@ use Rattle.reading.proofs.CutExits.{at-end, at-bad, at-last}
 use Rattle.reading.proofs.cutting.next_segment.Statement.{statement}
 use Rattle.reading.proofs.cutting.next_segment.Tie as tie
 
+abbrev Inv-loop2 : tie.InvT-loop2
+Inv-loop2 s marks separators at head₀ tail seen queue starts₀ count₀ ended₀ start₀ behind₀ head starts count ended start behind =
+    Walk separators marks s at queue starts head tail seen count ended start behind
+
+abbrev μ-loop2 : tie.MeasureT-loop2
+μ-loop2 s marks separators at head₀ tail seen queue starts₀ count₀ ended₀ start₀ behind₀ head starts count ended start behind =
+    tail - head
+
 abbrev Inv-loop : tie.InvT-loop
-Inv-loop s classes separators at head₀ tail₀ seen₀ queue₀ starts₀ count₀ ended₀ start₀ behind₀ head tail seen queue starts count ended start behind =
-    Walk separators classes s at queue starts head tail seen count ended start behind
+Inv-loop s marks separators at head₀ tail₀ seen₀ queue₀ starts₀ count₀ ended₀ start₀ behind₀ head tail seen queue starts count ended start behind =
+    Walk separators marks s at queue starts head tail seen count ended start behind
 
 abbrev μ-loop : tie.MeasureT-loop
-μ-loop s classes separators at head₀ tail₀ seen₀ queue₀ starts₀ count₀ ended₀ start₀ behind₀ head tail seen queue starts count ended start behind =
-    (length s - seen) * 300 + (264 - head)
+μ-loop s marks separators at head₀ tail₀ seen₀ queue₀ starts₀ count₀ ended₀ start₀ behind₀ head tail seen queue starts count ended start behind =
+    length s - seen
 
-element-write-starts : tie.Need-element-write-starts Inv-loop μ-loop
+element-write-starts : tie.Need-element-write-starts Inv-loop2 μ-loop2 Inv-loop μ-loop
 element-write-starts c = search needs
 
-loop-holds : tie.Need-loop-holds Inv-loop μ-loop
+loop-holds : tie.Need-loop-holds Inv-loop2 μ-loop2 Inv-loop μ-loop
 loop-holds c =
     walk-none (c .before .args .starts .now) (c .before .pre .0) (c .before .pre .1 .0) (c .before .pre .1 .1 .0) (c .before .pre .1 .1 .1)
 
-mul-place : tie.Need-mul-place Inv-loop μ-loop
+loop2-holds : tie.Need-loop2-holds Inv-loop2 μ-loop2 Inv-loop μ-loop
+loop2-holds c = search needs
+
+mul-place : tie.Need-mul-place Inv-loop2 μ-loop2 Inv-loop μ-loop
 mul-place c = search needs
 
-element-copy-out-place : tie.Need-element-copy-out-place Inv-loop μ-loop
+element-copy-out-place : tie.Need-element-copy-out-place Inv-loop2 μ-loop2 Inv-loop μ-loop
 element-copy-out-place c = search needs
 
-shared-slice-read-byte : tie.Need-shared-slice-read-byte Inv-loop μ-loop
-shared-slice-read-byte c = inside (c .before .before .before .loop .inv) (c .before .before .if1 .taken)
+shared-slice-read-byte : tie.Need-shared-slice-read-byte Inv-loop2 μ-loop2 Inv-loop μ-loop
+shared-slice-read-byte c = inside (c .before .before .before .loop2 .inv) (c .before .before .loop2-test .taken)
 
-add-head : tie.Need-add-head Inv-loop μ-loop
+add-head : tie.Need-add-head Inv-loop2 μ-loop2 Inv-loop μ-loop
 add-head c = search needs
 
-add-count : tie.Need-add-count Inv-loop μ-loop
-add-count c = record { fits = omega (arith, count-small (c .before .before .before .before .before .loop .inv)) }
+add-count : tie.Need-add-count Inv-loop2 μ-loop2 Inv-loop μ-loop
+add-count c = record { fits = omega (arith, count-small (c .before .before .before .before .before .loop2 .inv)) }
 
-add-start : tie.Need-add-start Inv-loop μ-loop
+add-start : tie.Need-add-start Inv-loop2 μ-loop2 Inv-loop μ-loop
 add-start c = record {
-  fits = omega (arith, inside (c .before .before .before .before .before .loop .inv) (c .before .before .before .before .if1 .taken));
+  fits = omega (arith, inside (c .before .before .before .before .before .loop2 .inv) (c .before .before .before .before .loop2-test .taken));
 }
 
-note-requires : tie.Need-note-requires Inv-loop μ-loop
+note-requires : tie.Need-note-requires Inv-loop2 μ-loop2 Inv-loop μ-loop
 note-requires c κs = search needs
 
-loop-less : tie.Need-loop-less Inv-loop μ-loop
-loop-less c = search needs
+loop2-less : tie.Need-loop2-less Inv-loop2 μ-loop2 Inv-loop μ-loop
+loop2-less c = search needs
 
-loop-again : tie.Need-loop-again Inv-loop μ-loop
-loop-again c =
+loop2-again : tie.Need-loop2-again Inv-loop2 μ-loop2 Inv-loop μ-loop
+loop2-again c =
     rw (c .note .ensures)
-    (on-element (c .before .before .before .before .before .before .before .loop .inv) (c .before .before .before .before .before .before .if1 .taken)
-    (c .before .before .if2 .taken))
+    (on-element (c .before .before .before .before .before .before .before .loop2 .inv) (c .before .before .before .before .before .before .loop2-test .taken)
+    (c .before .before .if1 .taken))
 
-returns : tie.Need-returns Inv-loop μ-loop
+returns : tie.Need-returns Inv-loop2 μ-loop2 Inv-loop μ-loop
 returns c =
-    at-end (c .before .before .before .before .before .before .before .loop .inv) (c .before .before .before .before .before .before .if1 .taken)
-    (c .if3 .taken)
+    at-end (c .before .before .before .before .before .before .before .loop2 .inv) (c .before .before .before .before .before .before .loop2-test .taken)
+    (c .if2 .taken)
 
-stop-requires : tie.Need-stop-requires Inv-loop μ-loop
+stop-requires : tie.Need-stop-requires Inv-loop2 μ-loop2 Inv-loop μ-loop
 stop-requires c κs = search needs
 
-returns-2 : tie.Need-returns-2 Inv-loop μ-loop
+returns-2 : tie.Need-returns-2 Inv-loop2 μ-loop2 Inv-loop μ-loop
 returns-2 c =
-    at-bad (c .before .before .before .before .before .before .before .before .before .before .loop .inv)
-    (c .before .before .before .before .before .before .before .before .before .if1 .taken) (c .before .before .before .before .before .if2 .left)
-    (c .before .if4 .taken) (c .before .before .before .if3 .left) (c .stop .result) (c .stop .ensures)
+    at-bad (c .before .before .before .before .before .before .before .before .before .before .loop2 .inv)
+    (c .before .before .before .before .before .before .before .before .before .loop2-test .taken) (c .before .before .before .before .before .if1 .left)
+    (c .before .if3 .taken) (c .before .before .before .if2 .left) (c .stop .result) (c .stop .ensures)
 
-add-behind : tie.Need-add-behind Inv-loop μ-loop
+add-behind : tie.Need-add-behind Inv-loop2 μ-loop2 Inv-loop μ-loop
 add-behind c = record {
   fits = omega (
     arith,
-    inside (c .before .before .before .before .before .before .before .before .before .loop .inv)
-        (c .before .before .before .before .before .before .before .before .if1 .taken),
+    inside (c .before .before .before .before .before .before .before .before .before .loop2 .inv)
+        (c .before .before .before .before .before .before .before .before .loop2-test .taken),
   );
 }
 
-loop-less-2 : tie.Need-loop-less-2 Inv-loop μ-loop
-loop-less-2 c = search needs
+loop2-less-2 : tie.Need-loop2-less-2 Inv-loop2 μ-loop2 Inv-loop μ-loop
+loop2-less-2 c = search needs
 
-loop-again-2 : tie.Need-loop-again-2 Inv-loop μ-loop
-loop-again-2 c =
-    on-component (c .before .before .before .before .before .before .before .before .before .loop .inv)
-    (c .before .before .before .before .before .before .before .before .if1 .taken) (c .if4 .left)
+loop2-again-2 : tie.Need-loop2-again-2 Inv-loop2 μ-loop2 Inv-loop μ-loop
+loop2-again-2 c =
+    on-component (c .before .before .before .before .before .before .before .before .before .loop2 .inv)
+    (c .before .before .before .before .before .before .before .before .loop2-test .taken) (c .if3 .left)
 
-returns-3 : tie.Need-returns-3 Inv-loop μ-loop
-returns-3 c = at-last (c .before .before .loop .inv) (c .before .if1 .left) (c .if5 .taken)
+returns-3 : tie.Need-returns-3 Inv-loop2 μ-loop2 Inv-loop μ-loop
+returns-3 c = at-last (c .before .before .loop2 .inv) (c .before .loop2-test .left) (c .if4 .taken)
 
-reach-requires : tie.Need-reach-requires Inv-loop μ-loop
+reach-requires : tie.Need-reach-requires Inv-loop2 μ-loop2 Inv-loop μ-loop
 reach-requires c κs = search needs
 
-index-requires : tie.Need-index-requires Inv-loop μ-loop
+index-requires : tie.Need-index-requires Inv-loop2 μ-loop2 Inv-loop μ-loop
 index-requires c κs = search needs
 
-loop-less-3 : tie.Need-loop-less-3 Inv-loop μ-loop
-loop-less-3 c = search needs
+loop-less : tie.Need-loop-less Inv-loop2 μ-loop2 Inv-loop μ-loop
+loop-less c = search needs
 
-loop-again-3 : tie.Need-loop-again-3 Inv-loop μ-loop
-loop-again-3 c =
-    on-refill (c .before .before .before .before .before .loop .inv) (c .before .before .before .before .if1 .left) _ _ _ (c .index .ensures)
+loop-again : tie.Need-loop-again Inv-loop2 μ-loop2 Inv-loop μ-loop
+loop-again c =
+    on-refill (c .before .before .before .before .before .loop2 .inv) (c .before .before .before .before .loop2-test .left) _ _ _ (c .index .ensures)
 
 pub next-segment-spec : {M : Type 1} → statement M
 next-segment-spec =
     tie.close
     (tie.spec
+    Inv-loop2
+    μ-loop2
     Inv-loop
     μ-loop
     element-write-starts
     loop-holds
+    loop2-holds
     mul-place
     element-copy-out-place
     shared-slice-read-byte
@@ -119,16 +133,16 @@ next-segment-spec =
     add-count
     add-start
     note-requires
-    loop-less
-    loop-again
+    loop2-less
+    loop2-again
     returns
     stop-requires
     returns-2
     add-behind
-    loop-less-2
-    loop-again-2
+    loop2-less-2
+    loop2-again-2
     returns-3
     reach-requires
     index-requires
-    loop-less-3
-    loop-again-3)
+    loop-less
+    loop-again)

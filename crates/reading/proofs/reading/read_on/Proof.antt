@@ -12,11 +12,11 @@ use Rattle.reading.proofs.reading.read_on.Statement.{statement}
 use Rattle.reading.proofs.reading.read_on.Tie as tie
 
 abbrev Inv-loop : tie.InvT-loop
-Inv-loop s how classes table segments₀ levels₀ queue₀ starts₀ at₀ head₀ tail₀ seen₀ state₀ segments levels queue starts at head tail seen state =
-    Going how s classes (record { segments = segments₀; levels = levels₀ }) segments levels queue starts at head tail seen state
+Inv-loop s how marks table segments₀ levels₀ queue₀ starts₀ at₀ head₀ tail₀ seen₀ state₀ segments levels queue starts at head tail seen state =
+    Going how s marks (record { segments = segments₀; levels = levels₀ }) segments levels queue starts at head tail seen state
 
 abbrev μ-loop : tie.MeasureT-loop
-μ-loop s how classes table segments₀ levels₀ queue₀ starts₀ at₀ head₀ tail₀ seen₀ state₀ segments levels queue starts at head tail seen state =
+μ-loop s how marks table segments₀ levels₀ queue₀ starts₀ at₀ head₀ tail₀ seen₀ state₀ segments levels queue starts at head tail seen state =
     length s - at
 
 loop-holds : tie.Need-loop-holds Inv-loop μ-loop

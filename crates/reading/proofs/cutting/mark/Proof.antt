@@ -1,0 +1,22 @@
+-- `mark` meets its contract: the byte is an index within the table, so the default does not matter.
+-- Assumes nothing.
+use mathlib.Core.Path.{ap}
+use native.Mathlib.Omega.{arith}
+use borrow.Author.Needs.{needs}
+use Rattle.reading.specs.Queue.{bit}
+use Rattle.reading.proofs.CutMarks.{any-default}
+use Rattle.reading.proofs.cutting.mark.Statement.{statement}
+use Rattle.reading.proofs.cutting.mark.Tie as tie
+
+element-copy-out-result : tie.Need-element-copy-out-result
+element-copy-out-result c = search needs
+
+cast-result : tie.Need-cast-result
+cast-result c = search needs
+
+returns : tie.Need-returns
+unfolding bit
+returns c = ap bit (any-default (c .before .args .marks .now) (c .before .args .byte) _ _ (omega (arith, c .before .pre, c .before .fits .byte)))
+
+pub mark-spec : {M : Type 1} → statement M
+mark-spec = tie.close (tie.spec element-copy-out-result cast-result returns)
