@@ -14,7 +14,8 @@ use Rattle.text.proofs.Tables.{tab, tab-at}
 use Rattle.rows.specs.Tags.{tag, tagNumber}
 use Rattle.rows.specs.Rows.{Viable, list842}
 use Rattle.rows.specs.RowList.{rowAt, maxOf}
-use Rattle.rows.specs.Next.{nextOf, nextTable, after, edges842}
+use Rattle.rows.specs.Next.{nextOf, after, edges842}
+use Rattle.rows.specs.PackedTable.{packedTable}
 use Rattle.rows.specs.Following.{OneFits, lastOf, twice}
 use Rattle.rows.specs.Lookup.{RowAfter, rowAfterIn, entryAt}
 use Rattle.rows.proofs.Follow.{last-range}
@@ -92,31 +93,34 @@ module _ (table : List ℕ) (r : ℕ) (again : Bool) (t : ℕ) where
   unfolding rowAfterIn
   tag-outside n h l = rw (ne-eqb r 0 n, le-leb r 79 h, le-ltb t 34 l)
 
-  module _ (lo : 1 ≤ r) (hi : r ≤ 79) (ht : t < 34) where
+  -- with x for the entry
+  module _ (lo : 1 ≤ r) (hi : r ≤ 79) (ht : t < 34) (x : ℕ) (e : x ≡ entryAt table r t) where
+    by-entry : rowAfterIn table r again t ≡ cond (again && (eqb x r && eqb (maxOf r) 2)) 0 x
+    by-entry = rw e (after-entry table r again t lo hi ht)
+
     -- a third of a row of maximum 2
-    pub third-refused : again ≡ true → eqb (entryAt table r t) r ≡ true → eqb (maxOf r) 2 ≡ true → 0 ≡ rowAfterIn table r again t
-    third-refused p q s = sym (after-entry table r again t lo hi ht ∙ rw (p, q, s))
+    pub third-refused : again ≡ true → eqb x r ≡ true → eqb (maxOf r) 2 ≡ true → 0 ≡ rowAfterIn table r again t
+    third-refused p q s = sym (by-entry ∙ rw (p, q, s))
 
     -- a row of another maximum once more
-    pub other-maximum : again ≡ true → eqb (entryAt table r t) r ≡ true → eqb (maxOf r) 2 ≡ false
-        → entryAt table r t ≡ rowAfterIn table r again t
-    other-maximum p q s = sym (after-entry table r again t lo hi ht ∙ rw (p, q, s))
+    pub other-maximum : again ≡ true → eqb x r ≡ true → eqb (maxOf r) 2 ≡ false → x ≡ rowAfterIn table r again t
+    other-maximum p q s = sym (by-entry ∙ rw (p, q, s))
 
     -- another row after one that stands twice
-    pub other-row : again ≡ true → eqb (entryAt table r t) r ≡ false → entryAt table r t ≡ rowAfterIn table r again t
-    other-row p q = sym (after-entry table r again t lo hi ht ∙ rw (p, q))
+    pub other-row : again ≡ true → eqb x r ≡ false → x ≡ rowAfterIn table r again t
+    other-row p q = sym (by-entry ∙ rw (p, q))
 
     -- any row after one that stands once
-    pub first-time : again ≡ false → entryAt table r t ≡ rowAfterIn table r again t
-    first-time p = sym (after-entry table r again t lo hi ht ∙ rw p)
+    pub first-time : again ≡ false → x ≡ rowAfterIn table r again t
+    first-time p = sym (by-entry ∙ rw p)
 
 -- the lookup in the next-row table is the step
-after-step : (r t : ℕ) (again : Bool) → r ≤ 79 → t < 34 → rowAfterIn nextTable r again t ≡ stepOf r again t
+after-step : (r t : ℕ) (again : Bool) → r ≤ 79 → t < 34 → rowAfterIn packedTable r again t ≡ stepOf r again t
 unfolding rowAfterIn stepOf
 after-step zero t again hi ht =
     tab-at 34 (λ t. cond (eqb t (tag "ST")) 1 0) (λ t. stepOf 0 again t) (checked-start again) t ht
 after-step (suc k) t again hi ht =
-    rw (after-entry nextTable (suc k) again t (omega arith) hi ht, entry-next (suc k) t (omega arith) hi ht)
+    rw (after-entry packedTable (suc k) again t (omega arith) hi ht, entry-next (suc k) t (omega arith) hi ht)
 
 -- for a number that is no tag's the answer is 0
 no-tag : (table : List ℕ) (r : ℕ) (again : Bool) (t : ℕ) → 34 ≤ t → 0 ≡ rowAfterIn table r again t

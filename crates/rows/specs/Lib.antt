@@ -4,5 +4,6 @@ pub mod Rows
 pub mod RowList
 pub mod Following
 pub mod Next
+pub mod PackedTable
 pub mod Lookup
 pub mod Profile

@@ -5,16 +5,15 @@ use mathlib.Core.Path.{_≡_}
 use mathlib.Core.Bool.{Bool, false, cond, _&&_}
 use mathlib.Core.List.{List}
 use lib.Dec.{eqb, leb, ltb}
-use lib.ListN.{getD}
 use Rattle.rows.specs.Tags.{tag}
 use Rattle.rows.specs.Rows.{Viable, list842}
 use Rattle.rows.specs.RowList.{maxOf}
-use Rattle.rows.specs.Next.{nextTable}
+use Rattle.rows.specs.PackedTable.{packedTable, entryIn}
 use Rattle.rows.specs.Following.{OneFits, lastOf, twice}
 
 -- the entry of a lent table for a row, 1 to 79, and a tag number
 abbrev pub entryAt : List ℕ → ℕ → ℕ → ℕ
-entryAt table r t = getD table ((r - 1) * 34 + t) 0
+entryAt table r t = entryIn table ((r - 1) * 34 + t)
 
 -- the answer of a lookup in any lent table: at the start row 1 for ST; else the entry, unless it would be a third; 0 for none
 unfoldable pub rowAfterIn : List ℕ → ℕ → Bool → ℕ → ℕ
@@ -28,5 +27,5 @@ rowAfterIn table r again t =
 -- any viable rows that end so
 pub record RowAfter (table : List ℕ) (r : ℕ) (again : Bool) (t x : ℕ) : Type 0 where
   pub answer : x ≡ rowAfterIn table r again t
-  pub meaning : table ≡ nextTable → (w : List ℕ) → Viable list842 w → lastOf 0 w ≡ r → twice 0 false w ≡ again
+  pub meaning : table ≡ packedTable → (w : List ℕ) → Viable list842 w → lastOf 0 w ≡ r → twice 0 false w ≡ again
       → OneFits w t x

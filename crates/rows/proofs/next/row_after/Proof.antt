@@ -41,41 +41,47 @@ high c = omega (arith, c .before .if3 .left)
 tag-in : (c : tie.Else4) → c .before .before .before .args .tag < 34
 tag-in c = leb-false 34 (c .before .before .before .args .tag) (c .if4 .left)
 
-sub-next : tie.Need-sub-next
-sub-next c = search needs
+sub-entry : tie.Need-sub-entry
+sub-entry c = search needs
 
-mul-next : tie.Need-mul-next
-mul-next c = search needs
+mul-entry : tie.Need-mul-entry
+mul-entry c = search needs
 
-add-next : tie.Need-add-next
-add-next c = search needs
+add-entry : tie.Need-add-entry
+add-entry c = search needs
 
-element-copy-out-next : tie.Need-element-copy-out-next
-element-copy-out-next c = omega (arith, leb-false 34 (c .before .before .before .args .tag) (c .if4 .left))
+entry-requires : tie.Need-entry-requires
+entry-requires c κs = omega (arith, leb-false 34 (c .before .before .before .args .tag) (c .if4 .left))
 
 at-most-two-requires : tie.Need-at-most-two-requires
 at-most-two-requires c κs = search needs
 
 returns-4 : tie.Need-returns-4
 returns-4 c =
-    let k = c .before .before .before .before .before in
+    let n = c .before .before .before .before in
+    let k = n .before in
     let a = k .before .before .before .args in
     answer-means _ _ _ _ _
-    (third-refused (a .table .now) (a .row) (a .again) (a .tag) (low k) (high k) (tag-in k) (c .before .before .before .if5 .taken)
-    (c .before .before .if6 .taken) (sym (c .before .at-most-two .ensures) ∙ c .if7 .taken))
+    (third-refused (a .table .now) (a .row) (a .again) (a .tag) (low k) (high k) (tag-in k) (n .entry .result) (n .entry .ensures)
+    (c .before .before .before .if5 .taken) (c .before .before .if6 .taken) (sym (c .before .at-most-two .ensures) ∙ c .if7 .taken))
 
 returns-5 : tie.Need-returns-5
 returns-5 c =
-    let k = c .before .before in
+    let n = c .before in
+    let k = n .before in
     let a = k .before .before .before .args in
     answer-means _ _ _ _ _
     (⊎-elim
     (λ w.
-    other-maximum (a .table .now) (a .row) (a .again) (a .tag) (low k) (high k) (tag-in k) (w .0 .taken) (w .1 .taken)
-    (sym (w .2 .ensures) ∙ w .3 .left))
+    other-maximum (a .table .now) (a .row) (a .again) (a .tag) (low k) (high k) (tag-in k) (n .entry .result) (n .entry .ensures)
+    (w .0 .taken) (w .1 .taken) (sym (w .2 .ensures) ∙ w .3 .left))
     (⊎-elim
-    (λ w. other-row (a .table .now) (a .row) (a .again) (a .tag) (low k) (high k) (tag-in k) (w .0 .taken) (w .1 .left))
-    (λ w. first-time (a .table .now) (a .row) (a .again) (a .tag) (low k) (high k) (tag-in k) (w .left)))
+    (λ w.
+    other-row (a .table .now) (a .row) (a .again) (a .tag) (low k) (high k) (tag-in k) (n .entry .result) (n .entry .ensures)
+    (w .0 .taken) (w .1 .left))
+    (λ w.
+    first-time (a .table .now) (a .row) (a .again) (a .tag) (low k) (high k) (tag-in k) (n .entry .result) (n .entry .ensures)
+    (w .left)))
     (c .if5 .came))
 
 pub row-after-spec : {M : Type 1} → statement M
@@ -85,10 +91,10 @@ row-after-spec =
     returns
     returns-2
     returns-3
-    sub-next
-    mul-next
-    add-next
-    element-copy-out-next
+    sub-entry
+    mul-entry
+    add-entry
+    entry-requires
     at-most-two-requires
     returns-4
     returns-5)
