@@ -22,6 +22,7 @@ use Rattle.reading.specs.Conditions.{Numbering, Shows, HasRoom, upToSegm
 use Rattle.reading.specs.declared.answer.Answer.{Answer}
 use Rattle.reading.specs.declared.answer.Answer.the-variants.{Accepted, Refused}
 use Rattle.reading.specs.declared.how.How.{How}
+use Rattle.reading.proofs.Numbers.{refusal-of}
 use Rattle.reading.proofs.Once.{run-once}
 use Rattle.reading.proofs.Accepting.{Transaction, accepted-transaction, accepted-numbers, transaction-accepted}
 use Rattle.reading.proofs.Whole.{meets-from, from-meets}
@@ -54,11 +55,11 @@ proper how s before r after not-1 not-2 x = fit (fitSeparators (how .separators)
     within : (b : Bool) → leb (length s) limit ≡ b → T (fitSeparators (how .separators)) → ReadsWithin b nonconformance how s before r after
         → Proper how s before r after
     within true e f y = record { fit = f; short = leb-true (length s) limit e; read = y }
-    within false e f y = absurd (not-2 (y .answer))
+    within false e f y = absurd (not-2 (refusal-of r 2 0 0 0 (omega arith) (y .answer)))
 
     fit : (b : Bool) → fitSeparators (how .separators) ≡ b → ReadsFit b nonconformance how s before r after → Proper how s before r after
     fit true e y = within (leb (length s) limit) refl (rw e tt) y
-    fit false e y = absurd (not-1 (y .answer))
+    fit false e y = absurd (not-1 (refusal-of r 1 0 0 0 (omega arith) (y .answer)))
 
 number-of : Answer → ℕ
 number-of (Accepted a l b) = 0

@@ -1,5 +1,6 @@
 pub mod Laws
 pub mod Passing
+pub mod Numbers
 pub mod Once
 pub mod LastRow
 pub mod Closing

@@ -27,6 +27,7 @@ use Rattle.reading.specs.Reads.{cutBy, limit, Read, Reads, ReadsBy, Read
 use Rattle.reading.specs.declared.answer.Answer.{Answer}
 use Rattle.reading.specs.declared.answer.Answer.the-variants.{Accepted, Refused}
 use Rattle.reading.specs.declared.how.How.{How}
+use Rattle.reading.proofs.Numbers.{refusal-of}
 use Rattle.reading.proofs.Once.{Fails}
 
 -- every test of the list is numbered 4 to 16
@@ -139,8 +140,8 @@ listed how s before r after x = by (fitSeparators (how .separators)) (leb (lengt
   where
     within : (b : Bool) → ReadsWithin b nonconformance how s before r after → Listed r
     within true y = read-listed how s before r after y
-    within false y = rw (y .answer) (omega arith, omega arith)
+    within false y = rw (refusal-of r 2 0 0 0 (omega arith) (y .answer)) (omega arith, omega arith)
 
     by : (f b : Bool) → ReadsFit f nonconformance how s before r after → Listed r
     by true b y = within (leb (length s) limit) y
-    by false b y = rw (y .answer) (omega arith, omega arith)
+    by false b y = rw (refusal-of r 1 0 0 0 (omega arith) (y .answer)) (omega arith, omega arith)

@@ -23,6 +23,7 @@ use Rattle.reading.specs.Reads.{limit, cutBy, skipBy, rulesNext, withNex
 use Rattle.reading.specs.declared.answer.Answer.{Answer}
 use Rattle.reading.specs.declared.answer.Answer.the-variants.{Accepted, Refused}
 use Rattle.reading.specs.declared.how.How.{How}
+use Rattle.reading.proofs.Numbers.{refusal-once}
 use Rattle.reading.proofs.Laws.{broken-unsound, broken-once, kept-sound, onto-append, same-rows}
 use Rattle.reading.proofs.Passing.{numbers, next-of, room-fewer}
 
@@ -142,8 +143,8 @@ pub reads-once : (profile : Profile) (how : How) (s : Bytes) (before : Tables) (
 unfolding ReadsBy
 reads-once profile how s before r r′ x x′ a b = fit (fitSeparators (how .separators)) a b
   where
-    untouched : (n : ℕ) → Untouched n before r x → Untouched n before r′ x′ → (r ≡ r′) × (x ≡ x′)
-    untouched n a b = (a .answer ∙ sym (b .answer), a .unchanged ∙ sym (b .unchanged))
+    untouched : (n : ℕ) → 0 < n → Untouched n before r x → Untouched n before r′ x′ → (r ≡ r′) × (x ≡ x′)
+    untouched n h a b = (refusal-once r r′ n 0 0 0 h (a .answer) (b .answer), a .unchanged ∙ sym (b .unchanged))
 
     read : Read profile how s before r x → Read profile how s before r′ x′ → (r ≡ r′) × (x ≡ x′)
     read a b =
@@ -154,8 +155,8 @@ reads-once profile how s before r r′ x x′ a b = fit (fitSeparators (how .sep
 
     within : (l : Bool) → ReadsWithin l profile how s before r x → ReadsWithin l profile how s before r′ x′ → (r ≡ r′) × (x ≡ x′)
     within true a b = read a b
-    within false a b = untouched 2 a b
+    within false a b = untouched 2 (omega arith) a b
 
     fit : (f : Bool) → ReadsFit f profile how s before r x → ReadsFit f profile how s before r′ x′ → (r ≡ r′) × (x ≡ x′)
     fit true a b = within (leb (length s) limit) a b
-    fit false a b = untouched 1 a b
+    fit false a b = untouched 1 (omega arith) a b

@@ -125,7 +125,7 @@ pub record Read (profile : Profile) (how : How) (s : Bytes) (before : Tables) (r
 
 -- 1 and 2 name no segment and leave the tables as they were
 pub record Untouched (number : ℕ) (before : Tables) (r : Answer) (after : Tables) : Type 0 where
-  pub answer : r ≡ Refused number 0 0 0
+  pub answer : numbersOf r ≡ number ∷ 0 ∷ 0 ∷ 0 ∷ []
   pub unchanged : after ≡ before
 
 -- before anything else: 1 where the separators are unfit, 2 where the input is too long

@@ -16,6 +16,7 @@ use Rattle.reading.specs.Reads.{Reads}
 use Rattle.reading.specs.declared.answer.Answer.{Answer}
 use Rattle.reading.specs.declared.answer.Answer.the-variants.{Accepted, Refused}
 use Rattle.reading.specs.declared.how.How.{How}
+use Rattle.reading.proofs.Numbers.{refusal-of}
 use Rattle.reading.proofs.Conditions.{accepted-meets, answered}
 use Rattle.reading.proofs.Listing.{listed}
 use Rattle.rewriting.specs.Rewrites.{rewritten, collision, Outcome, Following, Unfit, RewritesFit, Rewrites}
@@ -61,8 +62,9 @@ wider (Refused n k b e) x = (omega (arith, x .0), omega (arith, x .1))
 outcome-listed : (x : Collision) (room : Bool) (accepted : Answer) (new output : Bytes) (r : Answer) (after : Bytes) → Listed accepted
     → Outcome x room accepted new output r after → Listed r
 unfolding Outcome
-outcome-listed (At place) room accepted new output r after l x = rw (x .0) (omega arith, omega arith)
-outcome-listed Nowhere false accepted new output r after l x = rw (x .0) (omega arith, omega arith)
+outcome-listed (At place) room accepted new output r after l x =
+    rw (refusal-of r 18 (place .segment) (place .byte) (place .element) (omega arith) (x .0)) (omega arith, omega arith)
+outcome-listed Nowhere false accepted new output r after l x = rw (refusal-of r 19 0 0 0 (omega arith) (x .0)) (omega arith, omega arith)
 outcome-listed Nowhere true accepted new output r after l x = rw (x .0) l
 
 module _ (how : How) (new : Separators) (s : Bytes) (before : Tables) (output : Bytes) (r : Answer) (tables : Tables) (after : Bytes) where
@@ -77,7 +79,7 @@ module _ (how : How) (new : Separators) (s : Bytes) (before : Tables) (output : 
   rewriting-listed x = fit (fitSeparators (how .separators)) (fitSeparators new) x
     where
       unfit : (e : ℕ) → Unfit e before output r tables after → Listed r
-      unfit e x = rw (x .answer) (omega arith, omega arith)
+      unfit e x = rw (refusal-of r 1 0 0 e (omega arith) (x .answer)) (omega arith, omega arith)
 
       fit : (old-fit new-fit : Bool) → RewritesFit old-fit new-fit how new s before output r tables after → Listed r
       fit false new-fit x = unfit 0 x

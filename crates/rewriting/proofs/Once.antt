@@ -4,6 +4,7 @@ use Prim.Native.Nat.{ℕ}
 use mathlib.Core.Path.{_≡_, sym, subst, _∙_}
 use mathlib.Core.Bool.{Bool, true, false}
 use mathlib.Core.List.{List}
+use native.Mathlib.Omega.{arith}
 use lib.Dec.{leb}
 use lib.ListN.{length}
 use Rattle.text.specs.Bytes.{Bytes}
@@ -15,6 +16,7 @@ use Rattle.reading.specs.Records.{Tables}
 use Rattle.reading.specs.declared.answer.Answer.{Answer}
 use Rattle.reading.specs.declared.answer.Answer.the-variants.{Accepted, Refused}
 use Rattle.reading.specs.declared.how.How.{How}
+use Rattle.reading.proofs.Numbers.{refusal-once}
 use Rattle.reading.proofs.Once.{reads-once}
 use Rattle.reading.proofs.Conditions.{numbering-once}
 use Rattle.rewriting.specs.Rewrites.{rewritten, collision, Outcome, Following, Rewriting, Unfit, RewritesFit, Rewrites}
@@ -24,8 +26,9 @@ use Rattle.rewriting.specs.declared.collisions.Collision.the-variants.{A
 outcome-once : (x : Collision) (room : Bool) (accepted : Answer) (new output : Bytes) (r r′ : Answer) (after after′ : Bytes)
     → Outcome x room accepted new output r after → Outcome x room accepted new output r′ after′ → (r ≡ r′) × (after ≡ after′)
 unfolding Outcome
-outcome-once (At place) room accepted new output r r′ after after′ x y = (x .0 ∙ sym (y .0), x .1 ∙ sym (y .1))
-outcome-once Nowhere false accepted new output r r′ after after′ x y = (x .0 ∙ sym (y .0), x .1 ∙ sym (y .1))
+outcome-once (At place) room accepted new output r r′ after after′ x y =
+    (refusal-once r r′ 18 (place .segment) (place .byte) (place .element) (omega arith) (x .0) (y .0), x .1 ∙ sym (y .1))
+outcome-once Nowhere false accepted new output r r′ after after′ x y = (refusal-once r r′ 19 0 0 0 (omega arith) (x .0) (y .0), x .1 ∙ sym (y .1))
 outcome-once Nowhere true accepted new output r r′ after after′ x y = (x .0 ∙ sym (y .0), x .1 ∙ sym (y .1))
 
 module _ (how : How) (new : Separators) (s : Bytes) (output : Bytes) where
@@ -47,7 +50,7 @@ module _ (how : How) (new : Separators) (s : Bytes) (output : Bytes) where
   rewrites-once before r r′ tables tables′ after after′ x y = fit (fitSeparators (how .separators)) (fitSeparators new) x y
     where
       unfit : (e : ℕ) → Unfit e before output r tables after → Unfit e before output r′ tables′ after′ → (r ≡ r′) × (tables ≡ tables′) × (after ≡ after′)
-      unfit e x y = (x .answer ∙ sym (y .answer), x .tables-kept ∙ sym (y .tables-kept), x .output-kept ∙ sym (y .output-kept))
+      unfit e x y = (refusal-once r r′ 1 0 0 e (omega arith) (x .answer) (y .answer), x .tables-kept ∙ sym (y .tables-kept), x .output-kept ∙ sym (y .output-kept))
 
       read : Rewriting how new s before output r tables after → Rewriting how new s before output r′ tables′ after′
           → (r ≡ r′) × (tables ≡ tables′) × (after ≡ after′)

@@ -3,7 +3,7 @@
 use Prim.Native.Nat.{ℕ, _≤_}
 use mathlib.Core.Path.{_≡_, refl, ap}
 use mathlib.Core.Bool.{Bool, true, false}
-use mathlib.Core.List.{List, _++_}
+use mathlib.Core.List.{List, _++_, head-eq-of-cons-eq}
 use native.Mathlib.Omega.{arith}
 use lib.Dec.{T, leb}
 use lib.ListN.{length, drop}
@@ -52,8 +52,8 @@ record Written (x : Collision) (room : Bool) (accepted : Answer) (new output : B
 outcome-written : (x : Collision) (room : Bool) (accepted : Answer) (new output : Bytes) (a l b : ℕ) (after : Bytes)
     → Outcome x room accepted new output (Accepted a l b) after → Written x room accepted new output (Accepted a l b) after
 unfolding Outcome
-outcome-written (At place) room accepted new output a l b after x = absurd (accepted-refused (x .0))
-outcome-written Nowhere false accepted new output a l b after x = absurd (accepted-refused (x .0))
+outcome-written (At place) room accepted new output a l b after x = absurd (omega (arith, head-eq-of-cons-eq (x .0)))
+outcome-written Nowhere false accepted new output a l b after x = absurd (omega (arith, head-eq-of-cons-eq (x .0)))
 outcome-written Nowhere true accepted new output a l b after x = record { none = refl; fits = refl; same = x .0; output-is = x .1 }
 
 module _ (how : How) (new : Separators) (s : Bytes) (before : Tables) (output : Bytes) (a l b : ℕ) (tables : Tables) (after : Bytes) where
@@ -83,6 +83,6 @@ module _ (how : How) (new : Separators) (s : Bytes) (before : Tables) (output : 
     where
       fit : (old-fit new-fit : Bool) → fitSeparators (how .separators) ≡ old-fit → fitSeparators new ≡ new-fit
           → RewritesFit old-fit new-fit how new s before output (Accepted a l b) tables after → Success how new s before output a l b tables after
-      fit false new-fit p q x = absurd (accepted-refused (x .answer))
-      fit true false p q x = absurd (accepted-refused (x .answer))
+      fit false new-fit p q x = absurd (omega (arith, head-eq-of-cons-eq (x .answer)))
+      fit true false p q x = absurd (omega (arith, head-eq-of-cons-eq (x .answer)))
       fit true true p q x = following-success (rw p tt) (rw q tt) (x .answer) (x .reads) (x .follows)

@@ -17,6 +17,7 @@ use Rattle.elements.specs.Checks.{Check, each, firstBroken}
 use Rattle.elements.specs.declared.verdict.Verdict.{Verdict}
 use Rattle.elements.specs.declared.verdict.Verdict.the-variants.{Holds, Broken}
 use Rattle.reading.specs.Segments.{seen}
+use Rattle.reading.specs.Answers.{numbersOf}
 use Rattle.reading.specs.Records.{Tables}
 use Rattle.reading.specs.Reads.{Reads}
 use Rattle.reading.specs.Conditions.{Numbering}
@@ -50,8 +51,9 @@ collision how new n (g ∷ gs) =
 -- what becomes of an accepted reading: 18, then 19 where the output has no room, both with the output as it was; else the reading's own answer,
 -- and the new bytes at the start of the output
 unfoldable pub Outcome : Collision → (room : Bool) → Answer → Bytes → Bytes → Answer → Bytes → Type 0
-Outcome (At place) room accepted new output r after = (r ≡ Refused 18 (place .segment) (place .byte) (place .element)) × (after ≡ output)
-Outcome Nowhere false accepted new output r after = (r ≡ Refused 19 0 0 0) × (after ≡ output)
+Outcome (At place) room accepted new output r after =
+    (numbersOf r ≡ 18 ∷ place .segment ∷ place .byte ∷ place .element ∷ []) × (after ≡ output)
+Outcome Nowhere false accepted new output r after = (numbersOf r ≡ 19 ∷ 0 ∷ 0 ∷ 0 ∷ []) × (after ≡ output)
 Outcome Nowhere true accepted new output r after = (r ≡ accepted) × (after ≡ new ++ drop (length new) output)
 
 -- an accepted reading has the segments of the one numbering that meets every rule
@@ -74,7 +76,7 @@ pub record Rewriting (how : How) (new : Separators) (s : Bytes) (before : Tables
 
 -- 1 with this element: nothing is written
 pub record Unfit (element : ℕ) (before : Tables) (output : Bytes) (r : Answer) (tables : Tables) (after : Bytes) : Type 0 where
-  pub answer : r ≡ Refused 1 0 0 element
+  pub answer : numbersOf r ≡ 1 ∷ 0 ∷ 0 ∷ element ∷ []
   pub tables-kept : tables ≡ before
   pub output-kept : after ≡ output
 
