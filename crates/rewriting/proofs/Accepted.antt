@@ -20,7 +20,7 @@ use Rattle.reading.specs.declared.answer.Answer.the-variants.{Accepted, Refused
 use Rattle.reading.specs.declared.how.How.{How}
 use Rattle.reading.proofs.Conditions.{accepted-meets}
 use Rattle.rewriting.specs.Rewrites.{Outcome, Accepting}
-use Rattle.rewriting.specs.Collisions.{outset, collisionFrom, newByte}
+use Rattle.rewriting.specs.Collisions.{clashOf, outset, collisionFrom, newByte}
 use Rattle.rewriting.proofs.Spelling.{texts, spelt, used-length, used-taken}
 use Rattle.rewriting.proofs.Found.{collision-found}
 use Rattle.rewriting.proofs.Changing.{segments-change}
@@ -59,7 +59,7 @@ module _ (how : How) (s : Bytes) (before : Tables) (a l b : ℕ) (tables : Table
       )
 
   pub accepting : (new : Separators) → T (fitSeparators (how .separators)) → (output : Bytes) (r : Answer) (after : Bytes)
-      → Outcome (collisionFrom (how .separators) new outset 0 (take b s)) (leb b (length output)) (Accepted a l b)
+      → Outcome (clashOf (collisionFrom (how .separators) new outset 0 (take b s))) (leb b (length output)) (Accepted a l b)
       (map (newByte (how .separators) new) (take b s)) output r after
       → Accepting how new s (Accepted a l b) b output r after
   accepting new fit output r after x = record {

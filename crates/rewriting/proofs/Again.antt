@@ -22,25 +22,24 @@ use Rattle.reading.specs.Records.{segmentRecords}
 use Rattle.reading.specs.Reads.{cutBy, skipBy}
 use Rattle.reading.specs.Conditions.{usedBy}
 use Rattle.reading.specs.declared.how.How.{How}
-use Rattle.rewriting.specs.Rewrites.{rewritten, apartFrom, collisionChecks, orLater, collision}
+use Rattle.rewriting.specs.Rewrites.{rewritten, apartFrom, collisionChecks, Clash, NoClash, ClashAt, orLater, collision}
 use Rattle.rewriting.specs.Laws.{separatedBy}
 use Rattle.rewriting.specs.Collisions.{newByte}
-use Rattle.rewriting.specs.declared.collisions.Collision.{Collision}
-use Rattle.rewriting.specs.declared.collisions.Collision.the-variants.{At, Nowhere}
 use Rattle.rewriting.proofs.Spelling.{texts}
 use Rattle.rewriting.proofs.Changing.{segment-changes}
 
--- no collision in a segment, and none in those behind it
-at-nowhere : {place : Rattle.rewriting.specs.declared.collisions.Place.Place} → At place ≡ Nowhere → ⊥
-at-nowhere e = let z : _≡_ {A = ℕ} 1 0 = ap isAt e in omega arith
+-- a clash is one
+clash-none : {segment byte element : ℕ} → ClashAt segment byte element ≡ NoClash → ⊥
+clash-none e = let z : _≡_ {A = ℕ} 1 0 = ap count e in omega arith
   where
-    isAt : Collision → ℕ
-    isAt (At place) = 1
-    isAt Nowhere = 0
+    count : Clash → ℕ
+    count (ClashAt segment byte element) = 1
+    count NoClash = 0
 
-silent : (v : Verdict) (n byte : ℕ) (later : Collision) → orLater v n byte later ≡ Nowhere → (v ≡ Holds) × (later ≡ Nowhere)
+-- no collision in a segment, and none in those behind it
+silent : (v : Verdict) (n byte : ℕ) (later : Clash) → orLater v n byte later ≡ NoClash → (v ≡ Holds) × (later ≡ NoClash)
 silent Holds n byte later e = (refl, e)
-silent (Broken number element) n byte later e = absurd (at-nowhere e)
+silent (Broken number element) n byte later e = absurd (clash-none e)
 
 module _ (how : How) (new : Separators) (old-fit : Fitted (how .separators)) (new-fit : Fitted new) where
   abbrev old : Separators
@@ -64,7 +63,7 @@ module _ (how : How) (new : Separators) (old-fit : Fitted (how .separators)) (ne
   AllKeep [] = Unit {0}
   AllKeep (g ∷ gs) = Keeps g × AllKeep gs
 
-  pub all-keep : (n : ℕ) (gs : List Placed) → Clean (old .terminator) (texts gs) → collision how new n gs ≡ Nowhere → AllKeep gs
+  pub all-keep : (n : ℕ) (gs : List Placed) → Clean (old .terminator) (texts gs) → collision how new n gs ≡ NoClash → AllKeep gs
   all-keep n [] c e = tt
   all-keep n (g ∷ gs) c e =
       let v = viewOf old (g .segment) in

@@ -1,7 +1,7 @@
 -- The pass over the bytes finds the collision that the segments' views have.
 -- Assumes nothing.
 use Prim.Native.Nat.{ℕ, suc, _+_}
-use mathlib.Core.Path.{_≡_, refl, sym, _∙_}
+use mathlib.Core.Path.{_≡_, refl, sym, ap, _∙_}
 use mathlib.Core.Bool.{Bool, true, false, not}
 use mathlib.Core.List.{List, [], _∷_, _++_}
 use native.Mathlib.Omega.{arith}
@@ -19,10 +19,9 @@ use Rattle.text.proofs.View.{terminator-separates}
 use Rattle.elements.proofs.Bytewise.{badFrom, each-bad}
 use Rattle.reading.specs.Reads.{cutBy, skipBy}
 use Rattle.reading.specs.declared.how.How.{How}
-use Rattle.rewriting.specs.Rewrites.{orLater, collision}
-use Rattle.rewriting.specs.Collisions.{collides, placeAfter, collisionFrom}
+use Rattle.rewriting.specs.Rewrites.{Clash, orLater, collision}
+use Rattle.rewriting.specs.Collisions.{clashOf, collides, placeAfter, collisionFrom}
 use Rattle.rewriting.specs.declared.collisions.Place.{Place}
-use Rattle.rewriting.specs.declared.collisions.Collision.{Collision}
 use Rattle.rewriting.proofs.Spelling.{texts, spelt}
 
 abbrev place : ℕ → ℕ → ℕ → Place
@@ -44,46 +43,46 @@ module _ (old new : Separators) where
   ends n at k gone rest = rw (old-apart (old .terminator) (terminator-separates old), eq-eqb (old .terminator) (old .terminator) refl)
 
   -- what one byte before the terminator does, to the pass and to the tests alike
-  one-byte : (n at k gone b : ℕ) (g rest : Bytes) (later : Collision) → (b ≡ old .terminator → ⊥)
-      → ((k : ℕ) → collisionFrom old new (place n at k) (gone + 1) rest ≡ orLater (badFrom 18 apart (old .element) (old .component) k g) n at later)
-      → collisionFrom old new (place n at k) gone (b ∷ rest) ≡ orLater (badFrom 18 apart (old .element) (old .component) k (b ∷ g)) n at later
+  one-byte : (n at k gone b : ℕ) (g rest : Bytes) (later : Clash) → (b ≡ old .terminator → ⊥)
+      → ((k : ℕ) → clashOf (collisionFrom old new (place n at k) (gone + 1) rest) ≡ orLater (badFrom 18 apart (old .element) (old .component) k g) n at later)
+      → clashOf (collisionFrom old new (place n at k) gone (b ∷ rest)) ≡ orLater (badFrom 18 apart (old .element) (old .component) k (b ∷ g)) n at later
   unfolding placeAfter
   one-byte n at k gone b g rest later h ih = by-element (eqb b (old .element)) refl
     where
       by-new : (s : Bool) → isSeparator new b ≡ s → eqb b (old .element) ≡ false → eqb b (old .component) ≡ false
-          → collisionFrom old new (place n at k) gone (b ∷ rest) ≡ orLater (badFrom 18 apart (old .element) (old .component) k (b ∷ g)) n at later
+          → clashOf (collisionFrom old new (place n at k) gone (b ∷ rest)) ≡ orLater (badFrom 18 apart (old .element) (old .component) k (b ∷ g)) n at later
       by-new true s e c = rw (s, e, c, ne-eqb b (old .terminator) h)
       by-new false s e c = rw (s, e, c, ne-eqb b (old .terminator) h) (ih k)
 
       by-component : (t : Bool) → eqb b (old .component) ≡ t → eqb b (old .element) ≡ false
-          → collisionFrom old new (place n at k) gone (b ∷ rest) ≡ orLater (badFrom 18 apart (old .element) (old .component) k (b ∷ g)) n at later
+          → clashOf (collisionFrom old new (place n at k) gone (b ∷ rest)) ≡ orLater (badFrom 18 apart (old .element) (old .component) k (b ∷ g)) n at later
       by-component true c e = rw (e, c, ne-eqb b (old .terminator) h, and-false) (ih k)
       by-component false c e = by-new (isSeparator new b) refl e c
 
       by-element : (t : Bool) → eqb b (old .element) ≡ t
-          → collisionFrom old new (place n at k) gone (b ∷ rest) ≡ orLater (badFrom 18 apart (old .element) (old .component) k (b ∷ g)) n at later
+          → clashOf (collisionFrom old new (place n at k) gone (b ∷ rest)) ≡ orLater (badFrom 18 apart (old .element) (old .component) k (b ∷ g)) n at later
       by-element true e = rw (e, ne-eqb b (old .terminator) h, and-false, add-one k) (ih (suc k))
       by-element false e = by-component (eqb b (old .component)) refl e
 
   -- a segment and its terminator
   segment-found : (n at gone : ℕ) (g rest : Bytes) (k : ℕ) → Free (old .terminator) g
-      → collisionFrom old new (place n at k) gone (g ++ old .terminator ∷ rest)
+      → clashOf (collisionFrom old new (place n at k) gone (g ++ old .terminator ∷ rest))
       ≡ orLater (badFrom 18 apart (old .element) (old .component) k g) n at
-      (collisionFrom old new (place (n + 1) (gone + length g + 1) 0) (gone + length g + 1) rest)
+      (clashOf (collisionFrom old new (place (n + 1) (gone + length g + 1) 0) (gone + length g + 1) rest))
   segment-found n at gone [] rest k f =
       let same : gone + 0 + 1 ≡ gone + 1 = omega arith in
-      ends n at k gone rest ∙ rw same
+      ap clashOf (ends n at k gone rest) ∙ rw same
   segment-found n at gone (b ∷ g) rest k f =
       let same : gone + suc (length g) + 1 ≡ gone + 1 + length g + 1 = omega arith in
       rw same
       (one-byte n at k gone b g (g ++ old .terminator ∷ rest)
-      (collisionFrom old new (place (n + 1) (gone + 1 + length g + 1) 0) (gone + 1 + length g + 1) rest) (f .0)
+      (clashOf (collisionFrom old new (place (n + 1) (gone + 1 + length g + 1) 0) (gone + 1 + length g + 1) rest)) (f .0)
       (λ k. segment-found n at (gone + 1) g rest k (f .1)))
 
 -- all segments
 pub collision-found : (how : How) (new : Separators) (n at : ℕ) (s : Bytes) (gs : List Placed) (end : ℕ) (rest : Bytes)
     → Leads (cutBy how) (skipBy how) at s gs end rest
-    → collisionFrom (how .separators) new (place n at 0) at (closed (how .separators .terminator) (texts gs)) ≡ collision how new n gs
+    → clashOf (collisionFrom (how .separators) new (place n at 0) at (closed (how .separators .terminator) (texts gs))) ≡ collision how new n gs
 collision-found how new n at s [] end rest l = refl
 collision-found how new n at s (g ∷ gs) end rest l =
     let old = how .separators in

@@ -19,17 +19,15 @@ use Rattle.reading.specs.declared.how.How.{How}
 use Rattle.reading.proofs.Numbers.{refusal-of}
 use Rattle.reading.proofs.Conditions.{accepted-meets, answered}
 use Rattle.reading.proofs.Listing.{listed}
-use Rattle.rewriting.specs.Rewrites.{rewritten, collision, Outcome, Following, Unfit, RewritesFit, Rewrites}
+use Rattle.rewriting.specs.Rewrites.{rewritten, Clash, NoClash, ClashAt, collision, Outcome, Following, Unfit, RewritesFit, Rewrites}
 use Rattle.rewriting.specs.Laws.{Listed}
-use Rattle.rewriting.specs.declared.collisions.Collision.{Collision}
-use Rattle.rewriting.specs.declared.collisions.Collision.the-variants.{At, Nowhere}
 
 -- some answer and output
-outcome-some : (x : Collision) (room : Bool) (accepted : Answer) (new output : Bytes) → (r : Answer) × (after : Bytes) × Outcome x room accepted new output r after
+outcome-some : (x : Clash) (room : Bool) (accepted : Answer) (new output : Bytes) → (r : Answer) × (after : Bytes) × Outcome x room accepted new output r after
 unfolding Outcome
-outcome-some (At place) room accepted new output = (Refused 18 (place .segment) (place .byte) (place .element), output, (refl, refl))
-outcome-some Nowhere false accepted new output = (Refused 19 0 0 0, output, (refl, refl))
-outcome-some Nowhere true accepted new output = (accepted, new ++ drop (length new) output, (refl, refl))
+outcome-some (ClashAt k b e) room accepted new output = (Refused 18 k b e, output, (refl, refl))
+outcome-some NoClash false accepted new output = (Refused 19 0 0 0, output, (refl, refl))
+outcome-some NoClash true accepted new output = (accepted, new ++ drop (length new) output, (refl, refl))
 
 module _ (how : How) (new : Separators) (s : Bytes) (before : Tables) (output : Bytes) where
   following-some : (answer : Answer) (tables : Tables) → Reads how s before answer tables
@@ -59,13 +57,13 @@ wider : (r : Answer) → ReadingListed r → Listed r
 wider (Accepted a l b) x = tt
 wider (Refused n k b e) x = (omega (arith, x .0), omega (arith, x .1))
 
-outcome-listed : (x : Collision) (room : Bool) (accepted : Answer) (new output : Bytes) (r : Answer) (after : Bytes) → Listed accepted
+outcome-listed : (x : Clash) (room : Bool) (accepted : Answer) (new output : Bytes) (r : Answer) (after : Bytes) → Listed accepted
     → Outcome x room accepted new output r after → Listed r
 unfolding Outcome
-outcome-listed (At place) room accepted new output r after l x =
-    rw (refusal-of r 18 (place .segment) (place .byte) (place .element) (omega arith) (x .0)) (omega arith, omega arith)
-outcome-listed Nowhere false accepted new output r after l x = rw (refusal-of r 19 0 0 0 (omega arith) (x .0)) (omega arith, omega arith)
-outcome-listed Nowhere true accepted new output r after l x = rw (x .0) l
+outcome-listed (ClashAt k b e) room accepted new output r after l x =
+    rw (refusal-of r 18 k b e (omega arith) (x .0)) (omega arith, omega arith)
+outcome-listed NoClash false accepted new output r after l x = rw (refusal-of r 19 0 0 0 (omega arith) (x .0)) (omega arith, omega arith)
+outcome-listed NoClash true accepted new output r after l x = rw (x .0) l
 
 module _ (how : How) (new : Separators) (s : Bytes) (before : Tables) (output : Bytes) (r : Answer) (tables : Tables) (after : Bytes) where
   following-listed : (answer : Answer) → Listed answer → Following how new s answer output r after → Listed r

@@ -19,17 +19,15 @@ use Rattle.reading.specs.declared.how.How.{How}
 use Rattle.reading.proofs.Numbers.{refusal-once}
 use Rattle.reading.proofs.Once.{reads-once}
 use Rattle.reading.proofs.Conditions.{numbering-once}
-use Rattle.rewriting.specs.Rewrites.{rewritten, collision, Outcome, Following, Rewriting, Unfit, RewritesFit, Rewrites}
-use Rattle.rewriting.specs.declared.collisions.Collision.{Collision}
-use Rattle.rewriting.specs.declared.collisions.Collision.the-variants.{At, Nowhere}
+use Rattle.rewriting.specs.Rewrites.{rewritten, Clash, NoClash, ClashAt, collision, Outcome, Following, Rewriting, Unfit, RewritesFit, Rewrites}
 
-outcome-once : (x : Collision) (room : Bool) (accepted : Answer) (new output : Bytes) (r r′ : Answer) (after after′ : Bytes)
+outcome-once : (x : Clash) (room : Bool) (accepted : Answer) (new output : Bytes) (r r′ : Answer) (after after′ : Bytes)
     → Outcome x room accepted new output r after → Outcome x room accepted new output r′ after′ → (r ≡ r′) × (after ≡ after′)
 unfolding Outcome
-outcome-once (At place) room accepted new output r r′ after after′ x y =
-    (refusal-once r r′ 18 (place .segment) (place .byte) (place .element) (omega arith) (x .0) (y .0), x .1 ∙ sym (y .1))
-outcome-once Nowhere false accepted new output r r′ after after′ x y = (refusal-once r r′ 19 0 0 0 (omega arith) (x .0) (y .0), x .1 ∙ sym (y .1))
-outcome-once Nowhere true accepted new output r r′ after after′ x y = (x .0 ∙ sym (y .0), x .1 ∙ sym (y .1))
+outcome-once (ClashAt k b e) room accepted new output r r′ after after′ x y =
+    (refusal-once r r′ 18 k b e (omega arith) (x .0) (y .0), x .1 ∙ sym (y .1))
+outcome-once NoClash false accepted new output r r′ after after′ x y = (refusal-once r r′ 19 0 0 0 (omega arith) (x .0) (y .0), x .1 ∙ sym (y .1))
+outcome-once NoClash true accepted new output r r′ after after′ x y = (x .0 ∙ sym (y .0), x .1 ∙ sym (y .1))
 
 module _ (how : How) (new : Separators) (s : Bytes) (output : Bytes) where
   -- an accepted reading has one numbering, and the rest follows from its segments

@@ -17,7 +17,7 @@ use Rattle.reading.specs.declared.answer.Answer.{Answer}
 use Rattle.reading.specs.declared.answer.Answer.the-variants.{Accepted, Refused}
 use Rattle.reading.specs.declared.how.How.{How}
 use Rattle.rewriting.specs.Rewrites.{Outcome, Rewrites}
-use Rattle.rewriting.specs.Collisions.{outset, collisionFrom, newByte}
+use Rattle.rewriting.specs.Collisions.{clashOf, outset, collisionFrom, newByte}
 use Rattle.rewriting.specs.declared.collisions.Place.{Place}
 use Rattle.rewriting.specs.declared.collisions.Collision.{Collision}
 use Rattle.rewriting.specs.declared.collisions.Collision.the-variants.{At, Nowhere}
@@ -32,7 +32,7 @@ module _ (s : Bytes) (old new : Separators) (segments levels bytes : ℕ) (outpu
   changed = map (newByte old new) (take bytes s)
 
   abbrev Ends : Answer → Bytes → Type 0
-  Ends r after = Outcome found (leb bytes (length output)) (Accepted segments levels bytes) changed output r after
+  Ends r after = Outcome (clashOf found) (leb bytes (length output)) (Accepted segments levels bytes) changed output r after
 
   pub collided : (p : Place) → found ≡ At p → Ends (Refused 18 (p .segment) (p .byte) (p .element)) output
   unfolding Outcome
@@ -71,7 +71,7 @@ module _ (how : How) (new : Separators) (s : Bytes) (before : Tables) (output : 
           (record { answer = Refused number segment byte element; reads = x; follows = (refl, refl) })
 
       pub reading-accepted : (a l b : ℕ) → Reads how s before (Accepted a l b) tables → (r : Answer) (after : Bytes)
-          → Outcome (collisionFrom (how .separators) new outset 0 (take b s)) (leb b (length output)) (Accepted a l b)
+          → Outcome (clashOf (collisionFrom (how .separators) new outset 0 (take b s))) (leb b (length output)) (Accepted a l b)
           (map (newByte (how .separators) new) (take b s)) output r after
           → Rewrites how new s before output r tables after
       unfolding Rewrites

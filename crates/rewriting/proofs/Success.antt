@@ -18,9 +18,7 @@ use Rattle.reading.specs.Conditions.{Numbering}
 use Rattle.reading.specs.declared.answer.Answer.{Answer}
 use Rattle.reading.specs.declared.answer.Answer.the-variants.{Accepted, Refused}
 use Rattle.reading.specs.declared.how.How.{How}
-use Rattle.rewriting.specs.Rewrites.{rewritten, collision, Outcome, Following, RewritesFit, Rewrites}
-use Rattle.rewriting.specs.declared.collisions.Collision.{Collision}
-use Rattle.rewriting.specs.declared.collisions.Collision.the-variants.{At, Nowhere}
+use Rattle.rewriting.specs.Rewrites.{rewritten, Clash, NoClash, ClashAt, collision, Outcome, Following, RewritesFit, Rewrites}
 use Rattle.rewriting.proofs.Accepted.{bytesOf}
 
 -- an acceptance is no refusal
@@ -38,23 +36,23 @@ pub record Success (how : How) (new : Separators) (s : Bytes) (before : Tables) 
   pub gs : List Placed
   pub rows : List ℕ
   pub numbering : Numbering how s gs rows
-  pub apart : collision how new 1 gs ≡ Nowhere
+  pub apart : collision how new 1 gs ≡ NoClash
   pub room : b ≤ length output
   pub output-is : after ≡ rewritten how new gs ++ drop (length (rewritten how new gs)) output
 
 -- 18 and 19 are ruled out
-record Written (x : Collision) (room : Bool) (accepted : Answer) (new output : Bytes) (r : Answer) (after : Bytes) : Type 0 where
-  none : x ≡ Nowhere
+record Written (x : Clash) (room : Bool) (accepted : Answer) (new output : Bytes) (r : Answer) (after : Bytes) : Type 0 where
+  none : x ≡ NoClash
   fits : room ≡ true
   same : r ≡ accepted
   output-is : after ≡ new ++ drop (length new) output
 
-outcome-written : (x : Collision) (room : Bool) (accepted : Answer) (new output : Bytes) (a l b : ℕ) (after : Bytes)
+outcome-written : (x : Clash) (room : Bool) (accepted : Answer) (new output : Bytes) (a l b : ℕ) (after : Bytes)
     → Outcome x room accepted new output (Accepted a l b) after → Written x room accepted new output (Accepted a l b) after
 unfolding Outcome
-outcome-written (At place) room accepted new output a l b after x = absurd (omega (arith, head-eq-of-cons-eq (x .0)))
-outcome-written Nowhere false accepted new output a l b after x = absurd (omega (arith, head-eq-of-cons-eq (x .0)))
-outcome-written Nowhere true accepted new output a l b after x = record { none = refl; fits = refl; same = x .0; output-is = x .1 }
+outcome-written (ClashAt k y e) room accepted new output a l b after x = absurd (omega (arith, head-eq-of-cons-eq (x .0)))
+outcome-written NoClash false accepted new output a l b after x = absurd (omega (arith, head-eq-of-cons-eq (x .0)))
+outcome-written NoClash true accepted new output a l b after x = record { none = refl; fits = refl; same = x .0; output-is = x .1 }
 
 module _ (how : How) (new : Separators) (s : Bytes) (before : Tables) (output : Bytes) (a l b : ℕ) (tables : Tables) (after : Bytes) where
   -- and the reading's refusals

@@ -7,9 +7,15 @@ use lib.Dec.{eqb}
 use Rattle.text.specs.Bytes.{Bytes}
 use Rattle.text.specs.Separators.{isSeparator}
 use Rattle.text.specs.declared.separators.Separators.{Separators}
+use Rattle.rewriting.specs.Rewrites.{Clash, NoClash, ClashAt}
 use Rattle.rewriting.specs.declared.collisions.Place.{Place}
 use Rattle.rewriting.specs.declared.collisions.Collision.{Collision}
 use Rattle.rewriting.specs.declared.collisions.Collision.the-variants.{At, Nowhere}
+
+-- the code's answer in the words of the promise
+abbrev pub clashOf : Collision → Clash
+clashOf (At place) = ClashAt (place .segment) (place .byte) (place .element)
+clashOf Nowhere = NoClash
 
 -- a new separator that was no old one
 abbrev pub collides : Separators → Separators → ℕ → Bool

@@ -24,8 +24,6 @@ use Rattle.reading.specs.Conditions.{Numbering}
 use Rattle.reading.specs.declared.answer.Answer.{Answer}
 use Rattle.reading.specs.declared.answer.Answer.the-variants.{Accepted, Refused}
 use Rattle.reading.specs.declared.how.How.{How}
-use Rattle.rewriting.specs.declared.collisions.Collision.{Collision}
-use Rattle.rewriting.specs.declared.collisions.Collision.the-variants.{At, Nowhere}
 
 -- the segments as they are written with the new separators: every view again, and a terminator after each
 abbrev pub rewritten : How → Separators → List Placed → Bytes
@@ -38,23 +36,28 @@ apartFrom new p = every (every (λ (b : ℕ). not (isSeparator new b))) p
 abbrev pub collisionChecks : Separators → View → List Check
 collisionChecks new v = each 18 0 (length v) (λ (k : ℕ). apartFrom new (elementOf v k))
 
--- the first segment with such a piece decides, and in it the first such piece; n is the number of the first of these segments
-abbrev pub orLater : Verdict → ℕ → ℕ → Collision → Collision
-orLater Holds n byte later = later
-orLater (Broken number element) n byte later = At (record { segment = n; byte = byte; element = element })
+-- where such a piece stands: the segment's number, the byte where it starts, and the element; or that there is none
+pub data Clash : Type 0 where
+  NoClash : Clash
+  ClashAt : ℕ → ℕ → ℕ → Clash
 
-abbrev pub collision : How → Separators → ℕ → List Placed → Collision
-collision how new n [] = Nowhere
+-- the first segment with such a piece decides, and in it the first such piece; n is the number of the first of these segments
+abbrev pub orLater : Verdict → ℕ → ℕ → Clash → Clash
+orLater Holds n byte later = later
+orLater (Broken number element) n byte later = ClashAt n byte element
+
+abbrev pub collision : How → Separators → ℕ → List Placed → Clash
+collision how new n [] = NoClash
 collision how new n (g ∷ gs) =
     orLater (firstBroken (collisionChecks new (viewOf (how .separators) (g .segment)))) n (g .at) (collision how new (suc n) gs)
 
 -- what becomes of an accepted reading: 18, then 19 where the output has no room, both with the output as it was; else the reading's own answer,
 -- and the new bytes at the start of the output
-unfoldable pub Outcome : Collision → (room : Bool) → Answer → Bytes → Bytes → Answer → Bytes → Type 0
-Outcome (At place) room accepted new output r after =
-    (numbersOf r ≡ 18 ∷ place .segment ∷ place .byte ∷ place .element ∷ []) × (after ≡ output)
-Outcome Nowhere false accepted new output r after = (numbersOf r ≡ 19 ∷ 0 ∷ 0 ∷ 0 ∷ []) × (after ≡ output)
-Outcome Nowhere true accepted new output r after = (r ≡ accepted) × (after ≡ new ++ drop (length new) output)
+unfoldable pub Outcome : Clash → (room : Bool) → Answer → Bytes → Bytes → Answer → Bytes → Type 0
+Outcome (ClashAt segment byte element) room accepted new output r after =
+    (numbersOf r ≡ 18 ∷ segment ∷ byte ∷ element ∷ []) × (after ≡ output)
+Outcome NoClash false accepted new output r after = (numbersOf r ≡ 19 ∷ 0 ∷ 0 ∷ 0 ∷ []) × (after ≡ output)
+Outcome NoClash true accepted new output r after = (r ≡ accepted) × (after ≡ new ++ drop (length new) output)
 
 -- an accepted reading has the segments of the one numbering that meets every rule
 pub record Accepting (how : How) (new : Separators) (s : Bytes) (accepted : Answer) (bytes : ℕ) (output : Bytes) (r : Answer) (after : Bytes) : Type 0 where

@@ -5,7 +5,7 @@ ghost use Prim.Native.Nat.{_≤_};
 ghost use lib.Dec.{leb};
 ghost use lib.ListN.{length, take};
 ghost use Rattle.reading.specs.declared.answer.Answer.the-variants.{Accepted};
-ghost use Rattle.rewriting.specs.Collisions.{newByte, outset, collisionFrom};
+ghost use Rattle.rewriting.specs.Collisions.{clashOf, newByte, outset, collisionFrom};
 ghost use Rattle.rewriting.specs.Rewrites.{Outcome, Rewrites};
 use crate::collisions;
 use crate::collisions::Collision;
@@ -25,7 +25,7 @@ fn write_accepted(
     output: &mut [u8],
 ) -> Answer
     requires { ⌜ bytes ≤ length (now s) ⌝ }
-    ensures { λ r. ⌜ Outcome (collisionFrom old new outset 0 (take bytes (now (s .entry)))) (leb bytes (length (now (output .entry)))) (Accepted segments levels bytes)
+    ensures { λ r. ⌜ Outcome (clashOf (collisionFrom old new outset 0 (take bytes (now (s .entry))))) (leb bytes (length (now (output .entry)))) (Accepted segments levels bytes)
         (map (newByte old new) (take bytes (now (s .entry)))) (now (output .entry)) r (now (output .exit)) ⌝ }
 {
     match collisions::first_collision(s, bytes, old, new) {
