@@ -16,7 +16,7 @@ use Rattle.text.specs.Cut.{Placed}
 use Rattle.text.proofs.Bools.{passes, not-passes}
 use Rattle.text.proofs.View.{Fitted}
 use Rattle.rows.specs.Tags.{tag, tagNumber}
-use Rattle.rows.specs.PackedTable.{packedTable}
+use Rattle.rows.specs.Written.{writtenTable}
 use Rattle.rows.specs.Following.{Fits, OneFits}
 use Rattle.rows.specs.Lookup.{RowAfter}
 use Rattle.rows.specs.Rows.{Viable, list842}
@@ -122,7 +122,7 @@ module _ {how : How} {before : Tables} {s : Bytes} {segments levels : List ℕ} 
         (λ e. absurd (nt .unkept open-end (keeps-holds (endChecks v) .0 e)))
         (λ n k e. rw e (bad-end nonconformance rows h v (nt .data-only) known-tag n k e)))
 
-    module _ (ended : T (notes .ended)) (x : ℕ) (after : RowAfter packedTable row again t x) where
+    module _ (ended : T (notes .ended)) (x : ℕ) (after : RowAfter writtenTable row again t x) where
       ends : Keeps (endChecks v)
       ends = nt .kept ended
 

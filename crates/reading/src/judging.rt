@@ -3,7 +3,7 @@ ghost use mathlib.Core.Path.{_≡_};
 ghost use Rattle.text.specs.Bytes.{same};
 ghost use Rattle.text.specs.View.{viewOf};
 ghost use Rattle.rows.specs.Tags.{tagNumber};
-ghost use Rattle.rows.specs.PackedTable.{packedTable};
+ghost use Rattle.rows.specs.Written.{writtenTable};
 ghost use Rattle.elements.specs.Checks.{firstBroken};
 ghost use Rattle.elements.specs.Post.{notedElement};
 ghost use Rattle.elements.specs.Rules.{endChecks};
@@ -211,7 +211,7 @@ fn judge_late(
 fn judge_known(
     s: &[u8],
     how: How,
-    table: &[u64; 336],
+    table: &[u8; 2686],
     starts: &[usize; 33],
     notes: Notes,
     state: State,
@@ -219,7 +219,7 @@ fn judge_known(
     levels: &[u64],
     tag: u8,
 ) -> Judgement
-    requires { ⌜ now table ≡ packedTable ⌝ }
+    requires { ⌜ now table ≡ writtenTable ⌝ }
     requires { ⌜ Known (now s) (now starts) notes tag ⌝ }
     ensures { λ r. ⌜ JudgesNext how (now (s .entry)) (now (starts .entry)) notes state (now (segments .entry)) (now (levels .entry)) r ⌝ }
 {
@@ -245,14 +245,14 @@ fn judge_known(
 pub(crate) fn judge(
     s: &[u8],
     how: How,
-    table: &[u64; 336],
+    table: &[u8; 2686],
     starts: &[usize; 33],
     notes: Notes,
     state: State,
     segments: &[u64],
     levels: &[u64],
 ) -> Judgement
-    requires { ⌜ now table ≡ packedTable ⌝ }
+    requires { ⌜ now table ≡ writtenTable ⌝ }
     requires { ⌜ Inside (now s) notes ⌝ }
     ensures { λ r. ⌜ JudgesNext how (now (s .entry)) (now (starts .entry)) notes state (now (segments .entry)) (now (levels .entry)) r ⌝ }
 {

@@ -6,7 +6,7 @@ ghost use lib.ListN.{length};
 ghost use Rattle.text.specs.Bytes.{Bytes};
 ghost use Rattle.text.specs.View.{viewOf};
 ghost use Rattle.text.proofs.View.{Fitted};
-ghost use Rattle.rows.specs.PackedTable.{packedTable};
+ghost use Rattle.rows.specs.Written.{writtenTable};
 ghost use Rattle.elements.specs.Checks.{firstBroken};
 ghost use Rattle.elements.specs.Rules.{byteChecks};
 ghost use Rattle.reading.specs.Marks.{Table};
@@ -58,14 +58,14 @@ fn read_on(
     s: &[u8],
     how: How,
     marks: &[bool; 256],
-    table: &[u64; 336],
+    table: &[u8; 2686],
     segments: &mut [u64],
     levels: &mut [u64],
 ) -> Answer
     requires { ⌜ Fitted (how .separators) ⌝ }
     requires { ⌜ length (now s) ≤ limit ⌝ }
     requires { ⌜ Table (how .separators) (now marks) ⌝ }
-    requires { ⌜ now table ≡ packedTable ⌝ }
+    requires { ⌜ now table ≡ writtenTable ⌝ }
     ensures { λ r. ⌜ Read nonconformance how (now (s .entry)) (record { segments = now (segments .entry); levels = now (levels .entry) }) r
         (record { segments = now (segments .exit); levels = now (levels .exit) }) ⌝ }
 {

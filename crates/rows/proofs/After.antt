@@ -4,18 +4,19 @@ use mathlib.Core.Path.{_≡_, refl, sym, subst, _∙_}
 use mathlib.Core.Logic.{by-cases}
 use mathlib.Core.Bool.{Bool, true, false, cond, _&&_}
 use mathlib.Core.List.{List}
-use Prim.Native.Nat.{ℕ, zero, suc, _<_, _≤_}
+use Prim.Native.Nat.{ℕ, zero, suc, _+_, _-_, _*_, _<_, _≤_}
 use native.Mathlib.Omega.{arith}
 use native.Mathlib.Decide.{decLt}
 use lib.Dec.{T, eqb, eqb→eq, eqb-refl}
+use lib.ListN.{getD}
 use borrow.Author.Tests.{ne-eqb, le-leb, lt-leb, le-ltb, lt-ltb}
-use Rattle.text.proofs.Bools.{both, first-of, second-of}
+use Rattle.text.proofs.Bools.{cond-same, both, first-of, second-of}
 use Rattle.text.proofs.Tables.{tab, tab-at}
 use Rattle.rows.specs.Tags.{tag, tagNumber}
 use Rattle.rows.specs.Rows.{Viable, list842}
 use Rattle.rows.specs.RowList.{rowAt, maxOf}
 use Rattle.rows.specs.Next.{nextOf, after, edges842}
-use Rattle.rows.specs.PackedTable.{packedTable}
+use Rattle.rows.specs.Written.{writtenTable}
 use Rattle.rows.specs.Following.{OneFits, lastOf, twice}
 use Rattle.rows.specs.Lookup.{RowAfter, rowAfterIn, entryAt}
 use Rattle.rows.proofs.Follow.{last-range}
@@ -71,6 +72,10 @@ pub after-entry : (table : List ℕ) (r : ℕ) (again : Bool) (t : ℕ) → 1 �
 unfolding rowAfterIn
 after-entry table r again t lo hi ht = rw (ne-eqb r 0 (λ e. omega arith), le-leb r 79 hi, lt-ltb t 34 ht)
 
+-- the entry as it stands in the table
+abbrev pub standsAt : List ℕ → ℕ → ℕ → ℕ
+standsAt table r t = getD table ((r - 1) * 34 + t) 0
+
 -- the lookup's ways, each with its tests
 module _ (table : List ℕ) (r : ℕ) (again : Bool) (t : ℕ) where
   -- nothing read, and ST
@@ -93,34 +98,41 @@ module _ (table : List ℕ) (r : ℕ) (again : Bool) (t : ℕ) where
   unfolding rowAfterIn
   tag-outside n h l = rw (ne-eqb r 0 n, le-leb r 79 h, le-ltb t 34 l)
 
-  -- with x for the entry
-  module _ (lo : 1 ≤ r) (hi : r ≤ 79) (ht : t < 34) (x : ℕ) (e : x ≡ entryAt table r t) where
-    by-entry : rowAfterIn table r again t ≡ cond (again && (eqb x r && eqb (maxOf r) 2)) 0 x
-    by-entry = rw e (after-entry table r again t lo hi ht)
+  module _ (lo : 1 ≤ r) (hi : r ≤ 79) (ht : t < 34) where
+    -- no row there
+    pub no-row : 128 ≤ standsAt table r t → 0 ≡ rowAfterIn table r again t
+    no-row h = sym (after-entry table r again t lo hi ht ∙ rw (le-leb 128 (standsAt table r t) h, cond-same))
 
-    -- a third of a row of maximum 2
-    pub third-refused : again ≡ true → eqb x r ≡ true → eqb (maxOf r) 2 ≡ true → 0 ≡ rowAfterIn table r again t
-    third-refused p q s = sym (by-entry ∙ rw (p, q, s))
+    -- a row there, which means itself
+    module _ (h : standsAt table r t < 128) where
+      by-entry : rowAfterIn table r again t
+          ≡ cond (again && (eqb (standsAt table r t) r && eqb (maxOf r) 2)) 0 (standsAt table r t)
+      by-entry = after-entry table r again t lo hi ht ∙ rw (lt-leb 128 (standsAt table r t) h)
 
-    -- a row of another maximum once more
-    pub other-maximum : again ≡ true → eqb x r ≡ true → eqb (maxOf r) 2 ≡ false → x ≡ rowAfterIn table r again t
-    other-maximum p q s = sym (by-entry ∙ rw (p, q, s))
+      -- a third of a row of maximum 2
+      pub third-refused : again ≡ true → eqb (standsAt table r t) r ≡ true → eqb (maxOf r) 2 ≡ true → 0 ≡ rowAfterIn table r again t
+      third-refused p q s = sym (by-entry ∙ rw (p, q, s))
 
-    -- another row after one that stands twice
-    pub other-row : again ≡ true → eqb x r ≡ false → x ≡ rowAfterIn table r again t
-    other-row p q = sym (by-entry ∙ rw (p, q))
+      -- a row of another maximum once more
+      pub other-maximum : again ≡ true → eqb (standsAt table r t) r ≡ true → eqb (maxOf r) 2 ≡ false
+          → standsAt table r t ≡ rowAfterIn table r again t
+      other-maximum p q s = sym (by-entry ∙ rw (p, q, s))
 
-    -- any row after one that stands once
-    pub first-time : again ≡ false → x ≡ rowAfterIn table r again t
-    first-time p = sym (by-entry ∙ rw p)
+      -- another row after one that stands twice
+      pub other-row : again ≡ true → eqb (standsAt table r t) r ≡ false → standsAt table r t ≡ rowAfterIn table r again t
+      other-row p q = sym (by-entry ∙ rw (p, q))
+
+      -- any row after one that stands once
+      pub first-time : again ≡ false → standsAt table r t ≡ rowAfterIn table r again t
+      first-time p = sym (by-entry ∙ rw p)
 
 -- the lookup in the next-row table is the step
-after-step : (r t : ℕ) (again : Bool) → r ≤ 79 → t < 34 → rowAfterIn packedTable r again t ≡ stepOf r again t
+after-step : (r t : ℕ) (again : Bool) → r ≤ 79 → t < 34 → rowAfterIn writtenTable r again t ≡ stepOf r again t
 unfolding rowAfterIn stepOf
 after-step zero t again hi ht =
     tab-at 34 (λ t. cond (eqb t (tag "ST")) 1 0) (λ t. stepOf 0 again t) (checked-start again) t ht
 after-step (suc k) t again hi ht =
-    rw (after-entry packedTable (suc k) again t (omega arith) hi ht, entry-next (suc k) t (omega arith) hi ht)
+    rw (after-entry writtenTable (suc k) again t (omega arith) hi ht, entry-next (suc k) t (omega arith) hi ht)
 
 -- for a number that is no tag's the answer is 0
 no-tag : (table : List ℕ) (r : ℕ) (again : Bool) (t : ℕ) → 34 ≤ t → 0 ≡ rowAfterIn table r again t

@@ -3,7 +3,6 @@ pub mod States
 pub mod Local
 pub mod Follow
 pub mod Fit
-pub mod Places
 pub mod Table
 pub mod Unique
 pub mod Agree

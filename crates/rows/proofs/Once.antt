@@ -7,7 +7,7 @@ use Prim.Native.Nat.{ℕ}
 use Rattle.text.specs.Bytes.{Bytes}
 use Rattle.rows.specs.Tags.{tagNumber}
 use Rattle.rows.specs.RowList.{rowAt}
-use Rattle.rows.specs.PackedTable.{packedTable}
+use Rattle.rows.specs.Written.{writtenTable}
 use Rattle.rows.specs.Lookup.{RowAfter}
 use Rattle.rows.specs.declared.list.Row.{Row}
 
@@ -20,7 +20,7 @@ pub row-at-once : (number : ℕ) (r r′ : Row) → r ≡ rowAt number → r′ 
 row-at-once number r r′ p q = p ∙ sym q
 
 -- `next::next_table`
-pub next-table-once : (r r′ : List ℕ) → r ≡ packedTable → r′ ≡ packedTable → r ≡ r′
+pub next-table-once : (r r′ : List ℕ) → r ≡ writtenTable → r′ ≡ writtenTable → r ≡ r′
 next-table-once r r′ p q = p ∙ sym q
 
 -- `next::row_after`

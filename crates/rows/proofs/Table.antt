@@ -1,38 +1,58 @@
--- The next-row table against the row list: at each of the 2,686 places the entry is the one row that may follow with that tag.
+-- The next-row table against the row list: at each of the 2,686 places the entry means the one row that may follow with that tag.
 -- Assumes nothing.
 use mathlib.Core.Path.{_≡_, refl, sym, ap, subst, _∙_}
 use mathlib.Core.Bool.{false}
-use mathlib.Core.List.{List, [], _∷_, _++_, append-assoc}
-use Prim.Native.Nat.{ℕ, suc, _+_, _-_, _*_, _<_, _≤_}
+use mathlib.Core.List.{List, [], _∷_, _++_, map, append-assoc}
+use Prim.Native.Nat.{ℕ, zero, suc, _+_, _-_, _*_, _<_, _≤_}
+use native.Mathlib.Nat.{not-suc-le-zero, le-of-suc-le-suc, zero-mul, suc-mul, zero-add}
 use native.Mathlib.Omega.{arith}
-use lib.ListN.{getD, take}
-use lib.Seq.{getD-take}
+use lib.ListN.{getD, length, List·getD-append, List·getD-map}
+use lib.Seq.{getD-append-add}
 use Rattle.rows.specs.Tags.{tagNumber}
 use Rattle.rows.specs.Rows.{Viable, list842}
 use Rattle.rows.specs.RowList.{tagOf}
-use Rattle.rows.specs.Next.{edges842, after, nextOf, nextTable}
-use Rattle.rows.specs.PackedTable.{packedTable}
+use Rattle.rows.specs.Next.{edges842, after, nextOf, lineOf, gridOf, nextTable}
+use Rattle.rows.specs.Written.{meant, writtenTable}
 use Rattle.rows.specs.Following.{MayFollow, OneFollows}
 use Rattle.rows.specs.Lookup.{entryAt}
-use Rattle.rows.proofs.Places.{grid-at, unpacked, unpacked-at}
 use Rattle.rows.proofs.States.{follower-range, first-follow}
 use Rattle.rows.proofs.Follow.{follow-may, may-follow}
 use Rattle.rows.proofs.Fit.{follow-next, next-follow, viable-before, fits-range}
 
--- the packed table holds the entries of the next-row table: one computed check
-checked-packed : take 2686 (unpacked packedTable) ≡ nextTable
-unfolding packedTable nextTable nextOf after edges842 list842 tagNumber
-checked-packed = refl
+line-length : (n : ℕ) (f : ℕ → ℕ) → length (lineOf n f) ≡ n
+line-length zero f = refl
+line-length (suc n) f = ap suc (line-length n (λ k. f (suc k)))
 
--- an entry of the packed table is the computed next row
-pub entry-next : (r t : ℕ) → 1 ≤ r → r ≤ 79 → t < 34 → entryAt packedTable r t ≡ nextOf r t
+line-at : (n : ℕ) (f : ℕ → ℕ) (k : ℕ) → k < n → getD (lineOf n f) k 0 ≡ f k
+line-at zero f k h = absurd (not-suc-le-zero h)
+line-at (suc n) f zero h = refl
+line-at (suc n) f (suc k) h = line-at n (λ k. f (suc k)) k (le-of-suc-le-suc h)
+
+-- the entry of a grid at line i and place j
+pub grid-at : (n m : ℕ) (f : ℕ → ℕ → ℕ) (i j : ℕ) → i < n → j < m → getD (gridOf n m f) (i * m + j) 0 ≡ f i j
+grid-at zero m f i j hi hj = absurd (not-suc-le-zero hi)
+grid-at (suc n) m f zero j hi hj =
+    rw (zero-mul, zero-add)
+    (List·getD-append (lineOf m (f 0)) (gridOf n m (λ k. f (suc k))) 0 j (rw line-length hj) ∙ line-at m (f 0) j hj)
+grid-at (suc n) m f (suc i) j hi hj =
+    let e : suc i * m + j ≡ length (lineOf m (f 0)) + (i * m + j) = rw (line-length m (f 0), suc-mul) (omega arith) in
+    rw e
+    (getD-append-add (lineOf m (f 0)) (gridOf n m (λ k. f (suc k))) (i * m + j) 0
+    ∙ grid-at n m (λ k. f (suc k)) i j (le-of-suc-le-suc hi) hj)
+
+-- the entries of the written table mean those of the next-row table: one computed check
+checked-meant : map meant writtenTable ≡ nextTable
+unfolding writtenTable nextTable nextOf after edges842 list842 tagNumber
+checked-meant = refl
+
+-- what the written table's entry means is the computed next row
+pub entry-next : (r t : ℕ) → 1 ≤ r → r ≤ 79 → t < 34 → entryAt writtenTable r t ≡ nextOf r t
 unfolding nextTable
 entry-next r t lo hi ht =
     let k = (r - 1) * 34 + t in
     let b : suc (r - 1) ≡ r = omega arith in
-    sym (unpacked-at packedTable k)
-    ∙ sym (getD-take 2686 (unpacked packedTable) k 0 (omega arith))
-    ∙ ap (λ (l : List ℕ). getD l k 0) checked-packed
+    sym (List·getD-map meant writtenTable k 0)
+    ∙ ap (λ (l : List ℕ). getD l k 0) checked-meant
     ∙ grid-at 79 34 (λ i j. nextOf (suc i) j) (r - 1) t (omega arith) ht
     ∙ ap (λ (k : ℕ). nextOf k t) b
 
@@ -59,5 +79,5 @@ next-one r t lo hi ht = record {
 }
 
 -- the table agrees with the row list at all 2,686 places
-pub next-agrees : (r t : ℕ) → 1 ≤ r → r ≤ 79 → t < 34 → OneFollows r t (entryAt packedTable r t)
+pub next-agrees : (r t : ℕ) → 1 ≤ r → r ≤ 79 → t < 34 → OneFollows r t (entryAt writtenTable r t)
 next-agrees r t lo hi ht = subst (λ (x : ℕ). OneFollows r t x) (sym (entry-next r t lo hi ht)) (next-one r t lo hi ht)

@@ -4,6 +4,6 @@ pub mod Rows
 pub mod RowList
 pub mod Following
 pub mod Next
-pub mod PackedTable
+pub mod Written
 pub mod Lookup
 pub mod Profile

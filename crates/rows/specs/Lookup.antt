@@ -5,17 +5,18 @@ use mathlib.Core.Path.{_≡_}
 use mathlib.Core.Bool.{Bool, false, cond, _&&_}
 use mathlib.Core.List.{List}
 use lib.Dec.{eqb, leb, ltb}
+use lib.ListN.{getD}
 use Rattle.rows.specs.Tags.{tag}
 use Rattle.rows.specs.Rows.{Viable, list842}
 use Rattle.rows.specs.RowList.{maxOf}
-use Rattle.rows.specs.PackedTable.{packedTable, entryIn}
+use Rattle.rows.specs.Written.{meant, writtenTable}
 use Rattle.rows.specs.Following.{OneFits, lastOf, twice}
 
--- the entry of a lent table for a row, 1 to 79, and a tag number
+-- the row that a lent table's entry for a row, 1 to 79, and a tag number means, 0 for none
 abbrev pub entryAt : List ℕ → ℕ → ℕ → ℕ
-entryAt table r t = entryIn table ((r - 1) * 34 + t)
+entryAt table r t = meant (getD table ((r - 1) * 34 + t) 0)
 
--- the answer of a lookup in any lent table: at the start row 1 for ST; else the entry, unless it would be a third; 0 for none
+-- the answer of a lookup in any lent table: at the start row 1 for ST; else the entry's row, unless it would be a third; 0 for none
 unfoldable pub rowAfterIn : List ℕ → ℕ → Bool → ℕ → ℕ
 rowAfterIn table r again t =
     cond (eqb r 0) (cond (eqb t (tag "ST")) 1 0)
@@ -23,9 +24,9 @@ rowAfterIn table r again t =
     (cond (again && (eqb (entryAt table r t) r && eqb (maxOf r) 2)) 0 (entryAt table r t))
     0)
 
--- what a lookup promises: its answer for any table and numbers; and, where the table is the next-row table, what the answer means after
--- any viable rows that end so
+-- what a lookup promises: its answer for any table and numbers; and, where the table is the next-row table as it is written,
+-- what the answer means after any viable rows that end so
 pub record RowAfter (table : List ℕ) (r : ℕ) (again : Bool) (t x : ℕ) : Type 0 where
   pub answer : x ≡ rowAfterIn table r again t
-  pub meaning : table ≡ packedTable → (w : List ℕ) → Viable list842 w → lastOf 0 w ≡ r → twice 0 false w ≡ again
+  pub meaning : table ≡ writtenTable → (w : List ℕ) → Viable list842 w → lastOf 0 w ≡ r → twice 0 false w ≡ again
       → OneFits w t x

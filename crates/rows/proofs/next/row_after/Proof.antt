@@ -6,7 +6,7 @@ use native.Mathlib.Omega.{arith}
 use borrow.Author.Needs.{needs}
 use borrow.Author.Tests.{leb-true, leb-false}
 use Prim.Native.Nat.{_≤_, _<_}
-use Rattle.rows.proofs.After.{answer-means, start-st, start-other, row-outside, tag-outside, third-refused, other-maximum, other-row, first-time}
+use Rattle.rows.proofs.After.{answer-means, start-st, start-other, row-outside, tag-outside, no-row, third-refused, other-maximum, other-row, first-time}
 use Rattle.rows.proofs.next.row_after.Statement.{statement}
 use Rattle.rows.proofs.next.row_after.Tie as tie
 
@@ -41,48 +41,52 @@ high c = omega (arith, c .before .if3 .left)
 tag-in : (c : tie.Else4) → c .before .before .before .args .tag < 34
 tag-in c = leb-false 34 (c .before .before .before .args .tag) (c .if4 .left)
 
-sub-entry : tie.Need-sub-entry
-sub-entry c = search needs
+sub-next : tie.Need-sub-next
+sub-next c = search needs
 
-mul-entry : tie.Need-mul-entry
-mul-entry c = search needs
+mul-next : tie.Need-mul-next
+mul-next c = search needs
 
-add-entry : tie.Need-add-entry
-add-entry c = search needs
+add-next : tie.Need-add-next
+add-next c = search needs
 
-entry-requires : tie.Need-entry-requires
-entry-requires c κs = omega (arith, leb-false 34 (c .before .before .before .args .tag) (c .if4 .left))
+element-copy-out-next : tie.Need-element-copy-out-next
+element-copy-out-next c = omega (arith, leb-false 34 (c .before .before .before .args .tag) (c .if4 .left))
+
+returns-4 : tie.Need-returns-4
+returns-4 c =
+    let k = c .before .before in
+    let a = k .before .before .before .args in
+    answer-means _ _ _ _ _
+    (no-row (a .table .now) (a .row) (a .again) (a .tag) (low k) (high k) (tag-in k) (c .if5 .taken))
 
 at-most-two-requires : tie.Need-at-most-two-requires
 at-most-two-requires c κs = search needs
 
-returns-4 : tie.Need-returns-4
-returns-4 c =
-    let n = c .before .before .before .before in
-    let k = n .before in
-    let a = k .before .before .before .args in
-    answer-means _ _ _ _ _
-    (third-refused (a .table .now) (a .row) (a .again) (a .tag) (low k) (high k) (tag-in k) (n .entry .result) (n .entry .ensures)
-    (c .before .before .before .if5 .taken) (c .before .before .if6 .taken) (sym (c .before .at-most-two .ensures) ∙ c .if7 .taken))
-
 returns-5 : tie.Need-returns-5
 returns-5 c =
-    let n = c .before in
-    let k = n .before in
+    let n = c .before .before .before .before in
+    let k = n .before .before in
     let a = k .before .before .before .args in
+    answer-means _ _ _ _ _
+    (third-refused (a .table .now) (a .row) (a .again) (a .tag) (low k) (high k) (tag-in k) (n .if5 .left)
+    (c .before .before .before .if6 .taken) (c .before .before .if7 .taken) (sym (c .before .at-most-two .ensures) ∙ c .if8 .taken))
+
+returns-6 : tie.Need-returns-6
+returns-6 c =
+    let n = c .before in
+    let k = n .before .before in
+    let a = k .before .before .before .args in
+    let h = n .if5 .left in
     answer-means _ _ _ _ _
     (⊎-elim
     (λ w.
-    other-maximum (a .table .now) (a .row) (a .again) (a .tag) (low k) (high k) (tag-in k) (n .entry .result) (n .entry .ensures)
-    (w .0 .taken) (w .1 .taken) (sym (w .2 .ensures) ∙ w .3 .left))
+    other-maximum (a .table .now) (a .row) (a .again) (a .tag) (low k) (high k) (tag-in k) h (w .0 .taken) (w .1 .taken)
+    (sym (w .2 .ensures) ∙ w .3 .left))
     (⊎-elim
-    (λ w.
-    other-row (a .table .now) (a .row) (a .again) (a .tag) (low k) (high k) (tag-in k) (n .entry .result) (n .entry .ensures)
-    (w .0 .taken) (w .1 .left))
-    (λ w.
-    first-time (a .table .now) (a .row) (a .again) (a .tag) (low k) (high k) (tag-in k) (n .entry .result) (n .entry .ensures)
-    (w .left)))
-    (c .if5 .came))
+    (λ w. other-row (a .table .now) (a .row) (a .again) (a .tag) (low k) (high k) (tag-in k) h (w .0 .taken) (w .1 .left))
+    (λ w. first-time (a .table .now) (a .row) (a .again) (a .tag) (low k) (high k) (tag-in k) h (w .left)))
+    (c .if6 .came))
 
 pub row-after-spec : {M : Type 1} → statement M
 row-after-spec =
@@ -91,10 +95,11 @@ row-after-spec =
     returns
     returns-2
     returns-3
-    sub-entry
-    mul-entry
-    add-entry
-    entry-requires
-    at-most-two-requires
+    sub-next
+    mul-next
+    add-next
+    element-copy-out-next
     returns-4
-    returns-5)
+    at-most-two-requires
+    returns-5
+    returns-6)
