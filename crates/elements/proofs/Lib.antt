@@ -1,4 +1,5 @@
 pub mod Values
+pub mod Quantities
 pub mod Months
 pub mod Days
 pub mod Verdicts

@@ -6,7 +6,7 @@ ghost use lib.ListN.{length};
 ghost use Rattle.text.specs.Separators.{isDigit, isCapital};
 ghost use Rattle.elements.specs.Types.{fits};
 ghost use Rattle.elements.specs.Post.{AllHold};
-ghost use Rattle.elements.specs.declared.types.Kind.the-variants.{AN, ID, DT, TM};
+ghost use Rattle.elements.specs.declared.types.Kind.the-variants.{AN, ID, R, DT, TM};
 use crate::date;
 use crate::ruled;
 use crate::types;
@@ -55,6 +55,19 @@ fn is_short(p: &[u8], most: usize) -> bool
     ensures { λ r. ⌜ (r ≡ true → length (now (p .entry)) ≤ most) ⌝ }
 {
     p.len() <= most
+}
+
+// A quantity of digits alone, 1 to 15 of them.
+fn is_quantity(p: &[u8]) -> bool
+    ensures { λ r. ⌜ (r ≡ true → fits R 1 15 (now (p .entry)) ≡ true) ⌝ }
+{
+    if p.len() == 0 {
+        return false;
+    }
+    if 15 < p.len() {
+        return false;
+    }
+    types::is_number(p)
 }
 
 // A date with a day up to the 28th, which every month of every year has.
@@ -133,7 +146,7 @@ fn usual_n1(s: &[u8], starts: &[usize; 33], end: usize, count: usize) -> bool
     party & name & kind & code
 }
 
-// NCA with a code, and with a quantity and its unit or neither.
+// NCA with a code, and with a quantity of digits and its unit or neither.
 fn usual_nca(s: &[u8], starts: &[usize; 33], end: usize, count: usize) -> bool
     ensures { λ r. ⌜ (r ≡ true → AllHold (now (s .entry)) (now (starts .entry)) end count 32) ⌝ }
 {
@@ -153,7 +166,7 @@ fn usual_nca(s: &[u8], starts: &[usize; 33], end: usize, count: usize) -> bool
     if !(number & code & text & unit) {
         return false;
     }
-    types::fits(Kind::R, 1, 15, ruled::element(s, starts, end, count, 4))
+    is_quantity(ruled::element(s, starts, end, count, 4))
 }
 
 // HL with a parent or none, and with a mark or none.

@@ -4,6 +4,7 @@ pub mod Calling
 pub mod Names
 pub mod Seeking
 pub mod Marking
+pub mod Fourth
 pub mod Judgements
 pub mod Children
 pub mod Depth

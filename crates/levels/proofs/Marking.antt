@@ -12,9 +12,8 @@ use lib.ListN.{length, take, drop, getD, length-drop}
 use lib.Seq.{take-all}
 use borrow.Author.Tests.{eq-eqb, ne-eqb}
 use Rattle.text.specs.Bytes.{Bytes, bytes, same}
-use Rattle.text.specs.Lookup.{elementSpan, partOf}
+use Rattle.text.specs.Pieces.{pieces}
 use Rattle.text.proofs.Bools.{and-true, and-false}
-use Rattle.text.proofs.Spans.{lies}
 use Rattle.levels.specs.Profile.{nonconformance, mayBeMarked}
 use Rattle.levels.specs.Groups.{markFits}
 use Rattle.levels.specs.Told.{entryOf, startOf, lengthOf, toldLevel}
@@ -62,9 +61,7 @@ segment-part s start len from size e f =
     ap (λ (k : ℕ). take k (drop from s)) size-is ∙ take-within len (drop from s) ∙ ap (take len) rest-is
 
 -- the mark of level n is its segment's element 4
-pub mark-told : (s : Bytes) (separator : ℕ) (segments levels : List ℕ) (n number start len : ℕ) (segment mark : Bytes) → number ≡ entryOf 4 levels n 0
+pub mark-told : (s : Bytes) (separator : ℕ) (segments levels : List ℕ) (n number start len : ℕ) (segment : Bytes) → number ≡ entryOf 4 levels n 0
     → start ≡ startOf segments number → len ≡ lengthOf segments number → segment ≡ take len (drop start s)
-    → mark ≡ partOf segment (elementSpan separator segment 4) → mark ≡ toldLevel s separator segments levels n .mark
-mark-told s separator segments levels n number start len segment mark a b c d e =
-    e ∙ lies separator segment 4 .holds
-    ∙ rw (d, b, c, a)
+    → getD (pieces separator segment) 4 [] ≡ toldLevel s separator segments levels n .mark
+mark-told s separator segments levels n number start len segment a b c d = rw (d, b, c, a)

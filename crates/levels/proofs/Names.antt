@@ -1,4 +1,4 @@
--- The HL01 that bytes tell of against other bytes: when the two are the same, and what shows that they differ.
+-- The first piece of bytes, and so the HL01 that they tell of, against other bytes: when the two are the same, and what shows that they differ.
 -- Assumes nothing.
 use Prim.Native.Nat.{ℕ, suc, _+_, _-_, _≤_, _<_, min}
 use mathlib.Core.Path.{_≡_, refl, sym, ap, subst, _∙_}
@@ -88,6 +88,25 @@ module _ (separator : ℕ) (s id : Bytes) where
   agrees-when (inl e) j l = ap (λ (x : Bytes). getD x j 0) e
   agrees-when (inr b) j l = ap (λ (x : Bytes). getD x j 0) (b .1) ∙ List·getD-append id (separator ∷ b .0) 0 j l
 
+  -- every byte agrees, and the piece ends with the last: the first piece is the same
+  pub first-met : Free separator id → MayEnd separator s (length id) true → ((j : ℕ) → j < length id → getD s j 0 ≡ getD id j 0)
+      → same (firstPiece separator s) id ≡ true
+  first-met free ends agree = same-true (firstPiece separator s) id (begins-once separator s id free (begins-when ends agree))
+
+  -- where it is id, the bytes begin with id
+  begins-if : firstPiece separator s ≡ id → Begins separator s id
+  begins-if e = subst (Begins separator s) e (begins-first separator s)
+
+  -- the piece does not end there, a byte differs, or id holds a separator: the first piece is another
+  pub first-other-end : MayEnd separator s (length id) false → same (firstPiece separator s) id ≡ false
+  first-other-end ends = same-false (firstPiece separator s) id (λ e. ends-when (begins-if e) ends)
+
+  pub first-other-byte : (j : ℕ) → j < length id → (getD s j 0 ≡ getD id j 0 → ⊥) → same (firstPiece separator s) id ≡ false
+  first-other-byte j l h = same-false (firstPiece separator s) id (λ e. h (agrees-when (begins-if e) j l))
+
+  pub first-unfree : (Free separator id → ⊥) → same (firstPiece separator s) id ≡ false
+  first-unfree h = same-false (firstPiece separator s) id (λ e. h (subst (Free separator) e (first-free separator s)))
+
 -- the bytes from a place on, where the place may lie beyond the end
 pub drop-within : (n : ℕ) (s : Bytes) → drop (min n (length s)) s ≡ drop n s
 drop-within n s =
@@ -104,35 +123,24 @@ module _ (s : Bytes) (separator start from : ℕ) (id : Bytes) (place : from ≡
   rest-is = ap (λ (k : ℕ). drop k s) place ∙ drop-within (start + 3) s
 
   -- so the HL01 is the first piece from there on
-  told-is : toldId s separator start ≡ firstPiece separator (drop from s)
-  told-is = ap (firstPiece separator) (sym rest-is)
+  told-is : same (toldId s separator start) id ≡ same (firstPiece separator (drop from s)) id
+  told-is = ap (λ (x : Bytes). same (firstPiece separator x) id) (sym rest-is)
 
   -- every byte agrees, and the HL01 ends with the last: it is the same
   pub id-met : Free separator id → MayEnd separator (drop from s) (length id) true
       → ((j : ℕ) → j < length id → getD s (from + j) 0 ≡ getD id j 0) → same (toldId s separator start) id ≡ true
-  id-met free ends agree =
-      same-true (toldId s separator start) id
-      (told-is
-      ∙ begins-once separator (drop from s) id free
-      (begins-when separator (drop from s) id ends (λ j l. getD-drop from s j 0 ∙ agree j l)))
+  id-met free ends agree = told-is ∙ first-met separator (drop from s) id free ends (λ j l. getD-drop from s j 0 ∙ agree j l)
 
-  -- where it is id, those bytes begin with id
-  begins-if : toldId s separator start ≡ id → Begins separator (drop from s) id
-  begins-if e = subst (Begins separator (drop from s)) (sym told-is ∙ e) (begins-first separator (drop from s))
-
-  -- the HL01 does not end there, a byte differs, or the bytes hold a separator: it is another
+  -- the HL01 does not end there, or a byte differs: it is another
   pub id-other-end : MayEnd separator (drop from s) (length id) false → same (toldId s separator start) id ≡ false
-  id-other-end ends = same-false (toldId s separator start) id (λ e. ends-when separator (drop from s) id (begins-if e) ends)
+  id-other-end ends = told-is ∙ first-other-end separator (drop from s) id ends
 
   pub id-other-byte : (j : ℕ) → j < length id → (getD s (from + j) 0 ≡ getD id j 0 → ⊥) → same (toldId s separator start) id ≡ false
-  id-other-byte j l h =
-      same-false (toldId s separator start) id
-      (λ e. h (sym (getD-drop from s j 0) ∙ agrees-when separator (drop from s) id (begins-if e) j l))
+  id-other-byte j l h = told-is ∙ first-other-byte separator (drop from s) id j l (λ e. h (sym (getD-drop from s j 0) ∙ e))
 
 -- bytes with a separator are no HL01
 pub id-unfree : (s : Bytes) (separator start : ℕ) (id : Bytes) → (Free separator id → ⊥) → same (toldId s separator start) id ≡ false
-id-unfree s separator start id h =
-    same-false (toldId s separator start) id (λ e. h (subst (Free separator) e (first-free separator (drop (start + 3) s))))
+id-unfree s separator start id h = first-unfree separator (drop (start + 3) s) id h
 
 -- bytes that are longer than their first piece hold a separator, and others hold none
 pub free-when : (separator : ℕ) (s : Bytes) → length s ≤ length (firstPiece separator s) → Free separator s

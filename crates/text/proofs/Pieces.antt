@@ -1,12 +1,12 @@
 -- The laws of pieces: joining gives the bytes back, no piece holds the separator, and no other list of pieces has both properties.
 -- Assumes nothing.
-use Prim.Native.Nat.{ℕ, _<_}
+use Prim.Native.Nat.{ℕ, suc, _<_}
 use mathlib.Core.Path.{_≡_, refl, sym, ap, _∙_}
 use mathlib.Core.Bool.{Bool, true, false}
 use mathlib.Core.List.{List, [], _∷_, _++_, append-assoc}
 use native.Mathlib.Omega.{arith}
 use lib.Dec.{eqb}
-use lib.ListN.{length}
+use lib.ListN.{length, getD}
 use borrow.Author.Tests.{eq-eqb, ne-eqb, eqb-true, eqb-false}
 use Rattle.text.specs.Bytes.{Bytes}
 use Rattle.text.specs.Pieces.{before, pieces, joined, closed, Free, Clean}
@@ -52,6 +52,17 @@ pieces-free sep (b ∷ s) f = rw (ne-eqb b sep (f .0), pieces-free sep s (f .1))
 pub pieces-cut : (sep : ℕ) (gap rest : Bytes) → Free sep gap → pieces sep (gap ++ sep ∷ rest) ≡ gap ∷ pieces sep rest
 pieces-cut sep [] rest f = rw (eq-eqb sep sep refl)
 pieces-cut sep (b ∷ gap) rest f = rw (ne-eqb b sep (f .0), pieces-cut sep gap rest (f .1))
+
+-- one byte in front: a separator comes with a piece of its own, and any other byte changes the first piece alone
+pub piece-cut : (sep b n : ℕ) (s : Bytes) → b ≡ sep → getD (pieces sep (b ∷ s)) (suc n) [] ≡ getD (pieces sep s) n []
+piece-cut sep b n s e = rw (eq-eqb b sep e)
+
+pub piece-kept : (sep b n : ℕ) (s : Bytes) → (b ≡ sep → ⊥) → getD (pieces sep (b ∷ s)) (suc n) [] ≡ getD (pieces sep s) (suc n) []
+piece-kept sep b n s h = rw (ne-eqb b sep h) (by-pieces (pieces sep s))
+  where
+    by-pieces : (ps : List Bytes) → getD (before false b ps) (suc n) [] ≡ getD ps (suc n) []
+    by-pieces [] = refl
+    by-pieces (p ∷ ps) = refl
 
 -- pieces that are closed already come first
 pub pieces-closed : (sep : ℕ) (ps : List Bytes) (rest : Bytes) → Clean sep ps → pieces sep (closed sep ps ++ rest) ≡ ps ++ pieces sep rest

@@ -1,6 +1,6 @@
 -- `usual_nca` meets its contract: a code alone, or a code, a quantity and its unit.
 -- Assumes nothing.
-use mathlib.Core.Path.{sym, _∙_}
+use mathlib.Core.Path.{sym}
 use mathlib.Core.Bool.{_&&_, true≢false}
 use borrow.Author.Tests.{not-false}
 use Rattle.text.proofs.Tests.{and-first, and-second}
@@ -54,8 +54,8 @@ returns-4 c e = absurd (true≢false (sym e))
 element-requires-5 : tie.Need-element-requires-5
 element-requires-5 c κs = search needs
 
-fits-requires : tie.Need-fits-requires
-fits-requires c κs = search needs
+is-quantity-requires : tie.Need-is-quantity-requires
+is-quantity-requires c κs = search needs
 
 returns-5 : tie.Need-returns-5
 returns-5 c e =
@@ -71,7 +71,7 @@ returns-5 c e =
     (c .before .before .before .before .before .before .before .before .is-short-id .ensures (told .two)))
     (rw (c .before .before .before .before .before .before .element3 .ensures) at
     (c .before .before .before .before .before .is-short2 .ensures (told .three)))
-    (rw (c .before .element5 .ensures) at (sym (c .fits2 .ensures) ∙ e))
+    (rw (c .before .element5 .ensures) at (c .is-quantity .ensures e))
     (rw (c .before .before .before .before .element4 .ensures) at (c .before .before .before .is-short-id2 .ensures (told .four)))
 
 pub usual-nca-spec : {M : Type 1} → statement M
@@ -91,5 +91,5 @@ usual-nca-spec =
     is-short-id-requires-2
     returns-4
     element-requires-5
-    fits-requires
+    is-quantity-requires
     returns-5)

@@ -20,24 +20,21 @@ segment-length-requires c κs = search needs
 segment-bytes-requires : tie.Need-segment-bytes-requires
 segment-bytes-requires c κs = search needs
 
-element-requires : tie.Need-element-requires
-element-requires c κs = search needs
-
-is-mark-requires : tie.Need-is-mark-requires
-is-mark-requires c κs = search needs
+is-fourth-requires : tie.Need-is-fourth-requires
+is-fourth-requires c κs = search needs
 
 returns : tie.Need-returns
 returns c =
-    let part = c .before .before in
+    let part = c .before in
     let size = part .before in
     let place = size .before in
     let number = place .before in
     let a = number .before .before .before .before .args in
-    c .is-mark .ensures
+    c .is-fourth .ensures
     ∙ ap (λ (mark : Bytes). same mark (a .byte ∷ []))
     (mark-told (a .s .now) (a .separator) (a .segments .now) (a .levels .now) (a .n) (number .level-segment .result) (place .segment-start .result)
-    (size .segment-length .result) (part .segment-bytes .result .now) (c .before .element .result .now) (number .level-segment .ensures)
-    (place .segment-start .ensures) (size .segment-length .ensures) (part .segment-bytes .ensures) (c .before .element .ensures .content))
+    (size .segment-length .result) (part .segment-bytes .result .now) (number .level-segment .ensures) (place .segment-start .ensures)
+    (size .segment-length .ensures) (part .segment-bytes .ensures))
 
 pub level-marked-spec : {M : Type 1} → statement M
 level-marked-spec =
@@ -47,6 +44,5 @@ level-marked-spec =
     segment-start-requires
     segment-length-requires
     segment-bytes-requires
-    element-requires
-    is-mark-requires
+    is-fourth-requires
     returns)
