@@ -55,7 +55,7 @@ fn proved(input: &[u8], tables: &mut Tables) -> [u64; 4] {
 
 /// The hand-written reader.
 fn by_hand(input: &[u8], tables: &mut Tables) -> [u64; 4] {
-    read(input, Separators::STANDARD, &mut tables.segments, &mut tables.levels).numbers()
+    read(input, black_box(Separators::STANDARD), &mut tables.segments, &mut tables.levels).numbers()
 }
 
 /// The best time of a byte so far, in nanoseconds.
@@ -87,32 +87,52 @@ fn agree(input: &Input) -> [u64; 4] {
     answer
 }
 
-/// Times both on one input and prints a line.
-fn compare(input: &Input, rounds: usize) {
-    let [_, segments, levels, bytes] = agree(input);
-    let mut tables = Tables::new();
-    let (mut mine, mut theirs) = (Best(f64::MAX), Best(f64::MAX));
-    for _ in 0..rounds {
-        mine.measure(&input.bytes, &mut tables, proved);
-        theirs.measure(&input.bytes, &mut tables, by_hand);
+/// An input with the best times of both readers.
+struct Contest {
+    input: Input,
+    mine: Best,
+    theirs: Best,
+}
+
+impl Contest {
+    fn new(input: Input) -> Contest {
+        Contest { input, mine: Best(f64::MAX), theirs: Best(f64::MAX) }
     }
-    println!(
-        "{:<30} {bytes:>8} {segments:>8} {levels:>7} {:>8.0} {:>8.0} {:>6.2}",
-        input.name,
-        mine.megabytes_a_second(),
-        theirs.megabytes_a_second(),
-        mine.megabytes_a_second() / theirs.megabytes_a_second(),
-    );
+
+    /// Times both once.
+    fn round(&mut self, tables: &mut Tables) {
+        self.mine.measure(&self.input.bytes, tables, proved);
+        self.theirs.measure(&self.input.bytes, tables, by_hand);
+    }
+
+    /// A line of the table.
+    fn print(&self, [_, segments, levels, bytes]: [u64; 4]) {
+        let (mine, theirs) = (self.mine.megabytes_a_second(), self.theirs.megabytes_a_second());
+        println!(
+            "{:<30} {bytes:>8} {segments:>8} {levels:>7} {mine:>8.0} {theirs:>8.0} {:>6.2}",
+            self.input.name,
+            mine / theirs,
+        );
+    }
 }
 
 fn main() {
     let rounds = std::env::args().nth(1).map_or(ROUNDS, |word| word.parse().expect("a number of rounds"));
+    let mut contests: Vec<Contest> = inputs::inputs().into_iter().map(Contest::new).collect();
+    let answers: Vec<[u64; 4]> = contests.iter().map(|contest| agree(&contest.input)).collect();
+    let mut tables = Tables::new();
+    // The inputs take turns, so that a slow spell of the machine falls on none of them alone.
+    for _ in 0..rounds {
+        for contest in &mut contests {
+            contest.round(&mut tables);
+        }
+    }
     println!("best of {rounds} rounds, MB a second");
     println!(
         "{:<30} {:>8} {:>8} {:>7} {:>8} {:>8} {:>6}",
         "input", "bytes", "segments", "levels", "proved", "by hand", "ratio"
     );
-    for input in inputs::inputs() {
-        compare(&input, rounds);
+    for (contest, answer) in contests.iter().zip(answers) {
+        contest.print(answer);
     }
 }
