@@ -138,6 +138,24 @@ module _ (s : Bytes) (separator start from : ℕ) (id : Bytes) (place : from ≡
   pub id-other-byte : (j : ℕ) → j < length id → (getD s (from + j) 0 ≡ getD id j 0 → ⊥) → same (toldId s separator start) id ≡ false
   id-other-byte j l h = told-is ∙ first-other-byte separator (drop from s) id j l (λ e. h (sym (getD-drop from s j 0) ∙ e))
 
+-- two bytes may show that the HL01 is another
+module _ (s : Bytes) (separator start : ℕ) (id : Bytes) (room : start + 3 + length id < length s) where
+  begins-there : start + 3 ≡ min (start + 3) (length s)
+  begins-there = omega arith
+
+  -- no separator behind as many bytes
+  pub id-goes-on : (getD s (start + 3 + length id) 0 ≡ separator → ⊥) → same (toldId s separator start) id ≡ false
+  id-goes-on h =
+      id-other-end s separator start (start + 3) id begins-there
+      (inr (rw (length-drop (start + 3) s) (omega arith), λ q. h (sym (getD-drop (start + 3) s (length id) 0) ∙ q)))
+
+  -- another last byte
+  pub id-ends-otherwise : 0 < length id → (getD s (start + 3 + length id - 1) 0 ≡ getD id (length id - 1) 0 → ⊥)
+      → same (toldId s separator start) id ≡ false
+  id-ends-otherwise l h =
+      let same-place : start + 3 + length id - 1 ≡ start + 3 + (length id - 1) = omega arith in
+      id-other-byte s separator start (start + 3) id begins-there (length id - 1) (omega arith) (λ e. h (ap (λ (k : ℕ). getD s k 0) same-place ∙ e))
+
 -- bytes with a separator are no HL01
 pub id-unfree : (s : Bytes) (separator start : ℕ) (id : Bytes) → (Free separator id → ⊥) → same (toldId s separator start) id ≡ false
 id-unfree s separator start id h = first-unfree separator (drop (start + 3) s) id h

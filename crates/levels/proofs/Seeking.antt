@@ -72,6 +72,11 @@ module _ (s : Bytes) (separator : ℕ) (segments levels : List ℕ) where
       let all = min count (length levels / 4) in
       sym (told-at all n (omega arith) (omega (arith, e, called-below id (upTo all), told-length all)))
 
+-- level n's segment starts there, and the HL01 there is another
+pub other-told : (s : Bytes) (separator : ℕ) (segments levels : List ℕ) (n number start : ℕ) (id : Bytes) → number ≡ entryOf 4 levels n 0
+    → start ≡ startOf segments number → same (toldId s separator start) id ≡ false → same (toldLevel s separator segments levels n .id) id ≡ false
+other-told s separator segments levels n number start id a b e = rw (b, a) at e
+
 -- The search: the levels above `left` have other HL01s.
 pub record Seeks (s : Bytes) (separator : ℕ) (segments levels : List ℕ) (count : ℕ) (id : Bytes) (left : ℕ) : Type 0 where
   pub free : Free separator id
@@ -113,7 +118,7 @@ module _ {s : Bytes} {separator : ℕ} {segments levels : List ℕ} {count : ℕ
       sym (k .still ∙ ap (λ (n : ℕ). called id (toldUpTo s separator segments levels n)) none)
 
   -- level n has another HL01
-  seeks-past : {n : ℕ} → Seeks s separator segments levels count id n → 0 < n
+  pub seeks-past : {n : ℕ} → Seeks s separator segments levels count id n → 0 < n
       → same (toldId s separator (startOf segments (entryOf 4 levels n 0))) id ≡ false → Seeks s separator segments levels count id (n - 1)
   seeks-past {n} k some e = record { free = k .free; still = k .still ∙ called-miss s separator segments levels id n some e }
 

@@ -1,7 +1,7 @@
 -- What entitles a level to its parent: the rules behind answers 12, 13, 14 and 15, in document 01's order.
 -- Assumes nothing.
 use Prim.Native.Nat.{suc}
-use mathlib.Core.Bool.{Bool, true, false, not, _&&_, _||_}
+use mathlib.Core.Bool.{Bool, true, not, _&&_, _||_}
 use mathlib.Core.List.{List, [], _∷_}
 use lib.Dec.{leb, eqb}
 use lib.ListN.{length}

@@ -2,10 +2,12 @@
 use crate::tables;
 use text::lookup;
 ghost use mathlib.Core.Path.{_≡_};
+ghost use mathlib.Core.Bool.{true, false};
 ghost use Prim.Native.Nat.{_+_, _≤_, min};
 ghost use lib.ListN.{length, drop};
+ghost use Rattle.text.specs.Bytes.{same};
 ghost use Rattle.levels.specs.Levels.{called};
-ghost use Rattle.levels.specs.Told.{entryOf, startOf, told};
+ghost use Rattle.levels.specs.Told.{entryOf, startOf, toldLevel, told};
 ghost use Rattle.levels.specs.Post.{MayEnd};
 
 // Where the HL01 of level n begins: behind `HL` and a separator, or where the bytes end.
@@ -37,6 +39,31 @@ pub(crate) fn may_end(s: &[u8], separator: u8, from: usize, len: usize) -> bool
     s[from + len] == separator
 }
 
+// Whether two bytes show that level n has another HL01: no separator behind as many bytes, or another last one. Most names differ so.
+fn is_other(s: &[u8], separator: u8, segments: &[u64], levels: &[u64], n: usize, id: &[u8]) -> bool
+    ensures { λ r. ⌜ (r ≡ true → same (toldLevel (now (s .entry)) separator (now (segments .entry)) (now (levels .entry)) n .id) (now (id .entry)) ≡ false) ⌝ }
+{
+    let start = tables::segment_start(segments, tables::level_segment(levels, n));
+    let len = id.len();
+    if s.len() < 3 {
+        return false;
+    }
+    if s.len() - 3 < len {
+        return false;
+    }
+    if s.len() - 3 - len <= start {
+        return false;
+    }
+    let end = start + 3 + len;
+    if s[end] != separator {
+        return true;
+    }
+    if len == 0 {
+        return false;
+    }
+    s[end - 1] != id[len - 1]
+}
+
 // The number of the latest level that has the HL01; 0 where none has.
 pub fn find_level(
     s: &[u8],
@@ -56,6 +83,9 @@ pub fn find_level(
     'levels: while 0 < left {
         let n = left;
         left -= 1;
+        if is_other(s, separator, segments, levels, n, id) {
+            continue 'levels;
+        }
         let from = id_start(s, segments, levels, n);
         if !may_end(s, separator, from, id.len()) {
             continue 'levels;

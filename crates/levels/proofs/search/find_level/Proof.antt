@@ -4,7 +4,7 @@ use Prim.Native.Nat.{_-_}
 use native.Mathlib.Omega.{arith}
 use lib.ListN.{length}
 use borrow.Author.Tests.{not-true, not-false}
-use Rattle.levels.proofs.Seeking.{Seeks, Compares, sought-unfree, seeks-all, sought-nowhere, seeks-other-end, compares-none, compares-inside, compares-more, seeks-other-byte, sought-met}
+use Rattle.levels.proofs.Seeking.{Seeks, Compares, sought-unfree, seeks-all, sought-nowhere, seeks-past, seeks-other-end, compares-none, compares-inside, compares-more, seeks-other-byte, sought-met}
 use borrow.Author.Needs.{needs}
 use Rattle.levels.proofs.search.find_level.Statement.{statement}
 use Rattle.levels.proofs.search.find_level.Tie as tie
@@ -43,39 +43,48 @@ levels-holds c =
 sub-left : tie.Need-sub-left Inv-loop μ-loop Inv-levels μ-levels
 sub-left c = search needs
 
+is-other-requires : tie.Need-is-other-requires Inv-loop μ-loop Inv-levels μ-levels
+is-other-requires c κs = search needs
+
+levels-less : tie.Need-levels-less Inv-loop μ-loop Inv-levels μ-levels
+levels-less c = omega arith
+
+levels-again : tie.Need-levels-again Inv-loop μ-loop Inv-levels μ-levels
+levels-again c = seeks-past (c .before .before .before .levels .inv) (c .before .before .levels-test .taken) (c .before .is-other .ensures (c .if2 .taken))
+
 id-start-requires : tie.Need-id-start-requires Inv-loop μ-loop Inv-levels μ-levels
 id-start-requires c κs = search needs
 
 may-end-requires : tie.Need-may-end-requires Inv-loop μ-loop Inv-levels μ-levels
 may-end-requires c κs = omega (arith, c .id-start .ensures)
 
-levels-less : tie.Need-levels-less Inv-loop μ-loop Inv-levels μ-levels
-levels-less c = omega arith
-
-levels-again : tie.Need-levels-again Inv-loop μ-loop Inv-levels μ-levels
-levels-again c =
-    seeks-other-end (c .before .before .before .before .levels .inv) (c .before .before .before .levels-test .taken) (c .before .before .id-start .ensures)
-    (rw (not-true (c .before .may-end .result) (c .if2 .taken)) at (c .before .may-end .ensures))
-
-loop-holds : tie.Need-loop-holds Inv-loop μ-loop Inv-levels μ-levels
-loop-holds c =
-    compares-none (c .before .before .before .before .levels .inv) (c .before .before .before .levels-test .taken) (c .before .before .id-start .ensures)
-    (rw (not-false (c .before .may-end .result) (c .if2 .left)) at (c .before .may-end .ensures))
-
-add-if3 : tie.Need-add-if3 Inv-loop μ-loop Inv-levels μ-levels
-add-if3 c = omega (arith, compares-inside (c .before .loop .inv) (c .loop-test .taken))
-
-shared-slice-read-if3 : tie.Need-shared-slice-read-if3 Inv-loop μ-loop Inv-levels μ-levels
-shared-slice-read-if3 c = compares-inside (c .before .before .loop .inv) (c .before .loop-test .taken)
-
-shared-slice-read-if3-2 : tie.Need-shared-slice-read-if3-2 Inv-loop μ-loop Inv-levels μ-levels
-shared-slice-read-if3-2 c = search needs
-
 levels-less-2 : tie.Need-levels-less-2 Inv-loop μ-loop Inv-levels μ-levels
 levels-less-2 c = omega arith
 
 levels-again-2 : tie.Need-levels-again-2 Inv-loop μ-loop Inv-levels μ-levels
-levels-again-2 c = seeks-other-byte (c .before .before .before .before .loop .inv) (c .before .before .before .loop-test .taken) (c .if3 .taken)
+levels-again-2 c =
+    seeks-other-end (c .before .before .before .before .before .before .levels .inv) (c .before .before .before .before .before .levels-test .taken) (c .before .before .id-start .ensures)
+    (rw (not-true (c .before .may-end .result) (c .if3 .taken)) at (c .before .may-end .ensures))
+
+loop-holds : tie.Need-loop-holds Inv-loop μ-loop Inv-levels μ-levels
+loop-holds c =
+    compares-none (c .before .before .before .before .before .before .levels .inv) (c .before .before .before .before .before .levels-test .taken) (c .before .before .id-start .ensures)
+    (rw (not-false (c .before .may-end .result) (c .if3 .left)) at (c .before .may-end .ensures))
+
+add-if4 : tie.Need-add-if4 Inv-loop μ-loop Inv-levels μ-levels
+add-if4 c = omega (arith, compares-inside (c .before .loop .inv) (c .loop-test .taken))
+
+shared-slice-read-if4 : tie.Need-shared-slice-read-if4 Inv-loop μ-loop Inv-levels μ-levels
+shared-slice-read-if4 c = compares-inside (c .before .before .loop .inv) (c .before .loop-test .taken)
+
+shared-slice-read-if4-2 : tie.Need-shared-slice-read-if4-2 Inv-loop μ-loop Inv-levels μ-levels
+shared-slice-read-if4-2 c = search needs
+
+levels-less-3 : tie.Need-levels-less-3 Inv-loop μ-loop Inv-levels μ-levels
+levels-less-3 c = omega arith
+
+levels-again-3 : tie.Need-levels-again-3 Inv-loop μ-loop Inv-levels μ-levels
+levels-again-3 c = seeks-other-byte (c .before .before .before .before .loop .inv) (c .before .before .before .loop-test .taken) (c .if4 .taken)
 
 add-i : tie.Need-add-i Inv-loop μ-loop Inv-levels μ-levels
 add-i c = search needs
@@ -84,7 +93,7 @@ loop-less : tie.Need-loop-less Inv-loop μ-loop Inv-levels μ-levels
 loop-less c = search needs
 
 loop-again : tie.Need-loop-again Inv-loop μ-loop Inv-levels μ-levels
-loop-again c = compares-more (c .before .before .before .before .loop .inv) (c .if3 .left)
+loop-again c = compares-more (c .before .before .before .before .loop .inv) (c .if4 .left)
 
 returns-2 : tie.Need-returns-2 Inv-loop μ-loop Inv-levels μ-levels
 returns-2 c = sought-met (c .before .loop .inv) (c .loop-test .left)
@@ -105,16 +114,19 @@ find-level-spec =
     level-count-requires
     levels-holds
     sub-left
-    id-start-requires
-    may-end-requires
+    is-other-requires
     levels-less
     levels-again
-    loop-holds
-    add-if3
-    shared-slice-read-if3
-    shared-slice-read-if3-2
+    id-start-requires
+    may-end-requires
     levels-less-2
     levels-again-2
+    loop-holds
+    add-if4
+    shared-slice-read-if4
+    shared-slice-read-if4-2
+    levels-less-3
+    levels-again-3
     add-i
     loop-less
     loop-again
