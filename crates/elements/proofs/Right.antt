@@ -15,11 +15,11 @@ use borrow.Author.Tests.{lt-ltb, le-ltb, lt-leb, le-leb}
 use Rattle.text.specs.Bytes.{Bytes}
 use Rattle.text.specs.Pieces.{pieces, joined, closed, Free, Clean}
 use Rattle.text.specs.View.{View, viewOf, elementOf, elementCount}
-use Rattle.text.specs.Lookup.{span, pieceSpan}
+use Rattle.text.specs.Lookup.{pieceSpan}
 use Rattle.text.specs.declared.separators.Separators.{Separators}
 use Rattle.text.specs.declared.lookup.Span.{Span}
 use Rattle.text.proofs.Pieces.{pieces-some, joined-pieces, pieces-free, closed-snoc}
-use Rattle.text.proofs.Spans.{lies}
+use Rattle.text.proofs.Spans.{lies, span-there}
 use Rattle.text.proofs.View.{free-pieces}
 use Rattle.elements.specs.Checks.{firstBroken}
 use Rattle.elements.specs.Data.{nonconformance}
@@ -29,12 +29,6 @@ use Rattle.elements.specs.Noted.{partBetween, notedPiece, notedComponent
 use Rattle.elements.proofs.Noting.{part-inside, noted-count, noted-element, noted-at}
 use Rattle.elements.proofs.Deciding.{at-past}
 use Rattle.elements.proofs.Agreement.{ruled-agree}
-
--- where a piece starts and how long it is
-span-of : (sep : ℕ) (s : Bytes) (n : ℕ) → n < length (pieces sep s)
-    → pieceSpan sep s n ≡ span (length (closed sep (take n (pieces sep s)))) (length (getD (pieces sep s) n []))
-unfolding pieceSpan
-span-of sep s n h = rw (lt-ltb n (length (pieces sep s)) h)
 
 -- one piece more, with its separator
 start-more : (sep : ℕ) (ps : List Bytes) (n : ℕ) → n < length ps
@@ -51,11 +45,11 @@ closed-joined sep (p ∷ (q ∷ ps)) l =
 module _ (sep : ℕ) (s : Bytes) (n : ℕ) (h : n < length (pieces sep s)) where
   -- the next piece starts behind the separator; the last ends at the end
   next-start : suc n < length (pieces sep s) → pieceSpan sep s (suc n) .start ≡ pieceSpan sep s n .start + pieceSpan sep s n .len + 1
-  next-start u = rw (span-of sep s n h, span-of sep s (suc n) u) (start-more sep (pieces sep s) n h)
+  next-start u = rw (span-there sep s n h, span-there sep s (suc n) u) (start-more sep (pieces sep s) n h)
 
   last-end : suc n ≡ length (pieces sep s) → pieceSpan sep s n .start + pieceSpan sep s n .len ≡ length s
   last-end e =
-      rw (span-of sep s n h)
+      rw (span-there sep s n h)
       (omega (
         arith,
         start-more sep (pieces sep s) n h,

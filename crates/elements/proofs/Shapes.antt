@@ -10,7 +10,6 @@ use Rattle.text.specs.Bytes.{Bytes}
 use Rattle.elements.specs.Types.{fits}
 use Rattle.elements.specs.Data.{may, rulesST, rulesN1, rulesDTM, rulesHL, rulesNTE, rulesNCA, rulesSE}
 use Rattle.elements.specs.Post.{units, notedElement, isThere, AllHold}
-use Rattle.elements.specs.declared.types.Kind.{Kind}
 use Rattle.elements.specs.declared.types.Kind.the-variants.{AN, ID, Set842, N0, R, DT, TM}
 use Rattle.elements.proofs.Ruling.{rules-ST, rules-N1, rules-DTM, rules-HL, rules-NTE, rules-NCA, rules-SE}
 use Rattle.elements.proofs.Deciding.{there-past}

@@ -125,7 +125,7 @@ module _ {s : Bytes} {i points : ℕ} (r : Reals s i points) where
       rw (all, ← counted-all (r .pointed) l)
 
 -- the number that digits write: one digit more, and how large it is
-value-snoc : (n : ℕ) (s : Bytes) (b : ℕ) → valueFrom n (s ++ (b ∷ [])) ≡ valueFrom n s * 10 + (b - 48)
+pub value-snoc : (n : ℕ) (s : Bytes) (b : ℕ) → valueFrom n (s ++ (b ∷ [])) ≡ valueFrom n s * 10 + (b - 48)
 value-snoc n [] b = refl
 value-snoc n (a ∷ s) b = value-snoc (n * 10 + (a - 48)) s b
 

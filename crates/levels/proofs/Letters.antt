@@ -4,25 +4,12 @@ use Prim.Native.Nat.{ℕ}
 use mathlib.Core.Path.{_≡_, refl, sym}
 use mathlib.Core.Bool.{Bool, true, false, cond, _&&_, _||_}
 use mathlib.Core.List.{[], _∷_}
-use native.Mathlib.Omega.{arith}
 use lib.Dec.{eqb}
-use lib.ListN.{length, getD}
+use lib.ListN.{length}
 use borrow.Author.Tests.{ne-eqb}
 use Rattle.text.specs.Bytes.{Bytes}
 use Rattle.text.proofs.Bools.{or-assoc, or-false, and-true, eqb-swap, and-false}
 use Rattle.levels.specs.Profile.{nonconformance, codeOf, mayStandAlone, mayBeMarked, mayHang}
-
--- bytes of length 1 and 2
-pub one-byte : (s : Bytes) → length s ≡ 1 → s ≡ getD s 0 0 ∷ []
-one-byte [] e = absurd (omega arith)
-one-byte (a ∷ []) e = refl
-one-byte (a ∷ (b ∷ s)) e = absurd (omega arith)
-
-pub two-bytes : (s : Bytes) → length s ≡ 2 → s ≡ getD s 0 0 ∷ getD s 1 0 ∷ []
-two-bytes [] e = absurd (omega arith)
-two-bytes (a ∷ []) e = absurd (omega arith)
-two-bytes (a ∷ (b ∷ [])) e = refl
-two-bytes (a ∷ (b ∷ (d ∷ s))) e = absurd (omega arith)
 
 -- the codes of one letter are I and F
 pub code-item : (a : ℕ) → a ≡ 73 → 2 ≡ codeOf nonconformance (a ∷ [])

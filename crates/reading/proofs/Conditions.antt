@@ -37,10 +37,6 @@ module _ (how : How) (s : Bytes) (fit : T (fitSeparators (how .separators))) (sh
   unfolding ReadsBy
   reads-read x = rw (passes (fitSeparators (how .separators)) fit, le-leb (length s) limit short) at x
 
-  pub read-reads : Read nonconformance how s before r after → Reads how s before r after
-  unfolding ReadsBy
-  read-reads x = rw (passes (fitSeparators (how .separators)) fit, le-leb (length s) limit short) x
-
 -- an answer other than 1 and 2 comes of a reading, with fit separators and a length within the limit
 pub record Proper (how : How) (s : Bytes) (before : Tables) (r : Answer) (after : Tables) : Type 0 where
   pub fit : T (fitSeparators (how .separators))

@@ -32,7 +32,7 @@ use Rattle.levels.specs.Rules.{levelChecks, filled}
 use Rattle.reading.specs.Profile.{nonconformance}
 use Rattle.reading.specs.Segments.{tagIn, isSE, onto, opening}
 use Rattle.reading.specs.Rules.{Kept, From}
-use Rattle.reading.proofs.Laws.{from-append, MeetsFrom}
+use Rattle.reading.proofs.Laws.{from-append, MeetsFrom, opening-onto, onto-length}
 use Rattle.reading.proofs.Fresh.{numeral}
 use Rattle.reading.proofs.Made.{levels, ruling, Text, line, plain-text, writes, hlView, seView, hl-writable, se-writable, hl-kept, se-kept}
 use Rattle.reading.proofs.Made.{hl-tag, se-tag, Plain, plain-st}
@@ -246,16 +246,6 @@ last-not-se (x ∷ w) h [] r e f n = absurd (nil≢cons (sym e))
 last-not-se (x ∷ w) h (v ∷ vs) r e f n =
     last-not-se w (v ∷ h) vs x (tail-eq-of-cons-eq e) (f .1)
     (λ z. apart (tagIn v) (tag "SE") (f .0) (sym (head-eq-of-cons-eq e) ∙ ap tagOf z ∙ tag-79))
-
--- the first segment stays the first
-opening-onto : (v : View) (h vs : List View) → opening (onto (v ∷ h) vs) ≡ opening (v ∷ h)
-opening-onto v h [] = refl
-opening-onto v h (u ∷ vs) = opening-onto u (v ∷ h) vs
-
--- how many segments they are
-onto-length : (h vs : List View) → length (onto h vs) ≡ length h + length vs
-onto-length h [] = omega arith
-onto-length h (v ∷ vs) = omega (arith, onto-length (v ∷ h) vs)
 
 -- segments that keep their rules, without an SE, have an ending
 ends-onto : (q : Separators) → Fitted q → (vs : List View) (w : List ℕ) → Viable list842 w → map tagOf w ≡ map tagIn vs

@@ -2,11 +2,9 @@
 -- Assumes nothing.
 use Prim.Native.Nat.{ℕ, zero, suc, _+_, _≤_, _<_}
 use mathlib.Core.Path.{_≡_, refl, sym, ap, _∙_}
-use mathlib.Core.Logic.{by-cases}
 use mathlib.Core.Bool.{Bool, true, false, _&&_, _||_}
 use mathlib.Core.List.{List, [], _∷_, _++_, map}
 use native.Mathlib.Omega.{arith}
-use native.Mathlib.Decide.{decLt}
 use lib.Dec.{T, eqb}
 use lib.ListN.{length, getD}
 use Rattle.text.specs.Bytes.{Bytes, every}
@@ -21,19 +19,12 @@ use Rattle.elements.specs.Checks.{each, Keeps}
 use Rattle.elements.specs.Rules.{dataPiece, byteChecks}
 use Rattle.reading.proofs.CutMarks.{belongs}
 use Rattle.reading.proofs.CutQueue.{All}
+use Rattle.reading.proofs.Laws.{keeps-at}
 
 -- the same test of n elements holds if it holds at each
 pub keeps-of : (number a n : ℕ) (test : ℕ → Bool) → ((k : ℕ) → a ≤ k → k < a + n → T (test k)) → Keeps (each number a n test)
 keeps-of number a zero test f = tt
 keeps-of number a (suc n) test f = (f a (omega arith) (omega arith), keeps-of number (suc a) n test (λ k l u. f k (omega arith) (omega arith)))
-
--- and only then
-pub keeps-at : (number a n : ℕ) (test : ℕ → Bool) → Keeps (each number a n test) → (k : ℕ) → a ≤ k → k < a + n → T (test k)
-keeps-at number a zero test h k l u = absurd (omega arith)
-keeps-at number a (suc n) test h k l u =
-    by-cases (decLt a k)
-    (λ w. keeps-at number (suc a) n test (h .1) k (omega arith) (omega arith))
-    (λ w. let z : a ≡ k = omega arith in rw z at (h .0))
 
 -- a test passes at every one of a list if it does at each place
 pub every-of : {A : Type 0} (f : A → Bool) (l : List A) (d : A) → ((k : ℕ) → k < length l → T (f (getD l k d))) → T (every f l)

@@ -17,15 +17,11 @@ use Rattle.text.specs.Pieces.{Free, before, pieces}
 use Rattle.text.specs.View.{present, elementCount}
 use Rattle.text.proofs.Everys.{every-at}
 use Rattle.text.proofs.Bools.{both, first-of, second-of, or-left, or-right, or-false, and-true}
-use Rattle.text.proofs.Pieces.{pieces-some}
 use Rattle.elements.specs.Checks.{each, Keeps}
 use Rattle.elements.specs.Rules.{lastFilled, endsWell, endChecks}
-use Rattle.reading.proofs.CutBytes.{keeps-of, keeps-at, every-of, every-snoc}
-
--- there is a byte
-abbrev pub filled : Bytes → Bool
-filled [] = false
-filled (b ∷ s) = true
+use Rattle.elements.proofs.Presence.{some as filled, present-pieces}
+use Rattle.reading.proofs.CutBytes.{keeps-of, every-of, every-snoc}
+use Rattle.reading.proofs.Laws.{keeps-at}
 
 -- the last byte is the component separator
 abbrev pub endsIn : ℕ → Bytes → Bool
@@ -54,17 +50,6 @@ pub ends-gap : (c : ℕ) (s : Bytes) (b : ℕ) (gap : Bytes) → Free c (b ∷ g
 ends-gap c [] b gap f = ends-free c (b ∷ gap) f
 ends-gap c (x ∷ []) b gap f = ends-free c (b ∷ gap) f
 ends-gap c (x ∷ (y ∷ s)) b gap f = ends-gap c (y ∷ s) b gap f
-
--- one byte in front makes an element present
-present-before : (t : Bool) (b : ℕ) (ps : List Bytes) → 0 < length ps → present (before t b ps) ≡ true
-present-before t b [] h = absurd (omega arith)
-present-before true b (p ∷ ps) h = refl
-present-before false b (p ∷ ps) h = refl
-
--- an element is present exactly if it has a byte
-present-pieces : (c : ℕ) (s : Bytes) → present (pieces c s) ≡ filled s
-present-pieces c [] = refl
-present-pieces c (b ∷ s) = present-before (eqb b c) b (pieces c s) (pieces-some c s)
 
 -- one byte in front leaves the last component as it is
 last-before : (t : Bool) (b : ℕ) (ps : List Bytes) → T (present ps) → lastFilled (before t b ps) ≡ lastFilled ps

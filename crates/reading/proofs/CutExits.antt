@@ -18,14 +18,16 @@ use Rattle.text.specs.Post.{Meets}
 use Rattle.text.specs.declared.separators.Separators.{Separators}
 use Rattle.text.proofs.Bools.{both, first-of, second-of, apart}
 use Rattle.text.proofs.Pieces.{pieces-free, pieces-closed}
+use Rattle.text.proofs.View.{free-append}
+use Rattle.elements.proofs.Presence.{some as filled}
 use Rattle.reading.specs.Cutting.{BadSegment, GoodSegment, Cuts, Stops}
 use Rattle.reading.specs.declared.cutting.Next.{Next}
 use Rattle.reading.specs.declared.cutting.Next.the-variants.{Open, Bad, Segment}
 use Rattle.reading.proofs.CutMarks.{belongs, Allowed, refused}
 use Rattle.reading.proofs.CutQueue.{All, left-none, used-up}
 use Rattle.reading.proofs.CutBytes.{every-middle, all-every, data-kept, data-told}
-use Rattle.reading.proofs.CutEnds.{filled, Ended, ends-kept, ends-told}
-use Rattle.reading.proofs.CutWalk.{all-append, free-append, Walk, data-good, good-free, place, next, inside, piece}
+use Rattle.reading.proofs.CutEnds.{Ended, ends-kept, ends-told}
+use Rattle.reading.proofs.CutWalk.{all-append, Walk, data-good, good-free, place, next, inside, piece}
 use Rattle.reading.proofs.CutWalk.{piece-place, piece-whole, piece-free, piece-good, piece-alone, piece-well, next-ready, byte-there}
 
 -- bytes that begin with this one

@@ -16,6 +16,7 @@ use Rattle.text.specs.Bytes.{Bytes, every}
 use Rattle.text.specs.Pieces.{Free, Clean, closed}
 use Rattle.text.specs.declared.separators.Separators.{Separators}
 use Rattle.text.proofs.Pieces.{closed-snoc, clean-snoc, free-snoc}
+use Rattle.text.proofs.View.{free-append}
 use Rattle.reading.specs.Marks.{Table}
 use Rattle.reading.specs.Queue.{Indexed, left, Ready}
 use Rattle.reading.specs.Cutting.{Apart}
@@ -27,11 +28,6 @@ use Rattle.reading.proofs.CutEnds.{endsIn, well, ends-snoc, ends-gap, e
 pub all-append : (P : ℕ → Type 0) (x y : Bytes) → All P x → All P y → All P (x ++ y)
 all-append P [] y u v = v
 all-append P (b ∷ x) y u v = (u .0, all-append P x y (u .1) v)
-
--- and so does being free of a byte
-pub free-append : (sep : ℕ) (x y : Bytes) → Free sep x → Free sep y → Free sep (x ++ y)
-free-append sep [] y u v = v
-free-append sep (b ∷ x) y u v = (u .0, free-append sep x y (u .1) v)
 
 -- one property follows from another
 all-map : (P Q : ℕ → Type 0) (x : Bytes) → ((b : ℕ) → P b → Q b) → All P x → All Q x

@@ -13,7 +13,8 @@ use Rattle.text.specs.Bytes.{Bytes, every, same}
 use Rattle.text.specs.Separators.{isDigit}
 use Rattle.text.proofs.Bools.{both, first-of, second-of}
 use Rattle.text.proofs.Everys.{every-append}
-use Rattle.elements.specs.Types.{valueFrom, valueOf}
+use Rattle.elements.specs.Types.{valueOf}
+use Rattle.elements.proofs.Values.{value-snoc}
 
 -- 1 where the test passes
 abbrev one : Bool → ℕ
@@ -128,11 +129,6 @@ abbrev pub tens : ℕ → ℕ
 tens zero = 1
 tens (suc k) = tens k * 10
 
--- one digit more behind
-value-snoc : (s : Bytes) (n d : ℕ) → valueFrom n (s ++ (d ∷ [])) ≡ valueFrom n s * 10 + (d - 48)
-value-snoc [] n d = refl
-value-snoc (b ∷ s) n d = value-snoc s (n * 10 + (b - 48)) d
-
 -- the number in k digits
 pub record Numeral (k n : ℕ) : Type 0 where
   pub text : Bytes
@@ -154,5 +150,5 @@ numeral (suc k) n h =
       text = i .text ++ (last ∷ []);
       long = rw (length-append, i .long) (omega arith);
       digits = every-append isDigit (i .text) (last ∷ []) (i .digits) (both (isDigit last) true (is-digit (n % 10) (omega arith)) tt);
-      worth = rw (value-snoc (i .text) 0 last, i .worth) (omega arith);
+      worth = rw (value-snoc 0 (i .text) last, i .worth) (omega arith);
     }

@@ -26,8 +26,8 @@ use Rattle.levels.proofs.Telling.{Written}
 use Rattle.reading.specs.Profile.{nonconformance}
 use Rattle.reading.specs.Segments.{tagIn, onto, claims, levelsIn}
 use Rattle.reading.specs.Rules.{Kept, From}
-use Rattle.reading.proofs.Laws.{keeps-split}
-use Rattle.reading.proofs.Texts.{element-piece, tag-of-view, each-at, hl-rules, hl-claim}
+use Rattle.reading.proofs.Laws.{keeps-split, keeps-at}
+use Rattle.reading.proofs.Texts.{element-piece, tag-of-view, hl-rules, hl-claim}
 use Rattle.reading.proofs.WholeLevels.{Leveled, from-kept}
 
 -- the third element of an HL is there
@@ -37,7 +37,7 @@ third-present v k =
     let b = keeps-split (tooManyChecks rulesHL v ++ missingChecks rulesHL v) (unfitChecks rulesHL v) a .0 in
     let c = keeps-split (tooManyChecks rulesHL v) (missingChecks rulesHL v) b .1 in
     let d =
-    each-at 8 1 4 (λ (k : ℕ). (not (ruleOf rulesHL k .must) || present (elementOf v k)) && headed (ruleOf rulesHL k .shape) (elementOf v k)) c 3 (omega arith)
+    keeps-at 8 1 4 (λ (k : ℕ). (not (ruleOf rulesHL k .must) || present (elementOf v k)) && headed (ruleOf rulesHL k .shape) (elementOf v k)) c 3 (omega arith)
     (omega arith) in
     first-of (present (elementOf v 3)) (headed (ruleOf rulesHL 3 .shape) (elementOf v 3)) d
 

@@ -1,20 +1,24 @@
 -- Laws of rules in order, of segments with those before them, and of their rows; and the prefix form of condition 2.
 -- Assumes nothing.
-use Prim.Native.Nat.{ℕ}
+use Prim.Native.Nat.{ℕ, zero, suc, _+_, _≤_, _<_}
 use mathlib.Core.Path.{_≡_, refl, sym, _∙_}
-use mathlib.Core.Logic.{inl, inr}
+use mathlib.Core.Logic.{inl, inr, by-cases}
+use mathlib.Core.Bool.{Bool}
 use mathlib.Core.List.{List, [], _∷_, _++_, map}
-use lib.Dec.{lt→ltb}
+use native.Mathlib.Omega.{arith}
+use native.Mathlib.Decide.{decLt}
+use lib.Dec.{T, lt→ltb}
+use lib.ListN.{length}
 use Rattle.text.specs.View.{View}
 use Rattle.rows.specs.Rows.{Word, Viable, list842}
 use Rattle.rows.specs.RowList.{tagOf}
 use Rattle.rows.specs.Following.{Fits}
 use Rattle.rows.proofs.Fit.{fits-tag}
 use Rattle.rows.proofs.Unique.{rows-once}
-use Rattle.elements.specs.Checks.{Check, Keeps}
+use Rattle.elements.specs.Checks.{Check, each, Keeps}
 use Rattle.elements.specs.Rules.{byteChecks, endChecks, ruledChecks}
 use Rattle.reading.specs.Profile.{Profile}
-use Rattle.reading.specs.Segments.{tagIn, onto}
+use Rattle.reading.specs.Segments.{tagIn, onto, opening}
 use Rattle.reading.specs.Rules.{tagChecks, hlChecks, seChecks, Rule, asRules, rowRules, early, late, rules, Sound, FirstBroken, Kept, From}
 
 -- tests, appended
@@ -25,6 +29,14 @@ keeps-split (c ∷ a) b k = let i = keeps-split a b (k .1) in ((k .0, i .0), i .
 pub keeps-both : (a b : List Check) → Keeps a → Keeps b → Keeps (a ++ b)
 keeps-both [] b x y = y
 keeps-both (c ∷ a) b x y = (x .0, keeps-both a b (x .1) y)
+
+-- the same test of n elements holds at each
+pub keeps-at : (number a n : ℕ) (test : ℕ → Bool) → Keeps (each number a n test) → (k : ℕ) → a ≤ k → k < a + n → T (test k)
+keeps-at number a zero test h k l u = absurd (omega arith)
+keeps-at number a (suc n) test h k l u =
+    by-cases (decLt a k)
+    (λ w. keeps-at number (suc a) n test (h .1) k (omega arith) (omega arith))
+    (λ w. let z : a ≡ k = omega arith in rw z at (h .0))
 
 -- rules, appended
 pub sound-split : (a b : List Rule) → Sound (a ++ b) → Sound a × Sound b
@@ -96,6 +108,15 @@ module _ (P : List View → View → Type 0) where
 pub onto-append : (h xs ys : List View) → onto h (xs ++ ys) ≡ onto (onto h xs) ys
 onto-append h [] ys = refl
 onto-append h (x ∷ xs) ys = onto-append (x ∷ h) xs ys
+
+pub onto-length : (h vs : List View) → length (onto h vs) ≡ length h + length vs
+onto-length h [] = omega arith
+onto-length h (v ∷ vs) = omega (arith, onto-length (v ∷ h) vs)
+
+-- the first segment stays the first
+pub opening-onto : (v : View) (h vs : List View) → opening (onto (v ∷ h) vs) ≡ opening (v ∷ h)
+opening-onto v h [] = refl
+opening-onto v h (u ∷ vs) = opening-onto u (v ∷ h) vs
 
 -- the tags decide the rows
 pub same-rows : (w w′ : List ℕ) (vs : List View) → Viable list842 w → Viable list842 w′ → map tagOf w ≡ map tagIn vs → map tagOf w′ ≡ map tagIn vs → w ≡ w′

@@ -1,7 +1,7 @@
 -- The levels of segments that keep their rules: each has a name of its own that can be written again, and is marked `1` only with a code
 -- that may be; and the text of ST02.
 -- Assumes nothing.
-use Prim.Native.Nat.{ℕ, zero, suc, _+_, _≤_, _<_}
+use Prim.Native.Nat.{ℕ, suc, _+_, _≤_, _<_}
 use mathlib.Core.Path.{_≡_, refl, sym, ap, subst}
 use mathlib.Core.Bool.{Bool, true, false, not, _&&_, _||_}
 use mathlib.Core.List.{List, [], _∷_, _++_}
@@ -17,11 +17,11 @@ use Rattle.text.specs.declared.separators.Separators.{Separators}
 use Rattle.text.proofs.Bools.{both, first-of, second-of, passes, fails}
 use Rattle.text.proofs.Sames.{same-equal, same-self}
 use Rattle.text.proofs.Everys.{every-anywhere}
-use Rattle.rows.specs.Tags.{tag, tagNumber}
+use Rattle.rows.specs.Tags.{tag}
 use Rattle.elements.specs.Types.{fits}
 use Rattle.elements.specs.Data.{Rules, value, rulesST, rulesHL}
-use Rattle.elements.specs.Checks.{each, Keeps}
-use Rattle.elements.specs.Rules.{dataPiece, byteChecks, tooManyChecks, missingChecks, fitsSimple, unfitChecks, noteChecks, checksBy, ruledChecks}
+use Rattle.elements.specs.Checks.{Keeps}
+use Rattle.elements.specs.Rules.{dataPiece, byteChecks, tooManyChecks, missingChecks, fitsSimple, unfitChecks, noteChecks, checksBy}
 use Rattle.elements.specs.declared.types.Kind.the-variants.{AN}
 use Rattle.levels.specs.Profile.{codeOf, mayBeMarked}
 use Rattle.levels.specs.Levels.{textOf, claimOf, Level, called, levelAt, levelOf}
@@ -29,16 +29,9 @@ use Rattle.levels.specs.Rules.{levelChecks, filledFrom, filled}
 use Rattle.reading.specs.Profile.{nonconformance}
 use Rattle.reading.specs.Segments.{tagIn, isHL, onto, levelsIn}
 use Rattle.reading.specs.Rules.{hlChecks, Kept, From}
-use Rattle.reading.proofs.Laws.{keeps-split}
+use Rattle.reading.proofs.Laws.{keeps-split, keeps-at}
 use Rattle.reading.proofs.Made.{levels, ruling, noSeparator, Text}
-
--- a test at each element holds at one
-each-at : (number a n : ℕ) (test : ℕ → Bool) → Keeps (each number a n test) → (k : ℕ) → k < n → T (test (a + k))
-each-at number a zero test t k h = absurd (omega arith)
-each-at number a (suc n) test t zero h = let e : a + 0 ≡ a = omega arith in rw e (t .0)
-each-at number a (suc n) test t (suc k) h =
-    let e : suc a + k ≡ a + suc k = omega arith in
-    rw e at (each-at number (suc a) n test (t .1) k (omega arith))
+use Rattle.reading.proofs.Texts.{hl-rules, st-rules}
 
 -- of a segment that keeps the rule of bytes every element is printable
 element-printed : (v : View) → Keeps (byteChecks v) → (k : ℕ) → T (dataPiece (elementOf v k))
@@ -46,7 +39,7 @@ unfolding byteChecks
 element-printed v b k = go (decLt k (length v))
   where
     go : Dec (k < length v) → T (dataPiece (elementOf v k))
-    go (yes h) = let e : 0 + k ≡ k = omega arith in rw e at (each-at 5 0 (length v) (λ (j : ℕ). dataPiece (elementOf v j)) b k h)
+    go (yes h) = keeps-at 5 0 (length v) (λ (j : ℕ). dataPiece (elementOf v j)) b k (omega arith) (omega arith)
     go (no h) = rw (List·getD-eq-default v empty {n = k} (omega arith)) tt
 
 -- the length of an element of one value
@@ -84,27 +77,17 @@ ruled-parts rules v k =
     let b = keeps-split (many ++ missing) unfit a in
     (keeps-split many missing (b .0) .1, b .1)
 
--- the rules of an HL
-hl-ruled : (v : View) → ruledChecks (nonconformance .elements) (tag "HL") v ≡ checksBy rulesHL v
-unfolding ruledChecks tagNumber
-hl-ruled v = refl
-
--- the rules of an ST
-st-ruled : (v : View) → ruledChecks (nonconformance .elements) (tag "ST") v ≡ checksBy rulesST v
-unfolding ruledChecks tagNumber
-st-ruled v = refl
-
 module _ (q : Separators) (h : List View) (v : View) (k : Kept nonconformance h v) (u : T (unseparated q v)) where
   -- HL01 can be written again
   pub hl-text : tagIn v ≡ tag "HL" → Text q 1 12 (textOf (elementOf v 1))
   hl-text e =
-      let p = ruled-parts rulesHL v (rw (e, hl-ruled) at (k .elements)) in
+      let p = ruled-parts rulesHL v (rw (e, hl-rules) at (k .elements)) in
       element-text q 1 12 v 1 (k .bytes) u (p .0 .0) (p .1 .0)
 
   -- and ST02
   pub st-text : tagIn v ≡ tag "ST" → Text q 4 9 (textOf (elementOf v 2))
   st-text e =
-      let p = ruled-parts rulesST v (rw (e, st-ruled) at (k .elements)) in
+      let p = ruled-parts rulesST v (rw (e, st-rules) at (k .elements)) in
       element-text q 4 9 v 2 (k .bytes) u (p .0 .1 .0) (p .1 .1 .0)
 
 -- an HL makes one level more

@@ -84,11 +84,6 @@ module _ (how : How) where
   cut-free : (s g m : Bytes) → cutBy how s ≡ Whole g m → Free (q .terminator) g
   cut-free s g m e = (subst (λ (c : Cut). Says q s c) e (cut-says q s)) .1
 
-  cut-long : (s g m : Bytes) → cutBy how s ≡ Whole g m → length s ≡ length g + 1 + length m
-  cut-long s g m e =
-      let w = subst (λ (c : Cut). Says q s c) e (cut-says q s) in
-      ap length (w .0) ∙ length-append g (q .terminator ∷ m) ∙ omega arith
-
   leads-unseparated : (at : ℕ) (s : Bytes) (gs : List Placed) (end : ℕ) (rest : Bytes) → Leads (cutBy how) (skipBy how) at s gs end rest
       → T (every (unseparated q) (seen how gs))
   leads-unseparated at s [] end rest l = tt

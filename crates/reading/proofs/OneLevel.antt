@@ -15,6 +15,7 @@ use Rattle.elements.specs.Checks.{Keeps}
 use Rattle.levels.specs.Profile.{LevelProfile, codeOf, mayStandAlone, mayBeMarked, mayHang}
 use Rattle.levels.specs.Levels.{Claim, Level, called, levelAt, parentOf, levelOf, levelsOf}
 use Rattle.levels.specs.Rules.{absent, levelChecks}
+use Rattle.levels.proofs.Calling.{levels-length}
 use Rattle.reading.specs.Meets.{hlAt, Under}
 
 -- the claims ks, latest first, are the first HL segments of cs
@@ -41,11 +42,6 @@ pub record Stands (profile : LevelProfile) (cs : List Claim) (j : ℕ) : Type 0 
 -- a level has its claim's code and mark
 abbrev Made : LevelProfile → Claim → Level → Type 0
 Made profile c l = (l .code ≡ codeOf profile (c .code)) × (l .mark ≡ c .mark)
-
--- there are as many levels as HL segments
-pub levels-length : (profile : LevelProfile) (ks : List (ℕ × Claim)) → length (levelsOf profile ks) ≡ length ks
-levels-length profile [] = refl
-levels-length profile (k ∷ ks) = ap suc (levels-length profile ks)
 
 -- among HL01 that differ two that are equal stand at one place
 pub one-place : (cs : List Claim) (n i j : ℕ) → Distinct cs n → i < n → j < n → hlAt cs i .id ≡ hlAt cs j .id → i ≡ j

@@ -32,13 +32,8 @@ use Rattle.reading.specs.Records.{Tables}
 use Rattle.reading.specs.Standing.{Standing}
 use Rattle.reading.specs.Judgements.{openingControl}
 use Rattle.reading.specs.declared.how.How.{How}
-use Rattle.reading.proofs.Laws.{keeps-split}
-use Rattle.reading.proofs.Texts.{each-at, ruled-simple, se-rules, st-control}
-
--- the first segment of a history
-opening-onto : (u : View) (h vs : List View) → opening (onto (u ∷ h) vs) ≡ opening (u ∷ h)
-opening-onto u h [] = refl
-opening-onto u h (v ∷ vs) = opening-onto v (u ∷ h) vs
+use Rattle.reading.proofs.Laws.{keeps-split, opening-onto, keeps-at}
+use Rattle.reading.proofs.Texts.{ruled-simple, se-rules, st-control}
 
 -- row 1 is ST's
 tag-1 : tagOf 1 ≡ tag "ST"
@@ -74,7 +69,7 @@ first-there v k =
     let b = keeps-split (tooManyChecks rulesSE v ++ missingChecks rulesSE v) (unfitChecks rulesSE v) a .0 in
     let c = keeps-split (tooManyChecks rulesSE v) (missingChecks rulesSE v) b .1 in
     let d =
-    each-at 8 1 2 (λ (k : ℕ). (not (ruleOf rulesSE k .must) || present (elementOf v k)) && headed (ruleOf rulesSE k .shape) (elementOf v k)) c 1 (omega arith)
+    keeps-at 8 1 2 (λ (k : ℕ). (not (ruleOf rulesSE k .must) || present (elementOf v k)) && headed (ruleOf rulesSE k .shape) (elementOf v k)) c 1 (omega arith)
     (omega arith) in
     first-of (present (elementOf v 1)) (headed (ruleOf rulesSE 1 .shape) (elementOf v 1)) d
 

@@ -120,9 +120,6 @@ module _ (profile : Profile) (w : List ℕ) (v : View) where
       by false f = inl ((λ x. x), refl, refl)
 
   module _ (h : List View) (p : Viable list842 w) where
-    rowRule : Rule
-    rowRule = record { number = 7; element = 0; Holds = (r : ℕ) × Fits w (tagIn v) r }
-
     by-row : (x : ℕ) → OneFits w (tagIn v) x → Right (rowRules w v ++ asRules (late profile h v)) (byRow x (tested (late profile h v) (Fine x)))
     by-row zero s = inl ((λ r. s .alone (r .0) (r .1) .1 refl), refl, refl)
     by-row (suc r) s =

@@ -20,8 +20,7 @@ use Rattle.levels.specs.Levels.{claimOf}
 use Rattle.levels.specs.Rules.{levelChecks}
 use Rattle.reading.specs.Profile.{Profile}
 use Rattle.reading.specs.Segments.{tagIn, isHL, isSE, levelsIn}
-use Rattle.reading.specs.Rules.{tagChecks, hlChecks, closingChecks, seChecks, Rule, asRules, rowRules, rules, Sound, FirstBroken, Kept}
-use Rattle.reading.proofs.Laws.{kept-sound}
+use Rattle.reading.specs.Rules.{tagChecks, hlChecks, closingChecks, seChecks, Rule, asRules, rowRules, rules, FirstBroken, Kept}
 
 -- the first of some tests that fails is the first of the rules that is broken, whatever rules follow
 pub first-here : (cs : List Check) (rest : List Rule) (n e : ℕ) → firstBroken cs ≡ Broken n e → FirstBroken (asRules cs ++ rest) n e
@@ -157,6 +156,3 @@ module _ (profile : Profile) (w : List ℕ) (h : List View) (v : View) where
             -- all hold
             pub all-kept : Keeps (hlChecks profile h v) → Keeps (seChecks profile h v) → Kept profile h v
             all-kept l c = record { bytes = bytes; ends = ends; elements = elements; level = l; closing = c }
-
-            pub all-sound : Keeps (hlChecks profile h v) → Keeps (seChecks profile h v) → Sound (rules profile w h v)
-            all-sound l c = kept-sound profile w h v r (all-kept l c) fits

@@ -32,7 +32,7 @@ use Rattle.reading.specs.Reads.{cutBy, skipBy, Passed, Read}
 use Rattle.reading.specs.Standing.{Standing}
 use Rattle.reading.specs.declared.answer.Answer.the-variants.{Accepted, Refused}
 use Rattle.reading.specs.declared.how.How.{How}
-use Rattle.reading.proofs.Laws.{onto-append, kept-sound}
+use Rattle.reading.proofs.Laws.{onto-append, kept-sound, onto-length}
 use Rattle.reading.proofs.Once.{Fails}
 use Rattle.reading.proofs.HlSegments.{hl-written, depths}
 use Rattle.reading.proofs.LastRow.{last-snoc}
@@ -77,12 +77,8 @@ level-records-long : (ls : List Level) → length (recordsOf ls) ≡ length ls *
 level-records-long [] = refl
 level-records-long (l ∷ ls) = length-append (recordsOf ls) (recordOf l) ∙ omega (arith, level-records-long ls)
 
-onto-long : (h vs : List View) → length (onto h vs) ≡ length h + length vs
-onto-long h [] = omega arith
-onto-long h (v ∷ vs) = onto-long (v ∷ h) vs ∙ omega arith
-
 pub history-long : (how : How) (gs : List Placed) → length (onto [] (seen how gs)) ≡ length gs
-history-long how gs = onto-long [] (seen how gs) ∙ omega (arith, length-map gs (λ (g : Placed). viewOf (how .separators) (g .segment)))
+history-long how gs = onto-length [] (seen how gs) ∙ omega (arith, length-map gs (λ (g : Placed). viewOf (how .separators) (g .segment)))
 
 -- one row more
 twice-more : (r : ℕ) (already : Bool) (w : List ℕ) (x : ℕ) → twice r already (w ++ (x ∷ [])) ≡ eqb x (lastOf r w)

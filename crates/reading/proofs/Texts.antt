@@ -1,6 +1,6 @@
 -- What the reader reads off a segment's bytes is what the rules say of its view: the tag, and the text of an element of one component.
 -- Assumes nothing.
-use Prim.Native.Nat.{ℕ, zero, suc, _+_, _≤_, _<_}
+use Prim.Native.Nat.{ℕ, suc, _+_, _≤_, _<_}
 use mathlib.Core.Path.{_≡_, refl, subst, _∙_}
 use mathlib.Core.Logic.{by-cases}
 use mathlib.Core.Bool.{Bool, true, false, not, cond, _||_}
@@ -21,12 +21,12 @@ use Rattle.text.proofs.View.{Fitted}
 use Rattle.rows.specs.Tags.{tag, tags, placeIn, tagNumber}
 use Rattle.elements.specs.Data.{Value, value, Simple, Rules, rulesHL, rulesSE, rulesST}
 use Rattle.elements.specs.declared.types.Kind.the-variants.{AN, ID, N0}
-use Rattle.elements.specs.Checks.{each, Keeps}
+use Rattle.elements.specs.Checks.{Keeps}
 use Rattle.elements.specs.Rules.{ruleOf, fitsSimple, fitsShape, tooManyChecks, missingChecks, unfitChecks, noteChecks, checksBy, ruledChecks}
 use Rattle.levels.specs.Levels.{textOf, claimOf}
 use Rattle.reading.specs.Profile.{nonconformance}
 use Rattle.reading.specs.Segments.{pieceTag, tagIn}
-use Rattle.reading.proofs.Laws.{keeps-split}
+use Rattle.reading.proofs.Laws.{keeps-split, keeps-at}
 
 -- an element of a view is the piece of the segment, cut at the component separator
 pub element-piece : (q : Separators) (g : Bytes) (k : ℕ) → elementOf (viewOf q g) k ≡ pieces (q .component) (getD (pieces (q .element) g) k [])
@@ -116,13 +116,6 @@ text-of-piece c s x t = by (pieces c s) (joined-pieces c s) t
     by ([] ∷ (r ∷ ps)) e t = absurd t
     by ((b ∷ p) ∷ (r ∷ ps)) e t = absurd t
 
--- a test of each of some elements, at one of them
-pub each-at : (number a n : ℕ) (test : ℕ → Bool) → Keeps (each number a n test) → (k : ℕ) → a ≤ k → k < a + n → T (test k)
-each-at number a zero test t k l h = absurd (omega arith)
-each-at number a (suc n) test t k l h =
-    by-cases (decLt a k) (λ m. each-at number (suc a) n test (t .1) k m (omega arith))
-    (λ m. let e : a ≡ k = omega arith in subst (λ (x : ℕ). T (test x)) e (t .0))
-
 -- what rule 10 says of an element that is one value
 pub ruled-simple : (rules : Rules) (v : View) (x : Value) (k : ℕ) → 1 ≤ k → k ≤ length (rules .elements) → ruleOf rules k .shape ≡ Simple x
     → Keeps (checksBy rules v) → T (not (present (elementOf v k)) || fitsSimple x (elementOf v k))
@@ -130,7 +123,7 @@ ruled-simple rules v x k l h e t =
     let a = keeps-split (tooManyChecks rules v ++ missingChecks rules v ++ unfitChecks rules v) (noteChecks (rules .notes) v) t .0 in
     let b = keeps-split (tooManyChecks rules v ++ missingChecks rules v) (unfitChecks rules v) a .1 in
     let c =
-    each-at 10 1 (length (rules .elements)) (λ (k : ℕ). not (present (elementOf v k)) || fitsShape (ruleOf rules k .shape) (elementOf v k)) b k l (omega arith) in
+    keeps-at 10 1 (length (rules .elements)) (λ (k : ℕ). not (present (elementOf v k)) || fitsShape (ruleOf rules k .shape) (elementOf v k)) b k l (omega arith) in
     rw e at c
 
 -- the text of such an element is the piece's bytes

@@ -18,11 +18,12 @@ use Rattle.levels.specs.Profile.{LevelProfile}
 use Rattle.levels.specs.Levels.{Claim, claimOf, Level, parentOf, levelsOf}
 use Rattle.levels.specs.Rules.{levelChecks, filledFrom, filled}
 use Rattle.levels.proofs.Depth.{AllKept}
+use Rattle.levels.proofs.Calling.{levels-length}
 use Rattle.reading.specs.Profile.{Profile}
 use Rattle.reading.specs.Segments.{isHL, onto, addClaim, claims, levelsIn}
 use Rattle.reading.specs.Rules.{hlChecks, From}
 use Rattle.reading.specs.Meets.{putIf, hls, hlAt, LevelsMeet}
-use Rattle.reading.proofs.OneLevel.{Tells, Distinct, Stands, levels-length, one-place, parent-named, named-parent, keeps-stands, stands-keeps}
+use Rattle.reading.proofs.OneLevel.{Tells, Distinct, Stands, one-place, parent-named, named-parent, keeps-stands, stands-keeps}
 
 -- level j is a child of level i
 abbrev Child : List Claim → ℕ → ℕ → Type 0

@@ -4,15 +4,15 @@ use mathlib.Core.Path.{_≡_, refl, sym, ap, _∙_}
 use mathlib.Core.Logic.{by-cases, _↔_}
 use mathlib.Core.Bool.{true, false}
 use mathlib.Core.List.{List, [], _∷_}
-use Prim.Native.Nat.{ℕ, zero, suc, _-_, _<_, _≤_}
-use native.Mathlib.Nat.{le-of-suc-le-suc, not-suc-le-zero}
+use Prim.Native.Nat.{ℕ, suc, _-_, _<_, _≤_}
 use native.Mathlib.Omega.{arith}
 use native.Mathlib.Decide.{decLt}
 use lib.Dec.{T, eqb}
-use lib.ListN.{getD, length, List·getD-eq-default}
+use lib.ListN.{getD, List·getD-eq-default}
 use borrow.Author.Tests.{ne-eqb}
 use Rattle.text.specs.Bytes.{among}
 use Rattle.text.proofs.Tables.{tab, tab-at}
+use Rattle.text.proofs.Lists.{any-default}
 use Rattle.rows.specs.Tags.{tagNumber}
 use Rattle.rows.specs.Rows.{list842}
 use Rattle.rows.specs.RowList.{rowsWithin, numbersOf, noRow, rowAt, maxOf}
@@ -24,12 +24,6 @@ use Rattle.rows.proofs.States.{among-range}
 pub rows-numbered : numbersOf list842 ≡ tab 79 suc
 unfolding tab list842
 rows-numbered = refl
-
--- below its length a list gives the same for any default
-any-default : (l : List Row) (k : ℕ) (d d′ : Row) → k < length l → getD l k d ≡ getD l k d′
-any-default [] k d d′ h = absurd (not-suc-le-zero h)
-any-default (x ∷ l) zero d d′ h = refl
-any-default (x ∷ l) (suc k) d d′ h = any-default l k d d′ (le-of-suc-le-suc h)
 
 -- the list of rows read off the bracketed list, which the constant is compared with, gives each row by its number
 pub row-list-agrees : (r : ℕ) → 1 ≤ r → r ≤ 79 → getD (rowsWithin 0 list842) (r - 1) (0, 0, false, 0) ≡ rowAt r

@@ -8,7 +8,7 @@ use Prim.Native.Nat.{ℕ, zero, suc, _≤_, _<_, _-_}
 use native.Mathlib.Omega.{arith}
 use lib.Dec.{T, eqb, eqb→eq, lit<}
 use Rattle.text.specs.Bytes.{among}
-use Rattle.text.proofs.Bools.{or-cases, first-of, second-of}
+use Rattle.text.proofs.Bools.{or-cases, first-of, second-of, not-passes}
 use Rattle.text.proofs.Tables.{tab, tab-at}
 use Rattle.rows.specs.Tags.{tagNumber}
 use Rattle.rows.specs.Rows.{Word, Viable, list842}
@@ -75,10 +75,6 @@ last-snoc : (w : List ℕ) (s r : ℕ) → lastOf s (w ++ (r ∷ [])) ≡ r
 last-snoc [] s r = refl
 last-snoc (x ∷ w) s r = last-snoc w x r
 
-false-of : (b : Bool) → T (not b) → b ≡ false
-false-of true h = absurd h
-false-of false h = refl
-
 -- a computed follower may follow
 pub follow-may : (r x : ℕ) → 1 ≤ r → r ≤ 79 → T (among (follow r) x) → MayFollow r x
 unfolding reached
@@ -86,7 +82,7 @@ follow-may r x lo hi m =
     let w = leading r ++ (r ∷ []) in
     let h = row-reached r lo hi in
     let s = test-runs w 0 false (first-of (runs 0 false w) (not (twice 0 false w)) h) in
-    let f : twice 0 false w ≡ false = false-of (twice 0 false w) (second-of (runs 0 false w) (not (twice 0 false w)) h) in
+    let f : twice 0 false w ≡ false = not-passes (twice 0 false w) (second-of (runs 0 false w) (not (twice 0 false w)) h) in
     let m′ : T (among (followers (lastOf 0 w) (twice 0 false w)) x) = rw (last-snoc (leading r) 0 r, f, first-follow) m in
     let v : Viable list842 (w ++ (x ∷ [])) = runs-viable (w ++ (x ∷ [])) (follower-snoc w 0 false x s m′) in
     (leading r, rw append-assoc at v)

@@ -9,7 +9,8 @@ use lib.Dec.{T, eqb, eqb→eq, ltb, ltb→lt, lt→ltb}
 use lib.ListN.{length, getD}
 use borrow.Author.Tests.{eq-eqb, ne-eqb, eqb-true, eqb-false}
 use Rattle.text.specs.Bytes.{Bytes, every, same}
-use Rattle.text.proofs.Bools.{both, first-of, second-of, or-cases}
+use Rattle.text.proofs.Bools.{both, first-of, second-of, or-cases, fails}
+use Rattle.text.proofs.Lists.{just-two}
 use Rattle.rows.specs.Tags.{tags, tagNumber, placeIn}
 use Rattle.rows.specs.Packed.{packed, placeOf, packedNumber}
 
@@ -83,10 +84,6 @@ same-length [] (b ∷ t) h = absurd h
 same-length (a ∷ s) [] h = absurd h
 same-length (a ∷ s) (b ∷ t) h = ap suc (same-length s t (second-of (eqb a b) (same s t) h))
 
-false-if : (b : Bool) → (T b → ⊥) → b ≡ false
-false-if true h = absurd (h tt)
-false-if false h = refl
-
 -- a tag has two or three bytes
 abbrev tagLength : Bytes → Bool
 tagLength t = eqb (length t) 2 || eqb (length t) 3
@@ -100,18 +97,12 @@ place-past (t ∷ ts) s h n2 n3 =
     (λ l. n2 (sym (same-length t s e) ∙ eqb→eq (length t) 2 l))
     (λ l. n3 (sym (same-length t s e) ∙ eqb→eq (length t) 3 l))
     (first-of (tagLength t) (every tagLength ts) h) in
-    rw (false-if (same t s) differ, place-past ts s (second-of (tagLength t) (every tagLength ts) h) n2 n3)
+    rw (fails (same t s) differ, place-past ts s (second-of (tagLength t) (every tagLength ts) h) n2 n3)
 
 -- bytes of another length are no tag
 pub other-length : (s : Bytes) → (length s ≡ 2 → ⊥) → (length s ≡ 3 → ⊥) → 34 ≡ tagNumber s
 unfolding tagNumber
 other-length s n2 n3 = sym (place-past tags s tt n2 n3)
-
-two-bytes : (s : Bytes) → length s ≡ 2 → s ≡ getD s 0 0 ∷ getD s 1 0 ∷ []
-two-bytes [] h = absurd (omega arith)
-two-bytes (a ∷ []) h = absurd (omega arith)
-two-bytes (a ∷ b ∷ []) h = refl
-two-bytes (a ∷ b ∷ c ∷ s) h = absurd (omega arith)
 
 three-bytes : (s : Bytes) → length s ≡ 3 → s ≡ getD s 0 0 ∷ getD s 1 0 ∷ getD s 2 0 ∷ []
 three-bytes [] h = absurd (omega arith)
@@ -129,7 +120,7 @@ two-number s x y n l h0 h1 ex ey en =
     let p : y ≡ packed (a ∷ b ∷ []) = ey ∙ rw ex in
     let f : T (small (a ∷ b ∷ [])) =
     both (ltb a 256) (ltb b 256 && true) (lt→ltb a 256 h0) (both (ltb b 256) true (lt→ltb b 256 h1) tt) in
-    en ∙ ap packedNumber p ∙ sym (number-packed (a ∷ b ∷ []) f) ∙ ap tagNumber (sym (two-bytes s l))
+    en ∙ ap packedNumber p ∙ sym (number-packed (a ∷ b ∷ []) f) ∙ ap tagNumber (sym (just-two s l))
 
 -- and for three
 pub three-number : (s : Bytes) (x y z n : ℕ) → length s ≡ 3 → getD s 0 0 < 256 → getD s 1 0 < 256 → getD s 2 0 < 256

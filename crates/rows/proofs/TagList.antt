@@ -5,7 +5,7 @@ use mathlib.Core.Bool.{Bool, true, false, cond, _&&_}
 use mathlib.Core.List.{List, [], _∷_}
 use Prim.Native.Nat.{ℕ, suc, _≤_, _<_}
 use native.Mathlib.Nat.{le-of-suc-le-suc, not-suc-le-zero}
-use lib.Dec.{T, eqb, eqb→eq, leb, leb→le, ltb}
+use lib.Dec.{T, leb, leb→le, ltb}
 use lib.ListN.{getD, length}
 use Rattle.text.specs.Bytes.{Bytes, same, between}
 use Rattle.text.proofs.Bools.{first-of, second-of}

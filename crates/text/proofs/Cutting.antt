@@ -1,7 +1,7 @@
 -- What any way of cutting promises, and what follows from that alone: of two ways to pass segments one begins the other; segments that were
 -- passed stay so whatever follows them; segments written one after the other are cut again as they were.
 -- Assumes nothing.
-use Prim.Native.Nat.{ℕ, zero, suc, _+_, _≤_, _<_}
+use Prim.Native.Nat.{ℕ, _+_, _≤_, _<_}
 use mathlib.Core.Path.{_≡_, refl, sym, ap, subst, _∙_}
 use mathlib.Core.Logic.{_⊎_, inl, inr}
 use mathlib.Core.List.{List, [], _∷_, _++_, append-assoc}

@@ -1,10 +1,10 @@
 -- Laws of lists that every crate uses.
 -- Assumes nothing.
-use Prim.Native.Nat.{ℕ, _<_}
+use Prim.Native.Nat.{ℕ, zero, suc, _<_}
 use mathlib.Core.Path.{_≡_, refl, ap}
 use mathlib.Core.List.{List, [], _∷_, _++_, map, nil≢cons, head-eq-of-cons-eq, tail-eq-of-cons-eq}
 use native.Mathlib.Omega.{arith}
-use lib.ListN.{length}
+use lib.ListN.{length, getD}
 
 pub map-append : {A B : Type 0} (f : A → B) (xs ys : List A) → map f (xs ++ ys) ≡ map f xs ++ map f ys
 map-append f [] ys = refl
@@ -53,3 +53,21 @@ pub has-last : {A : Type 0} (l : List A) → 0 < length l → HasLast l
 has-last [] h = absurd (omega arith)
 has-last (x ∷ []) h = record { front = []; last = x; whole = refl }
 has-last (x ∷ (y ∷ l)) h = let i = has-last (y ∷ l) (omega arith) in record { front = x ∷ i .front; last = i .last; whole = ap (λ (k : List _). x ∷ k) (i .whole) }
+
+-- an entry within the list, whatever the default
+pub any-default : {A : Type 0} (l : List A) (i : ℕ) (d e : A) → i < length l → getD l i d ≡ getD l i e
+any-default [] i d e h = absurd (omega arith)
+any-default (x ∷ l) zero d e h = refl
+any-default (x ∷ l) (suc i) d e h = any-default l i d e (omega arith)
+
+-- numbers of which there are one or two
+pub just-one : (l : List ℕ) → length l ≡ 1 → l ≡ getD l 0 0 ∷ []
+just-one [] e = absurd (omega arith)
+just-one (a ∷ []) e = refl
+just-one (a ∷ (b ∷ l)) e = absurd (omega arith)
+
+pub just-two : (l : List ℕ) → length l ≡ 2 → l ≡ getD l 0 0 ∷ getD l 1 0 ∷ []
+just-two [] e = absurd (omega arith)
+just-two (a ∷ []) e = absurd (omega arith)
+just-two (a ∷ (b ∷ [])) e = refl
+just-two (a ∷ (b ∷ (d ∷ l))) e = absurd (omega arith)

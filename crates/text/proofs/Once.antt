@@ -1,7 +1,6 @@
 -- Two answers that a promise of this crate allows are equal.
 -- Assumes nothing.
-use Prim.Native.Nat.{_+_}
-use mathlib.Core.Path.{_≡_, sym, ap, _∙_}
+use mathlib.Core.Path.{_≡_, sym, _∙_}
 use denote.Ref.{RefT, ptr, now}
 use Rattle.text.specs.Bytes.{Bytes}
 use Rattle.text.specs.Lookup.{PartAt}

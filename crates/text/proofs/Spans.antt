@@ -31,7 +31,7 @@ pub begun-at : {sep : ℕ} {s : Bytes} {k at : ℕ} (n : ℕ) → k ≡ n → Be
 begun-at n q b = rw q at b
 
 -- a piece that is there, and past the last
-span-there : (sep : ℕ) (s : Bytes) (n : ℕ) → n < length (pieces sep s)
+pub span-there : (sep : ℕ) (s : Bytes) (n : ℕ) → n < length (pieces sep s)
     → pieceSpan sep s n ≡ span (length (closed sep (take n (pieces sep s)))) (length (getD (pieces sep s) n []))
 unfolding pieceSpan
 span-there sep s n h = rw (lt-ltb n (length (pieces sep s)) h)

@@ -1,16 +1,15 @@
 -- The laws of views: writing gives the segment back, no separator is left, and no other view has both properties.
 -- Assumes nothing.
-use Prim.Native.Nat.{ℕ, _<_}
+use Prim.Native.Nat.{ℕ}
 use mathlib.Core.Path.{_≡_, refl, sym, ap, _∙_}
 use mathlib.Core.Bool.{Bool, true, false, not, _&&_, _||_}
 use mathlib.Core.List.{List, [], _∷_, _++_, map}
-use native.Mathlib.Omega.{arith}
-use lib.Dec.{T, eqb, ltb, ltb→lt, lt→ltb, T-not, eqb→eq, eqb-refl}
+use lib.Dec.{T, eqb, ltb, ltb→lt, lt→ltb, T-not, eqb-refl}
 use lib.ListN.{length, length-map}
 use borrow.Author.Tests.{ne-eqb}
 use Rattle.text.specs.Bytes.{Bytes, every}
 use Rattle.text.specs.Separators.{fitSeparators, isSeparator, printable, isData, mayServe}
-use Rattle.text.specs.Pieces.{before, pieces, joined, closed, Free, Clean}
+use Rattle.text.specs.Pieces.{before, pieces, joined, Free, Clean}
 use Rattle.text.specs.View.{Piece, View, viewOf, written, unseparated, wellFormed}
 use Rattle.text.specs.declared.separators.Separators.{Separators}
 use Rattle.text.proofs.Bools.{both, first-of, second-of, or-left, or-right, apart}
@@ -31,7 +30,7 @@ pub free-pieces : (sep x : ℕ) (s : Bytes) → Free x s → Clean x (pieces sep
 free-pieces sep x [] f = (tt, tt)
 free-pieces sep x (b ∷ s) f = free-before x b (eqb b sep) (pieces sep s) (f .0) (free-pieces sep x s (f .1))
 
-free-append : (x : ℕ) (s t : Bytes) → Free x s → Free x t → Free x (s ++ t)
+pub free-append : (x : ℕ) (s t : Bytes) → Free x s → Free x t → Free x (s ++ t)
 free-append x [] t f g = g
 free-append x (b ∷ s) t f g = (f .0, free-append x s t (f .1) g)
 

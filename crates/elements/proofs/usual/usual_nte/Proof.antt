@@ -1,6 +1,6 @@
 -- `usual_nte` meets its contract: both elements fit.
 -- Assumes nothing.
-use mathlib.Core.Path.{sym, ap}
+use mathlib.Core.Path.{sym}
 use mathlib.Core.Bool.{true≢false}
 use Rattle.text.proofs.Tests.{and-first, and-second}
 use Rattle.elements.proofs.Shapes.{usual-NTE}

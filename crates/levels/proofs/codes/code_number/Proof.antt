@@ -1,9 +1,10 @@
 -- `code_number` meets its contract, by the length.
 -- Assumes nothing.
 use mathlib.Core.Path.{sym, ap, _∙_}
-use Rattle.levels.proofs.Letters.{one-byte, two-bytes, code-lengths}
+use Rattle.levels.proofs.Letters.{code-lengths}
 use Rattle.levels.specs.Profile.{nonconformance, codeOf}
 use borrow.Author.Needs.{needs}
+use Rattle.text.proofs.Lists.{just-one, just-two}
 use Rattle.levels.proofs.codes.code_number.Statement.{statement}
 use Rattle.levels.proofs.codes.code_number.Tie as tie
 
@@ -23,10 +24,10 @@ two-letters-requires : tie.Need-two-letters-requires
 two-letters-requires c κs = search needs
 
 returns : tie.Need-returns
-returns c = c .one-letter .ensures ∙ ap (codeOf nonconformance) (sym (one-byte _ (c .before .before .match .keys1)))
+returns c = c .one-letter .ensures ∙ ap (codeOf nonconformance) (sym (just-one _ (c .before .before .match .keys1)))
 
 returns-2 : tie.Need-returns-2
-returns-2 c = c .two-letters .ensures ∙ ap (codeOf nonconformance) (sym (two-bytes _ (c .before .before .before .match .keys2)))
+returns-2 c = c .two-letters .ensures ∙ ap (codeOf nonconformance) (sym (just-two _ (c .before .before .before .match .keys2)))
 
 returns-3 : tie.Need-returns-3
 returns-3 c = code-lengths _ (c .match .rest .0 .1) (c .match .rest .1)

@@ -1,6 +1,5 @@
 -- `component_span` meets its contract: component n + 1 is the piece n.
 -- Assumes nothing.
-use native.Mathlib.Omega.{arith}
 use mathlib.Core.Path.{sym, _∙_}
 use Rattle.text.proofs.Spans.{component-none, component-next}
 use borrow.Author.Needs.{needs}

@@ -1,9 +1,7 @@
 -- `may_serve` meets its contract: the same tests, grouped otherwise.
 -- Assumes nothing.
-use native.Mathlib.Omega.{arith}
 use Rattle.text.proofs.Bools.{or-assoc, or-false, and-assoc}
 use Rattle.text.specs.Separators.{mayServe}
-use borrow.Author.Needs.{needs}
 use Rattle.text.proofs.separators.may_serve.Statement.{statement}
 use Rattle.text.proofs.separators.may_serve.Tie as tie
 
