@@ -123,7 +123,8 @@ fn stop(s: &[u8], from: usize, terminator: u8) -> Next
 }
 
 // The next segment from `at` on. `start` is where the last element so far starts, and `behind` the place behind the last component
-// separator, or `at`. An element ends badly where its end is that place; the tag, element 0, may.
+// separator, or `at`. An element ends badly where its end is that place; the tag, element 0, may. The inner loop uses the
+// queue up, the outer one fills it anew.
 pub(crate) fn next_segment(
     s: &[u8],
     marks: &[bool; 256],

@@ -43,8 +43,9 @@ pub(crate) struct Notes {
     pub ended: bool,
 }
 
-// What the reader carries from segment to segment: how many segments were passed, the last row, whether it stands for the second time in a
-// row, how many levels there are, and a number that no key of their HL01 is above.
+// What the reader carries from segment to segment: how many segments were passed, the last row, how many levels there are, whether the row
+// stands for the second time in a row, and a number that no key of an HL01 is above. The two small fields stand apart, since they are
+// copied faster so.
 pub(crate) struct State {
     pub count: usize,
     pub row: u8,
