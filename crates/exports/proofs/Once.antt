@@ -5,11 +5,11 @@ use mathlib.Core.List.{List}
 use Prim.Native.Nat.{ℕ}
 use Rattle.text.specs.Bytes.{Bytes}
 use Rattle.text.specs.declared.separators.Separators.{Separators}
-use Rattle.reading.specs.Answers.{numbersOf}
-use Rattle.reading.specs.Profile.{nonconformance}
-use Rattle.reading.specs.Records.{Tables}
-use Rattle.reading.specs.declared.how.How.{How}
-use Rattle.reading.proofs.Once.{reads-once}
+use Rattle.gate.specs.Answers.{numbersOf}
+use Rattle.gate.specs.Profile.{nonconformance}
+use Rattle.gate.specs.Records.{Tables}
+use Rattle.gate.specs.declared.how.How.{How}
+use Rattle.gate.proofs.reading.Once.{reads-once}
 use Rattle.rewriting.proofs.Once.{rewrites-once}
 use Rattle.exports.specs.Promises.{Told, ToldAgain}
 

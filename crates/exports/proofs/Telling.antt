@@ -5,10 +5,10 @@ use mathlib.Core.Path.{_≡_}
 use mathlib.Core.List.{List}
 use Rattle.text.specs.Bytes.{Bytes}
 use Rattle.text.specs.declared.separators.Separators.{Separators}
-use Rattle.reading.specs.Answers.{numbersOf}
-use Rattle.reading.specs.Records.{Tables}
-use Rattle.reading.specs.Reads.{Reads}
-use Rattle.reading.specs.declared.answer.Answer.{Answer}
+use Rattle.gate.specs.Answers.{numbersOf}
+use Rattle.gate.specs.Records.{Tables}
+use Rattle.gate.specs.Reads.{Reads}
+use Rattle.gate.specs.declared.answer.Answer.{Answer}
 use Rattle.rewriting.specs.Rewrites.{Rewrites}
 use Rattle.exports.specs.Promises.{Told, ToldAgain}
 

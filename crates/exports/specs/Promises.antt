@@ -6,11 +6,11 @@ use mathlib.Core.List.{List, [], _∷_}
 use Rattle.text.specs.Bytes.{Bytes}
 use Rattle.text.specs.declared.lookup.Span.{Span}
 use Rattle.text.specs.declared.separators.Separators.{Separators}
-use Rattle.reading.specs.Answers.{numbersOf}
-use Rattle.reading.specs.Records.{Tables}
-use Rattle.reading.specs.Reads.{Reads}
-use Rattle.reading.specs.declared.answer.Answer.{Answer}
-use Rattle.reading.specs.declared.how.How.{How}
+use Rattle.gate.specs.Answers.{numbersOf}
+use Rattle.gate.specs.Records.{Tables}
+use Rattle.gate.specs.Reads.{Reads}
+use Rattle.gate.specs.declared.answer.Answer.{Answer}
+use Rattle.gate.specs.declared.how.How.{How}
 use Rattle.rewriting.specs.Rewrites.{Rewrites}
 
 -- three bytes as separators

@@ -2,10 +2,10 @@
 // is written as numbers into an array that the caller lends.
 ghost use mathlib.Core.Path.{_≡_};
 ghost use Rattle.text.specs.Lookup.{elementSpan, componentSpan};
-ghost use Rattle.reading.specs.Answers.{numbersOf};
+ghost use Rattle.gate.specs.Answers.{numbersOf};
 ghost use Rattle.exports.specs.Promises.{separatorsOf, howOf, tablesOf, Told, ToldAgain, spanNumbers};
-use reading::answer::Answer;
-use reading::how::How;
+use gate::answer::Answer;
+use gate::how::How;
 use text::lookup;
 use text::lookup::Span;
 use text::separators::Separators;

@@ -1,15 +1,1 @@
-pub mod Answers
-pub mod Profile
-pub mod Segments
-pub mod Rules
-pub mod Meets
-pub mod Records
-pub mod Reads
-pub mod Conditions
-pub mod Standing
-pub mod Marks
-pub mod Queue
-pub mod Cutting
-pub mod Judgements
-pub mod Settling
-pub mod Loop
+pub mod internal

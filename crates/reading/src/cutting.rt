@@ -3,9 +3,9 @@
 ghost use mathlib.Core.Path.{_≡_};
 ghost use Prim.Native.Nat.{_+_, _≤_, _<_};
 ghost use lib.ListN.{length, set};
-ghost use Rattle.reading.specs.Marks.{markIn, Table, Fills};
-ghost use Rattle.reading.specs.Queue.{bit, Indexed, Reaches, Ready};
-ghost use Rattle.reading.specs.Cutting.{Apart, Cuts, Stops};
+ghost use Rattle.reading.specs.internal.Marks.{markIn, Table, Fills};
+ghost use Rattle.reading.specs.internal.Queue.{bit, Indexed, Reaches, Ready};
+ghost use Rattle.reading.specs.internal.Cutting.{Apart, Cuts, Stops};
 use text::separators::Separators;
 
 // What the bytes hold next.

@@ -2,8 +2,8 @@
 ghost use mathlib.Core.Path.{_≡_};
 ghost use Prim.Native.Nat.{_/_, _≤_, _<_, max};
 ghost use lib.ListN.{length};
-ghost use Rattle.reading.specs.Settling.{stateAfter, refusedAt, acceptedAt, InRoom, SettlesBy, SettlesPlain, SettlesLevel, SettlesLast};
-use crate::answer::Answer;
+ghost use Rattle.reading.specs.internal.Settling.{stateAfter, refusedAt, acceptedAt, InRoom, SettlesBy, SettlesPlain, SettlesLevel, SettlesLast};
+use gate::answer::Answer;
 use crate::judging::Judgement;
 use crate::judging::Notes;
 use crate::judging::State;

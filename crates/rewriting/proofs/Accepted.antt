@@ -12,13 +12,13 @@ use Rattle.text.specs.Pieces.{closed}
 use Rattle.text.specs.Cut.{Placed}
 use Rattle.text.specs.declared.separators.Separators.{Separators}
 use Rattle.text.proofs.View.{fitted}
-use Rattle.reading.specs.Records.{Tables}
-use Rattle.reading.specs.Reads.{Reads}
-use Rattle.reading.specs.Conditions.{Numbering, usedBy}
-use Rattle.reading.specs.declared.answer.Answer.{Answer}
-use Rattle.reading.specs.declared.answer.Answer.the-variants.{Accepted, Refused}
-use Rattle.reading.specs.declared.how.How.{How}
-use Rattle.reading.proofs.Conditions.{accepted-meets}
+use Rattle.gate.specs.Records.{Tables}
+use Rattle.gate.specs.Reads.{Reads}
+use Rattle.gate.specs.Conditions.{Numbering, usedBy}
+use Rattle.gate.specs.declared.answer.Answer.{Answer}
+use Rattle.gate.specs.declared.answer.Answer.the-variants.{Accepted, Refused}
+use Rattle.gate.specs.declared.how.How.{How}
+use Rattle.gate.proofs.conditions.Conditions.{accepted-meets}
 use Rattle.rewriting.specs.Rewrites.{Outcome, Accepting}
 use Rattle.rewriting.specs.Collisions.{clashOf, outset, collisionFrom, newByte}
 use Rattle.rewriting.proofs.Spelling.{texts, spelt, used-length, used-taken}

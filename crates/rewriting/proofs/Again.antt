@@ -17,11 +17,11 @@ use Rattle.elements.specs.Checks.{firstBroken}
 use Rattle.elements.specs.declared.verdict.Verdict.{Verdict}
 use Rattle.elements.specs.declared.verdict.Verdict.the-variants.{Holds, Broken}
 use Rattle.elements.proofs.Verdicts.{each-every}
-use Rattle.reading.specs.Segments.{seen}
-use Rattle.reading.specs.Records.{segmentRecords}
-use Rattle.reading.specs.Reads.{cutBy, skipBy}
-use Rattle.reading.specs.Conditions.{usedBy}
-use Rattle.reading.specs.declared.how.How.{How}
+use Rattle.gate.specs.Segments.{seen}
+use Rattle.gate.specs.Records.{segmentRecords}
+use Rattle.gate.specs.Reads.{cutBy, skipBy}
+use Rattle.gate.specs.Conditions.{usedBy}
+use Rattle.gate.specs.declared.how.How.{How}
 use Rattle.rewriting.specs.Rewrites.{rewritten, apartFrom, collisionChecks, Clash, NoClash, ClashAt, orLater, collision}
 use Rattle.rewriting.specs.Laws.{separatedBy}
 use Rattle.rewriting.specs.Collisions.{newByte}

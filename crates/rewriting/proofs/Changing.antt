@@ -11,8 +11,8 @@ use Rattle.text.specs.Cut.{Placed}
 use Rattle.text.specs.declared.separators.Separators.{Separators}
 use Rattle.text.proofs.Lists.{map-append}
 use Rattle.text.proofs.View.{Fitted, CleanView, written-view, view-unseparated, unseparated-clean, element-separates, component-separates, terminator-separates}
-use Rattle.reading.specs.Segments.{seen}
-use Rattle.reading.specs.declared.how.How.{How}
+use Rattle.gate.specs.Segments.{seen}
+use Rattle.gate.specs.declared.how.How.{How}
 use Rattle.rewriting.specs.Rewrites.{rewritten}
 use Rattle.rewriting.specs.Collisions.{newByte}
 use Rattle.rewriting.proofs.Spelling.{texts}

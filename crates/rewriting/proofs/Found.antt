@@ -17,8 +17,8 @@ use Rattle.text.specs.declared.separators.Separators.{Separators}
 use Rattle.text.proofs.Bools.{and-false, passes}
 use Rattle.text.proofs.View.{terminator-separates}
 use Rattle.elements.proofs.Bytewise.{badFrom, each-bad}
-use Rattle.reading.specs.Reads.{cutBy, skipBy}
-use Rattle.reading.specs.declared.how.How.{How}
+use Rattle.gate.specs.Reads.{cutBy, skipBy}
+use Rattle.gate.specs.declared.how.How.{How}
 use Rattle.rewriting.specs.Rewrites.{Clash, orLater, collision}
 use Rattle.rewriting.specs.Collisions.{clashOf, collides, placeAfter, collisionFrom}
 use Rattle.rewriting.specs.declared.collisions.Place.{Place}

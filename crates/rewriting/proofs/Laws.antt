@@ -12,14 +12,14 @@ use Rattle.text.specs.Pieces.{closed}
 use Rattle.text.specs.Cut.{Placed, Leads}
 use Rattle.text.specs.declared.separators.Separators.{Separators}
 use Rattle.text.proofs.View.{Fitted, fitted, written-view}
-use Rattle.reading.specs.Profile.{nonconformance}
-use Rattle.reading.specs.Segments.{seen, onto, levelsIn}
-use Rattle.reading.specs.Records.{Tables, recorded}
-use Rattle.reading.specs.Reads.{limit, cutBy, skipBy, Reads}
-use Rattle.reading.specs.Conditions.{Numbering, usedBy, Shows, HasRoom}
-use Rattle.reading.specs.declared.answer.Answer.the-variants.{Accepted}
-use Rattle.reading.specs.declared.how.How.{How}
-use Rattle.reading.proofs.Conditions.{accepted-meets, accepted-proper, meets-accepted, numbering-once}
+use Rattle.gate.specs.Profile.{nonconformance}
+use Rattle.gate.specs.Segments.{seen, onto, levelsIn}
+use Rattle.gate.specs.Records.{Tables, recorded}
+use Rattle.gate.specs.Reads.{limit, cutBy, skipBy, Reads}
+use Rattle.gate.specs.Conditions.{Numbering, usedBy, Shows, HasRoom}
+use Rattle.gate.specs.declared.answer.Answer.the-variants.{Accepted}
+use Rattle.gate.specs.declared.how.How.{How}
+use Rattle.gate.proofs.conditions.Conditions.{accepted-meets, accepted-proper, meets-accepted, numbering-once}
 use Rattle.rewriting.specs.Rewrites.{rewritten, Rewrites}
 use Rattle.rewriting.specs.Laws.{separatedBy, SameReport, ReadsTo}
 use Rattle.rewriting.proofs.Spelling.{texts, spelt, used-length, used-taken}

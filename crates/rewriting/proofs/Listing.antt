@@ -10,15 +10,15 @@ use lib.ListN.{length, drop}
 use Rattle.text.specs.Bytes.{Bytes}
 use Rattle.text.specs.Separators.{fitSeparators}
 use Rattle.text.specs.declared.separators.Separators.{Separators}
-use Rattle.reading.specs.Answers.{Listed as ReadingListed}
-use Rattle.reading.specs.Records.{Tables}
-use Rattle.reading.specs.Reads.{Reads}
-use Rattle.reading.specs.declared.answer.Answer.{Answer}
-use Rattle.reading.specs.declared.answer.Answer.the-variants.{Accepted, Refused}
-use Rattle.reading.specs.declared.how.How.{How}
-use Rattle.reading.proofs.Numbers.{refusal-of}
-use Rattle.reading.proofs.Conditions.{accepted-meets, answered}
-use Rattle.reading.proofs.Listing.{listed}
+use Rattle.gate.specs.Answers.{Listed as ReadingListed}
+use Rattle.gate.specs.Records.{Tables}
+use Rattle.gate.specs.Reads.{Reads}
+use Rattle.gate.specs.declared.answer.Answer.{Answer}
+use Rattle.gate.specs.declared.answer.Answer.the-variants.{Accepted, Refused}
+use Rattle.gate.specs.declared.how.How.{How}
+use Rattle.gate.proofs.reading.Numbers.{refusal-of}
+use Rattle.gate.proofs.conditions.Conditions.{accepted-meets, answered}
+use Rattle.gate.proofs.reading.Listing.{listed}
 use Rattle.rewriting.specs.Rewrites.{rewritten, Clash, NoClash, ClashAt, collision, Outcome, Following, Unfit, RewritesFit, Rewrites}
 use Rattle.rewriting.specs.Laws.{Listed}
 

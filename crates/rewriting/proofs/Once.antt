@@ -11,14 +11,14 @@ use Rattle.text.specs.Bytes.{Bytes}
 use Rattle.text.specs.Separators.{fitSeparators}
 use Rattle.text.specs.Cut.{Placed}
 use Rattle.text.specs.declared.separators.Separators.{Separators}
-use Rattle.reading.specs.Profile.{nonconformance}
-use Rattle.reading.specs.Records.{Tables}
-use Rattle.reading.specs.declared.answer.Answer.{Answer}
-use Rattle.reading.specs.declared.answer.Answer.the-variants.{Accepted, Refused}
-use Rattle.reading.specs.declared.how.How.{How}
-use Rattle.reading.proofs.Numbers.{refusal-once}
-use Rattle.reading.proofs.Once.{reads-once}
-use Rattle.reading.proofs.Conditions.{numbering-once}
+use Rattle.gate.specs.Profile.{nonconformance}
+use Rattle.gate.specs.Records.{Tables}
+use Rattle.gate.specs.declared.answer.Answer.{Answer}
+use Rattle.gate.specs.declared.answer.Answer.the-variants.{Accepted, Refused}
+use Rattle.gate.specs.declared.how.How.{How}
+use Rattle.gate.proofs.reading.Numbers.{refusal-once}
+use Rattle.gate.proofs.reading.Once.{reads-once}
+use Rattle.gate.proofs.conditions.Conditions.{numbering-once}
 use Rattle.rewriting.specs.Rewrites.{rewritten, Clash, NoClash, ClashAt, collision, Outcome, Following, Rewriting, Unfit, RewritesFit, Rewrites}
 
 outcome-once : (x : Clash) (room : Bool) (accepted : Answer) (new output : Bytes) (r r′ : Answer) (after after′ : Bytes)

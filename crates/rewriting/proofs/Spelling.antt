@@ -10,9 +10,9 @@ use Rattle.text.specs.Bytes.{Bytes}
 use Rattle.text.specs.Pieces.{closed, Clean}
 use Rattle.text.specs.Cut.{Placed, Leads, Whole}
 use Rattle.text.proofs.Cuts.{Says, cut-says}
-use Rattle.reading.specs.Reads.{cutBy, skipBy}
-use Rattle.reading.specs.Conditions.{usedBy}
-use Rattle.reading.specs.declared.how.How.{How}
+use Rattle.gate.specs.Reads.{cutBy, skipBy}
+use Rattle.gate.specs.Conditions.{usedBy}
+use Rattle.gate.specs.declared.how.How.{How}
 
 -- the bytes of each segment
 abbrev pub texts : List Placed → List Bytes

@@ -6,13 +6,13 @@ use mathlib.Core.List.{List}
 use Rattle.text.specs.Bytes.{Bytes}
 use Rattle.text.specs.Cut.{Placed}
 use Rattle.text.specs.declared.separators.Separators.{Separators}
-use Rattle.reading.specs.Segments.{seen}
-use Rattle.reading.specs.Records.{Tables}
-use Rattle.reading.specs.Reads.{Reads}
-use Rattle.reading.specs.Conditions.{Numbering}
-use Rattle.reading.specs.declared.answer.Answer.{Answer}
-use Rattle.reading.specs.declared.answer.Answer.the-variants.{Accepted, Refused}
-use Rattle.reading.specs.declared.how.How.{How}
+use Rattle.gate.specs.Segments.{seen}
+use Rattle.gate.specs.Records.{Tables}
+use Rattle.gate.specs.Reads.{Reads}
+use Rattle.gate.specs.Conditions.{Numbering}
+use Rattle.gate.specs.declared.answer.Answer.{Answer}
+use Rattle.gate.specs.declared.answer.Answer.the-variants.{Accepted, Refused}
+use Rattle.gate.specs.declared.how.How.{How}
 
 -- the same way of reading, with other separators
 abbrev pub separatedBy : How → Separators → How

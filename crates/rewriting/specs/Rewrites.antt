@@ -16,14 +16,14 @@ use Rattle.text.specs.declared.separators.Separators.{Separators}
 use Rattle.elements.specs.Checks.{Check, each, firstBroken}
 use Rattle.elements.specs.declared.verdict.Verdict.{Verdict}
 use Rattle.elements.specs.declared.verdict.Verdict.the-variants.{Holds, Broken}
-use Rattle.reading.specs.Segments.{seen}
-use Rattle.reading.specs.Answers.{numbersOf}
-use Rattle.reading.specs.Records.{Tables}
-use Rattle.reading.specs.Reads.{Reads}
-use Rattle.reading.specs.Conditions.{Numbering}
-use Rattle.reading.specs.declared.answer.Answer.{Answer}
-use Rattle.reading.specs.declared.answer.Answer.the-variants.{Accepted, Refused}
-use Rattle.reading.specs.declared.how.How.{How}
+use Rattle.gate.specs.Segments.{seen}
+use Rattle.gate.specs.Answers.{numbersOf}
+use Rattle.gate.specs.Records.{Tables}
+use Rattle.gate.specs.Reads.{Reads}
+use Rattle.gate.specs.Conditions.{Numbering}
+use Rattle.gate.specs.declared.answer.Answer.{Answer}
+use Rattle.gate.specs.declared.answer.Answer.the-variants.{Accepted, Refused}
+use Rattle.gate.specs.declared.how.How.{How}
 
 -- the segments as they are written with the new separators: every view again, and a terminator after each
 abbrev pub rewritten : How → Separators → List Placed → Bytes

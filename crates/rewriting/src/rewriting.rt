@@ -4,14 +4,14 @@ ghost use mathlib.Core.List.{map};
 ghost use Prim.Native.Nat.{_≤_};
 ghost use lib.Dec.{leb};
 ghost use lib.ListN.{length, take};
-ghost use Rattle.reading.specs.declared.answer.Answer.the-variants.{Accepted};
+ghost use Rattle.gate.specs.declared.answer.Answer.the-variants.{Accepted};
 ghost use Rattle.rewriting.specs.Collisions.{clashOf, newByte, outset, collisionFrom};
 ghost use Rattle.rewriting.specs.Rewrites.{Outcome, Rewrites};
 use crate::collisions;
 use crate::collisions::Collision;
 use crate::writing;
-use reading::answer::Answer;
-use reading::how::How;
+use gate::answer::Answer;
+use gate::how::How;
 use text::separators::Separators;
 
 // Writes the bytes that an accepted reading used; 18 or 19 where that cannot be.

@@ -1,7 +1,7 @@
 // The gate as a program: reads a report from standard input with the standard separators, and lists its segments and levels, or says in
 // one line why it is refused. What decides is `reading::read`; this crate only prints.
-use reading::answer::Answer;
-use reading::how::How;
+use gate::answer::Answer;
+use gate::how::How;
 use text::separators::Separators;
 
 fn word(bytes: &[u8]) {

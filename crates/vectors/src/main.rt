@@ -8,8 +8,8 @@
 ghost use mathlib.Core.Path.{_≡_};
 ghost use Prim.Native.Nat.{_<_, _≤_};
 ghost use lib.ListN.{length};
-use reading::answer::Answer;
-use reading::how::How;
+use gate::answer::Answer;
+use gate::how::How;
 use text::lookup;
 use text::lookup::Span;
 use text::separators::Separators;

@@ -2,7 +2,7 @@
 -- Assumes nothing.
 use mathlib.Core.Path.{sym, ap}
 use borrow.Author.Needs.{needs}
-use Rattle.reading.specs.Answers.{numbersOf}
+use Rattle.gate.specs.Answers.{numbersOf}
 use Rattle.exports.proofs.four.Statement.{statement}
 use Rattle.exports.proofs.four.Tie as tie
 

@@ -3,7 +3,7 @@
 use Prim.Native.Nat.{_+_, _-_, _≤_}
 use native.Mathlib.Omega.{arith}
 use borrow.Author.Needs.{needs}
-use Rattle.reading.proofs.CutMarks.{Filled, filled-none, filled-more, filled-all}
+use Rattle.reading.proofs.cut.Marks.{Filled, filled-none, filled-more, filled-all}
 use Rattle.reading.proofs.cutting.fill.Statement.{statement}
 use Rattle.reading.proofs.cutting.fill.Tie as tie
 

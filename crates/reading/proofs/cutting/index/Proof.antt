@@ -3,7 +3,7 @@
 use Prim.Native.Nat.{_+_, _-_, _≤_}
 use native.Mathlib.Omega.{arith}
 use borrow.Author.Needs.{needs}
-use Rattle.reading.proofs.CutIndex.{Counted, counted-none, counted-more, counted-at, counted-all, at-most-one}
+use Rattle.reading.proofs.cut.Index.{Counted, counted-none, counted-more, counted-at, counted-all, at-most-one}
 use Rattle.reading.proofs.cutting.index.Statement.{statement}
 use Rattle.reading.proofs.cutting.index.Tie as tie
 

@@ -4,7 +4,7 @@ use mathlib.Core.Path.{ap}
 use native.Mathlib.Omega.{arith}
 use borrow.Author.Needs.{needs}
 use Rattle.text.proofs.Lists.{any-default}
-use Rattle.reading.specs.Queue.{bit}
+use Rattle.reading.specs.internal.Queue.{bit}
 use Rattle.reading.proofs.cutting.mark.Statement.{statement}
 use Rattle.reading.proofs.cutting.mark.Tie as tie
 

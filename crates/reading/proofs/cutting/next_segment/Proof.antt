@@ -5,8 +5,8 @@ use Prim.Native.Nat.{_-_}
 use native.Mathlib.Omega.{arith}
 use lib.ListN.{length}
 use borrow.Author.Needs.{needs}
-use Rattle.reading.proofs.CutWalk.{Walk, walk-none, count-small, inside, on-element, on-component, on-refill}
-use Rattle.reading.proofs.CutExits.{at-end, at-bad, at-last}
+use Rattle.reading.proofs.cut.Walk.{Walk, walk-none, count-small, inside, on-element, on-component, on-refill}
+use Rattle.reading.proofs.cut.Exits.{at-end, at-bad, at-last}
 use Rattle.reading.proofs.cutting.next_segment.Statement.{statement}
 use Rattle.reading.proofs.cutting.next_segment.Tie as tie
 

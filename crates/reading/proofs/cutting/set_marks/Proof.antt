@@ -2,7 +2,7 @@
 -- Assumes nothing.
 use native.Mathlib.Omega.{arith}
 use borrow.Author.Needs.{needs}
-use Rattle.reading.proofs.CutMarks.{table-right}
+use Rattle.reading.proofs.cut.Marks.{table-right}
 use Rattle.reading.proofs.cutting.set_marks.Statement.{statement}
 use Rattle.reading.proofs.cutting.set_marks.Tie as tie
 

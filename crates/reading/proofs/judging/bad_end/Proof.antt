@@ -1,7 +1,7 @@
 -- `bad_end` meets its contract.
 -- Assumes nothing.
 use mathlib.Core.Path.{sym, ap, _∙_}
-use Rattle.reading.specs.Judgements.{brokenBy}
+use Rattle.reading.specs.internal.Judgements.{brokenBy}
 use borrow.Author.Needs.{needs}
 use Rattle.reading.proofs.judging.bad_end.Statement.{statement}
 use Rattle.reading.proofs.judging.bad_end.Tie as tie

@@ -4,8 +4,8 @@ use mathlib.Core.Path.{_≡_, subst}
 use mathlib.Core.Bool.{Bool, true, false, not}
 use native.Mathlib.Omega.{arith}
 use lib.Dec.{T}
-use Rattle.reading.specs.Judgements.{Known}
-use Rattle.reading.proofs.JudgeSteps.{judges-tag, judges-end}
+use Rattle.reading.specs.internal.Judgements.{Known}
+use Rattle.reading.proofs.reader.JudgeSteps.{judges-tag, judges-end}
 use borrow.Author.Needs.{needs}
 use Rattle.reading.proofs.judging.judge.Statement.{statement}
 use Rattle.reading.proofs.judging.judge.Tie as tie

@@ -1,6 +1,6 @@
 -- `judge_hl` meets its contract.
 -- Assumes nothing.
-use Rattle.reading.proofs.Placings.{hl-judged}
+use Rattle.reading.proofs.reader.Placings.{hl-judged}
 use borrow.Author.Needs.{needs}
 use Rattle.reading.proofs.judging.judge_hl.Statement.{statement}
 use Rattle.reading.proofs.judging.judge_hl.Tie as tie

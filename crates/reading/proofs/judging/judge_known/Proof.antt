@@ -1,7 +1,7 @@
 -- `judge_known` meets its contract: the row, the elements, then the late rules, as `JudgeSteps` says.
 -- Assumes nothing.
 use mathlib.Core.Path.{refl}
-use Rattle.reading.proofs.JudgeSteps.{judges-row, judges-element, judges-rest}
+use Rattle.reading.proofs.reader.JudgeSteps.{judges-row, judges-element, judges-rest}
 use borrow.Author.Needs.{needs}
 use Rattle.reading.proofs.judging.judge_known.Statement.{statement}
 use Rattle.reading.proofs.judging.judge_known.Tie as tie

@@ -2,7 +2,7 @@
 -- Assumes nothing.
 use mathlib.Core.Path.{refl, sym, ap, _∙_}
 use borrow.Author.Tests.{eq-eqb, ne-eqb}
-use Rattle.reading.specs.Judgements.{byClosing}
+use Rattle.reading.specs.internal.Judgements.{byClosing}
 use borrow.Author.Needs.{needs}
 use Rattle.reading.proofs.judging.judge_late.Statement.{statement}
 use Rattle.reading.proofs.judging.judge_late.Tie as tie

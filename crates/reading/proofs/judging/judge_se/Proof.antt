@@ -7,8 +7,8 @@ use Rattle.elements.specs.Types.{numberOf}
 use Rattle.elements.specs.Post.{notedElement}
 use Rattle.levels.specs.Rules.{filled}
 use Rattle.levels.specs.Told.{told}
-use Rattle.reading.specs.Judgements.{openingControl}
-use Rattle.reading.proofs.Closings.{no-number, other-number, other-control, not-full, all-closed, same-by}
+use Rattle.reading.specs.internal.Judgements.{openingControl}
+use Rattle.reading.proofs.reader.ClosingTests.{no-number, other-number, other-control, not-full, all-closed, same-by}
 use borrow.Author.Needs.{needs}
 use Rattle.reading.proofs.judging.judge_se.Statement.{statement}
 use Rattle.reading.proofs.judging.judge_se.Tie as tie

@@ -4,7 +4,7 @@ use mathlib.Core.Path.{sym, _∙_}
 use lib.Seq.{length-take-le}
 use borrow.Author.Tests.{lt-ltb, le-ltb}
 use Rattle.text.proofs.Spans.{lies}
-use Rattle.reading.specs.Judgements.{openingControl}
+use Rattle.reading.specs.internal.Judgements.{openingControl}
 use borrow.Author.Needs.{needs}
 use Rattle.reading.proofs.judging.opening_control.Statement.{statement}
 use Rattle.reading.proofs.judging.opening_control.Tie as tie

@@ -2,7 +2,7 @@
 -- Assumes nothing.
 use Prim.Native.Nat.{_-_}
 use lib.ListN.{length}
-use Rattle.reading.proofs.Closings.{Alike, alike-none, alike-more, alike-differ, alike-all, other-length}
+use Rattle.reading.proofs.reader.ClosingTests.{Alike, alike-none, alike-more, alike-differ, alike-all, other-length}
 use borrow.Author.Needs.{needs}
 use Rattle.reading.proofs.judging.same_bytes.Statement.{statement}
 use Rattle.reading.proofs.judging.same_bytes.Tie as tie

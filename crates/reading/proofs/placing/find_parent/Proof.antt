@@ -1,6 +1,6 @@
 -- `find_parent` meets its contract: near, or by search.
 -- Assumes nothing.
-use Rattle.reading.proofs.Placings.{near-found}
+use Rattle.reading.proofs.reader.Placings.{near-found}
 use borrow.Author.Needs.{needs}
 use Rattle.reading.proofs.placing.find_parent.Statement.{statement}
 use Rattle.reading.proofs.placing.find_parent.Tie as tie

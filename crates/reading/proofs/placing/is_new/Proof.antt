@@ -4,7 +4,7 @@ use mathlib.Core.Path.{ap}
 use Prim.Native.Nat.{ℕ}
 use lib.Dec.{eqb}
 use Rattle.levels.specs.Told.{told}
-use Rattle.reading.proofs.Placings.{new-above}
+use Rattle.reading.proofs.reader.Placings.{new-above}
 use borrow.Author.Needs.{needs}
 use Rattle.reading.proofs.placing.is_new.Statement.{statement}
 use Rattle.reading.proofs.placing.is_new.Tie as tie

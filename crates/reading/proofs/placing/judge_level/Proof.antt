@@ -5,7 +5,7 @@ use borrow.Author.Tests.{not-true, not-false}
 use Rattle.levels.specs.Levels.{Claim, Level}
 use Rattle.levels.specs.Told.{told}
 use Rattle.levels.proofs.Seeking.{told-called}
-use Rattle.reading.proofs.Placings.{placed-used, placed-root, placed-nowhere, placed-under}
+use Rattle.reading.proofs.reader.Placings.{placed-used, placed-root, placed-nowhere, placed-under}
 use borrow.Author.Needs.{needs}
 use Rattle.reading.proofs.placing.judge_level.Statement.{statement}
 use Rattle.reading.proofs.placing.judge_level.Tie as tie

@@ -2,7 +2,7 @@
 -- Assumes nothing.
 use mathlib.Core.Path.{sym, ap, _∙_}
 use Rattle.elements.specs.declared.verdict.Verdict.{Verdict}
-use Rattle.reading.specs.Settling.{refusedBy}
+use Rattle.reading.specs.internal.Settling.{refusedBy}
 use borrow.Author.Needs.{needs}
 use Rattle.reading.proofs.reading.bad_bytes.Statement.{statement}
 use Rattle.reading.proofs.reading.bad_bytes.Tie as tie

@@ -2,7 +2,7 @@
 -- Assumes nothing.
 use borrow.Author.Needs.{needs}
 use Rattle.text.proofs.View.{fitted}
-use Rattle.reading.proofs.Openings.{passed-test, unfit-refuses, long-refuses, segments-decide}
+use Rattle.reading.proofs.reader.FirstTests.{passed-test, unfit-refuses, long-refuses, segments-decide}
 use Rattle.reading.proofs.reading.read.Statement.{statement}
 use Rattle.reading.proofs.reading.read.Tie as tie
 

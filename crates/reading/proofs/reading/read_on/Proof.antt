@@ -4,10 +4,10 @@ use Prim.Native.Nat.{_-_}
 use mathlib.Core.Path.{refl}
 use native.Mathlib.Omega.{arith}
 use lib.ListN.{length}
-use Rattle.reading.specs.Loop.{Going}
+use Rattle.reading.specs.internal.Loop.{Going}
 use borrow.Author.Needs.{needs}
-use Rattle.reading.proofs.CutFacts.{fitted-apart}
-use Rattle.reading.proofs.Goings.{going-start, segments-few, segments-same, levels-same, open-refuses, bad-within, bad-refuses, cut-good, good-forward, good-within, good-inside, in-room, settled-done, settled-passed}
+use Rattle.reading.proofs.cut.Facts.{fitted-apart}
+use Rattle.reading.proofs.reader.Going.{going-start, segments-few, segments-same, levels-same, open-refuses, bad-within, bad-refuses, cut-good, good-forward, good-within, good-inside, in-room, settled-done, settled-passed}
 use Rattle.reading.proofs.reading.read_on.Statement.{statement}
 use Rattle.reading.proofs.reading.read_on.Tie as tie
 

@@ -1,7 +1,7 @@
 -- `close` meets its contract: where there is room the transaction is accepted.
 -- Assumes nothing.
 use mathlib.Core.Path.{refl}
-use Rattle.reading.proofs.Settles.{room, no-room, full-last, settles-last}
+use Rattle.reading.proofs.reader.Settles.{room, no-room, full-last, settles-last}
 use borrow.Author.Needs.{needs}
 use Rattle.reading.proofs.settling.close.Statement.{statement}
 use Rattle.reading.proofs.settling.close.Tie as tie

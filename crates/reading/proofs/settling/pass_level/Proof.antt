@@ -4,7 +4,7 @@ use Prim.Native.Nat.{_/_, _<_}
 use mathlib.Core.Path.{refl}
 use native.Mathlib.Omega.{arith}
 use lib.ListN.{length}
-use Rattle.reading.proofs.Settles.{room, no-room, full-level, full-levels, settles-level}
+use Rattle.reading.proofs.reader.Settles.{room, no-room, full-level, full-levels, settles-level}
 use borrow.Author.Needs.{needs}
 use Rattle.reading.proofs.settling.pass_level.Statement.{statement}
 use Rattle.reading.proofs.settling.pass_level.Tie as tie

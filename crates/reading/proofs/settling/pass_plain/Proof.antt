@@ -1,7 +1,7 @@
 -- `pass_plain` meets its contract: where there is room the reader stands behind the segment.
 -- Assumes nothing.
 use mathlib.Core.Path.{refl}
-use Rattle.reading.proofs.Settles.{room, no-room, full-plain, settles-plain}
+use Rattle.reading.proofs.reader.Settles.{room, no-room, full-plain, settles-plain}
 use borrow.Author.Needs.{needs}
 use Rattle.reading.proofs.settling.pass_plain.Statement.{statement}
 use Rattle.reading.proofs.settling.pass_plain.Tie as tie

@@ -1,6 +1,6 @@
 -- `settle` meets its contract: each judgement is settled by a function of its own.
 -- Assumes nothing.
-use Rattle.reading.proofs.Settles.{settles-broken, judged-so}
+use Rattle.reading.proofs.reader.Settles.{settles-broken, judged-so}
 use borrow.Author.Needs.{needs}
 use Rattle.reading.proofs.settling.settle.Statement.{statement}
 use Rattle.reading.proofs.settling.settle.Tie as tie

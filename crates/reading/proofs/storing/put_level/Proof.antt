@@ -1,6 +1,6 @@
 -- `put_level` meets its contract: the numbers are stored one after the other.
 -- Assumes nothing.
-use Rattle.reading.proofs.Stores.{level-set}
+use Rattle.reading.proofs.reader.Stores.{level-set}
 use borrow.Author.Needs.{needs}
 use Rattle.reading.proofs.storing.put_level.Statement.{statement}
 use Rattle.reading.proofs.storing.put_level.Tie as tie

@@ -1,6 +1,6 @@
 -- `put_segment` meets its contract: the numbers are stored one after the other.
 -- Assumes nothing.
-use Rattle.reading.proofs.Stores.{segment-set}
+use Rattle.reading.proofs.reader.Stores.{segment-set}
 use borrow.Author.Needs.{needs}
 use Rattle.reading.proofs.storing.put_segment.Statement.{statement}
 use Rattle.reading.proofs.storing.put_segment.Tie as tie

@@ -1,0 +1,4 @@
+pub mod reading
+pub mod whole
+pub mod continuing
+pub mod conditions

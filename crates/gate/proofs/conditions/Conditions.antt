@@ -1,0 +1,179 @@
+-- The conditions of acceptance, as theorems about the promise of reading.
+-- Assumes nothing.
+use Prim.Native.Nat.{ℕ, _+_, _*_, _≤_}
+use mathlib.Core.Path.{_≡_, refl, ap, _∙_}
+use mathlib.Core.Bool.{Bool, true, false}
+use mathlib.Core.List.{List, [], _∷_, _++_}
+use native.Mathlib.Omega.{arith}
+use lib.Dec.{T, leb}
+use lib.ListN.{length, take, replicate, length-replicate, length-map}
+use borrow.Author.Tests.{leb-true, le-leb}
+use Rattle.text.specs.Bytes.{Bytes}
+use Rattle.text.specs.Separators.{fitSeparators}
+use Rattle.text.specs.View.{View, viewOf}
+use Rattle.text.specs.Cut.{Placed}
+use Rattle.text.proofs.Bools.{passes}
+use Rattle.gate.specs.Answers.{Fault}
+use Rattle.gate.specs.Profile.{nonconformance}
+use Rattle.gate.specs.Segments.{seen, onto}
+use Rattle.gate.specs.Records.{Tables, segmentRoom, levelRoom, recorded}
+use Rattle.gate.specs.Reads.{limit, Run, Read, ReadsWithin, ReadsFit, ReadsBy, Reads}
+use Rattle.gate.specs.Conditions.{Numbering, Shows, HasRoom, upToSegment, Final, Continues}
+use Rattle.gate.specs.declared.answer.Answer.{Answer}
+use Rattle.gate.specs.declared.answer.Answer.the-variants.{Accepted, Refused}
+use Rattle.gate.specs.declared.how.How.{How}
+use Rattle.gate.proofs.reading.Numbers.{refusal-of}
+use Rattle.gate.proofs.reading.Once.{run-once}
+use Rattle.gate.proofs.conditions.Accepting.{Transaction, accepted-transaction, accepted-numbers, transaction-accepted}
+use Rattle.gate.proofs.whole.AllRules.{meets-from, from-meets}
+use Rattle.gate.proofs.continuing.AddedLevels.{levels-few}
+use Rattle.gate.proofs.reading.Reference.{compute, computes}
+use Rattle.gate.proofs.continuing.NotEarly.{fault-continues}
+use Rattle.gate.proofs.conditions.Finality.{refusal-stands, acceptance-stands}
+
+-- with fit separators and a length within the limit the promise is that of a reading, and back
+module _ (how : How) (s : Bytes) (fit : T (fitSeparators (how .separators))) (short : length s ≤ limit) (before : Tables) (r : Answer) (after : Tables) where
+  pub reads-read : Reads how s before r after → Read nonconformance how s before r after
+  unfolding ReadsBy
+  reads-read x = rw (passes (fitSeparators (how .separators)) fit, le-leb (length s) limit short) at x
+
+-- an answer other than 1 and 2 comes of a reading, with fit separators and a length within the limit
+pub record Proper (how : How) (s : Bytes) (before : Tables) (r : Answer) (after : Tables) : Type 0 where
+  pub fit : T (fitSeparators (how .separators))
+  pub short : length s ≤ limit
+  pub read : Read nonconformance how s before r after
+
+pub proper : (how : How) (s : Bytes) (before : Tables) (r : Answer) (after : Tables) → (r ≡ Refused 1 0 0 0 → ⊥) → (r ≡ Refused 2 0 0 0 → ⊥)
+    → Reads how s before r after → Proper how s before r after
+unfolding ReadsBy
+proper how s before r after not-1 not-2 x = fit (fitSeparators (how .separators)) refl x
+  where
+    within : (b : Bool) → leb (length s) limit ≡ b → T (fitSeparators (how .separators)) → ReadsWithin b nonconformance how s before r after
+        → Proper how s before r after
+    within true e f y = record { fit = f; short = leb-true (length s) limit e; read = y }
+    within false e f y = absurd (not-2 (refusal-of r 2 0 0 0 (omega arith) (y .answer)))
+
+    fit : (b : Bool) → fitSeparators (how .separators) ≡ b → ReadsFit b nonconformance how s before r after → Proper how s before r after
+    fit true e y = within (leb (length s) limit) refl (rw e tt) y
+    fit false e y = absurd (not-1 (refusal-of r 1 0 0 0 (omega arith) (y .answer)))
+
+number-of : Answer → ℕ
+number-of (Accepted a l b) = 0
+number-of (Refused n k b e) = n
+
+fault-proper : (how : How) (s : Bytes) (before : Tables) (n k b e : ℕ) (after : Tables) → Fault n → Reads how s before (Refused n k b e) after
+    → Proper how s before (Refused n k b e) after
+unfolding number-of
+fault-proper how s before n k b e after f x =
+    proper how s before (Refused n k b e) after (λ q. omega (arith, ap number-of q, f .from)) (λ q. omega (arith, ap number-of q, f .from)) x
+
+pub accepted-proper : (how : How) (s : Bytes) (before : Tables) (a l b : ℕ) (after : Tables) → Reads how s before (Accepted a l b) after
+    → Proper how s before (Accepted a l b) after
+unfolding number-of
+accepted-proper how s before a l b after x =
+    proper how s before (Accepted a l b) after (λ q. omega (arith, ap number-of q)) (λ q. omega (arith, ap number-of q)) x
+
+-- an answer that a run gives is the answer of every reading of those bytes
+only-answer : (how : How) (s : Bytes) (t : Tables) (r : Answer) (kept : List Placed) (w : List ℕ) → T (fitSeparators (how .separators)) → length s ≤ limit
+    → Run nonconformance how t s r kept w → (r′ : Answer) (after : Tables) → Reads how s t r′ after → r′ ≡ r
+only-answer how s t r kept w fit short x r′ after y = run-once (reads-read how s fit short t r′ after y .run) x .0
+
+-- Condition 3: "A verdict is final". A fault stands whatever follows the segment, with any larger tables
+pub refusal-final : (how : How) (s : Bytes) (before : Tables) (n k b e : ℕ) (after : Tables) → Fault n → Reads how s before (Refused n k b e) after
+    → Final how before (upToSegment how s b) (Refused n k b e)
+refusal-final how s before n k b e after f x more short u larger r′ after′ y =
+    let p = fault-proper how s before n k b e after f x in
+    only-answer how (upToSegment how s b ++ more) u (Refused n k b e) (p .read .kept) (p .read .numbers) (p .fit) short
+    (refusal-stands nonconformance how before u larger s n k b e (p .read .kept) (p .read .numbers) f (p .read .run) more) r′ after′ y
+
+-- an acceptance stands under more bytes within the limit and under more room
+pub acceptance-final : (how : How) (s : Bytes) (before : Tables) (a l b : ℕ) (after : Tables) → Reads how s before (Accepted a l b) after
+    → Final how before (take b s) (Accepted a l b)
+acceptance-final how s before a l b after x more short u larger r′ after′ y =
+    let p = accepted-proper how s before a l b after x in
+    only-answer how (take b s ++ more) u (Accepted a l b) (p .read .kept) (p .read .numbers) (p .fit) short
+    (acceptance-stands nonconformance how before u larger s a l b (p .read .kept) (p .read .numbers) (p .read .run) more) r′ after′ y
+
+-- a refusal comes no sooner than it must: the segments before the fault can be continued to a transaction that meets every rule
+pub refusal-not-early : (how : How) (s : Bytes) (before : Tables) (n k b e : ℕ) (after : Tables) → Fault n → Reads how s before (Refused n k b e) after
+    → Continues how s k b
+refusal-not-early how s before n k b e after f x =
+    let p = fault-proper how s before n k b e after f x in
+    fault-continues how before s n k b e (p .read .kept) (p .read .numbers) (p .fit) (p .short) f (p .read .run)
+
+-- Condition 2: what is accepted is a numbering that meets every rule, with room, and the tables show it
+pub accepted-meets : (how : How) (s : Bytes) (before : Tables) (a l b : ℕ) (after : Tables) → Reads how s before (Accepted a l b) after
+    → (gs : List Placed) × (rows : List ℕ) × Numbering how s gs rows × HasRoom how before gs × Shows how before gs rows (Accepted a l b) after
+accepted-meets how s before a l b after x =
+    let p = accepted-proper how s before a l b after x in
+    let r = p .read in
+    let t = accepted-transaction nonconformance how before s a l b (r .kept) (r .numbers) (r .run) in (
+      r .kept,
+      r .numbers,
+      record { end = t .end; rest = t .rest; leads = t .leads; meets = from-meets nonconformance (seen how (r .kept)) (r .numbers) (t .meets) },
+      t .room,
+      record { answer = accepted-numbers nonconformance how before s a l b (r .kept) (r .numbers) (r .run); tables = r .tables },
+    )
+
+-- a numbering that meets every rule, with room, is a transaction
+numbering-transaction : (how : How) (s : Bytes) (t : Tables) (gs : List Placed) (rows : List ℕ) → Numbering how s gs rows → HasRoom how t gs
+    → Transaction nonconformance how t s gs rows
+numbering-transaction how s t gs rows n r =
+    record { end = n .end; rest = n .rest; leads = n .leads; meets = meets-from nonconformance (seen how gs) rows (n .meets); room = r }
+
+-- and back: with fit separators and a length within the limit, where some numbering meets every rule and there is room, the answer is that
+-- acceptance, and the tables show the numbering
+pub meets-accepted : (how : How) (s : Bytes) (before : Tables) (gs : List Placed) (rows : List ℕ) → T (fitSeparators (how .separators)) → length s ≤ limit
+    → Numbering how s gs rows → HasRoom how before gs → (r : Answer) (after : Tables) → Reads how s before r after → Shows how before gs rows r after
+meets-accepted how s before gs rows fit short n room r after x =
+    let y = reads-read how s fit short before r after x in
+    let u = run-once (y .run) (transaction-accepted nonconformance how before s gs rows (numbering-transaction how s before gs rows n room)) in
+    record { answer = u .0; tables = y .tables ∙ (λ i. recorded nonconformance how before (u .1 i) (u .2 i)) }
+
+-- there are tables with room for any segments
+roomy : ℕ → Tables
+roomy n = record { segments = replicate (n * 3) 0; levels = replicate (n * 4) 0 }
+
+roomy-room : (how : How) (gs : List Placed) (n : ℕ) → length gs ≤ n → HasRoom how (roomy n) gs
+unfolding roomy
+roomy-room how gs n l = record {
+  segments-fit = simp length-replicate (omega (arith, views-number, l));
+  levels-fit = simp length-replicate (omega (arith, views-number, levels-few (onto [] (seen how gs)), l));
+}
+  where
+    onto-length : (h vs : List View) → length (onto h vs) ≡ length h + length vs
+    onto-length h [] = omega arith
+    onto-length h (v ∷ vs) = onto-length (v ∷ h) vs ∙ omega arith
+
+    views-number : length (onto [] (seen how gs)) ≡ length gs
+    views-number = onto-length [] (seen how gs) ∙ omega (arith, length-map gs (λ (g : Placed). viewOf (how .separators) (g .segment)))
+
+-- the numbering is the only one
+pub numbering-once : (how : How) (s : Bytes) (gs gs′ : List Placed) (rows rows′ : List ℕ) → Numbering how s gs rows → Numbering how s gs′ rows′
+    → (gs ≡ gs′) × (rows ≡ rows′)
+numbering-once how s gs gs′ rows rows′ a b =
+    let t = roomy (length gs + length gs′) in
+    let u =
+    run-once
+    (transaction-accepted nonconformance how t s gs rows (numbering-transaction how s t gs rows a (roomy-room how gs (length gs + length gs′) (omega arith))))
+    (transaction-accepted nonconformance how t s gs′ rows′
+    (numbering-transaction how s t gs′ rows′ b (roomy-room how gs′ (length gs + length gs′) (omega arith)))) in
+    (u .1, u .2)
+
+-- Condition 1: every input, every separators and every tables have an answer that the promise allows
+pub answered : (how : How) (s : Bytes) (before : Tables) → (r : Answer) × (after : Tables) × Reads how s before r after
+unfolding ReadsBy
+answered how s before = fit (fitSeparators (how .separators))
+  where
+    within : (b : Bool) → (r : Answer) × (after : Tables) × ReadsWithin b nonconformance how s before r after
+    within true =
+        let o = compute nonconformance how (segmentRoom before) (levelRoom before) s in (
+          o .0,
+          recorded nonconformance how before (o .1) (o .2),
+          record { kept = o .1; numbers = o .2; run = computes nonconformance how before s; tables = refl },
+        )
+    within false = (Refused 2 0 0 0, before, record { answer = refl; unchanged = refl })
+
+    fit : (b : Bool) → (r : Answer) × (after : Tables) × ReadsFit b nonconformance how s before r after
+    fit true = within (leb (length s) limit)
+    fit false = (Refused 1 0 0 0, before, record { answer = refl; unchanged = refl })

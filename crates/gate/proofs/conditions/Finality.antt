@@ -1,0 +1,156 @@
+-- A verdict is final: a fault at a segment stands whatever follows what the cut has looked at and with any larger tables, and so does an
+-- acceptance. It follows from the laws of the cut alone.
+-- Assumes nothing.
+use Prim.Native.Nat.{ℕ, _+_, _<_}
+use mathlib.Core.Path.{_≡_, refl, sym, ap, subst, _∙_}
+use mathlib.Core.Logic.{_⊎_, inl, inr}
+use mathlib.Core.List.{List, [], _∷_, _++_, append-assoc}
+use native.Mathlib.Omega.{arith}
+use lib.ListN.{length, take, drop, length-append}
+use lib.Seq.{take-at, drop-at}
+use Rattle.text.specs.Bytes.{Bytes}
+use Rattle.text.specs.View.{View, viewOf}
+use Rattle.text.specs.Cut.{Cut, Whole, Stop, Placed}
+use Rattle.text.proofs.Cutting.{Keeps, Front, leads-front}
+use Rattle.text.proofs.Cuts.{cut-keeps, skip-keeps}
+use Rattle.gate.specs.Answers.{Fault}
+use Rattle.gate.specs.Profile.{Profile}
+use Rattle.gate.specs.Segments.{seen, onto}
+use Rattle.gate.specs.Records.{Tables, Room}
+use Rattle.gate.specs.Reads.{cutBy, skipBy, Passed, Run}
+use Rattle.gate.specs.Conditions.{Larger, lookedAt, upToSegment}
+use Rattle.gate.specs.declared.answer.Answer.the-variants.{Accepted, Refused}
+use Rattle.gate.specs.declared.how.How.{How}
+use Rattle.gate.proofs.reading.Once.{Fails}
+
+-- room in a table is room in a larger one
+pub room-larger : (profile : Profile) (t u : Tables) (h : List View) → Larger t u → Room profile t h → Room profile u h
+room-larger profile t u h l r = record { segments-fit = omega (arith, r .segments-fit, l .segments); levels-fit = omega (arith, r .levels-fit, l .levels) }
+
+-- what was passed is passed again where the first byte of the rest stays, in larger tables
+module _ (profile : Profile) (how : How) (t u : Tables) (larger : Larger t u) where
+  passed-again : (s : Bytes) (gs : List Placed) (rows : List ℕ) (end b : ℕ) (y z : Bytes) → Passed profile how t s gs rows end (b ∷ y)
+      → (f : Front (how .separators .terminator) (cutBy how) (skipBy how) (cut-keeps (how .separators)) (skip-keeps (how .separators)) 0 s gs end b y)
+      → Passed profile how u (f .front ++ b ∷ z) gs rows end (b ∷ z)
+  passed-again s gs rows end b y z p f = record {
+    leads = f .still b z (inl refl);
+    viable = p .viable;
+    tags = p .tags;
+    kept = p .kept;
+    ongoing = p .ongoing;
+    room = room-larger profile t u (onto [] (seen how gs)) larger (p .room);
+  }
+
+  -- the whole part of a cut, and what it keeps
+  whole-keeps : (rest g m : Bytes) → cutBy how rest ≡ Whole g m → Keeps (how .separators .terminator) (cutBy how) rest (Whole g m)
+  whole-keeps rest g m e = subst (λ (c : Cut). Keeps (how .separators .terminator) (cutBy how) rest c) e (cut-keeps (how .separators) rest)
+
+  -- bytes whose rest begins with what was looked at, which is not empty
+  record Looked (s : Bytes) (gs : List Placed) (rows : List ℕ) (end : ℕ) (x old : Bytes) : Type 0 where
+    pub front : Bytes
+    pub whole : s ≡ front ++ (x ++ old)
+    pub place : end ≡ length front
+    pub again : (more : Bytes) → Passed profile how u (front ++ (x ++ more)) gs rows end (x ++ more)
+
+  looked : (s : Bytes) (gs : List Placed) (rows : List ℕ) (end : ℕ) (x old : Bytes) → Passed profile how t s gs rows end (x ++ old) → 0 < length x
+      → Looked s gs rows end x old
+  looked s gs rows end [] old p l = absurd (omega arith)
+  looked s gs rows end (b ∷ x) old p l =
+      let f =
+      leads-front (how .separators .terminator) (cutBy how) (skipBy how) (cut-keeps (how .separators)) (skip-keeps (how .separators)) 0 s gs end b
+      (x ++ old) (p .leads) in
+      record {
+        front = f .front;
+        whole = f .whole;
+        place = omega (arith, f .end-is);
+        again = λ more. passed-again s gs rows end b (x ++ old) (x ++ more) p f;
+      }
+
+  -- bytes up to the end of the segment, from the place of the answer
+  upto-is : (s front x old : Bytes) (b : ℕ) → s ≡ front ++ (x ++ old) → b ≡ length front → lookedAt how (cutBy how (x ++ old)) ≡ x
+      → upToSegment how s b ≡ front ++ x
+  upto-is s front x old b e l k =
+      let d : drop b s ≡ x ++ old = ap (drop b) e ∙ drop-at front (x ++ old) b (sym l) in
+      let a : take b s ≡ front = ap (take b) e ∙ take-at front (x ++ old) b (sym l) in
+      rw (a, d, k)
+
+  -- the same fault, where the rest begins with what was looked at
+  stands : (s : Bytes) (n k b e : ℕ) (kept : List Placed) (w : List ℕ) (r : Run profile how t s (Refused n k b e) kept w) (x old more : Bytes)
+      → 0 < length x → r .rest ≡ x ++ old → lookedAt how (cutBy how (x ++ old)) ≡ x → Fails profile how u (r .gs) (r .rows) (r .end) (x ++ more) n e
+      → Run profile how u (upToSegment how s b ++ more) (Refused n k b e) kept w
+  stands s n k b e kept w r x old more l i j f =
+      let z = looked s (r .gs) (r .rows) (r .end) x old (rw i at (r .passed)) l in
+      let up : upToSegment how s b ≡ z .front ++ x = upto-is s (z .front) x old b (z .whole) (r .ends .1 ∙ z .place) j in
+      rw (up, append-assoc)
+      (record {
+        gs = r .gs;
+        rows = r .rows;
+        end = r .end;
+        rest = x ++ more;
+        passed = z .again more;
+        ends = (r .ends .0, r .ends .1, r .ends .2, r .ends .3, f);
+      })
+
+  -- a fault stands
+  pub refusal-stands : (s : Bytes) (n k b e : ℕ) (kept : List Placed) (w : List ℕ) → Fault n → Run profile how t s (Refused n k b e) kept w
+      → (more : Bytes) → Run profile how u (upToSegment how s b ++ more) (Refused n k b e) kept w
+  refusal-stands s n k b e kept w fault r more = by (r .ends .4)
+    where
+      stop : (upto old : Bytes) → cutBy how (r .rest) ≡ Stop n e upto old
+          → (n ≡ 3) ⊎ ((r .rest ≡ upto ++ old) × (0 < length upto) × ((x : Bytes) → cutBy how (upto ++ x) ≡ Stop n e upto x))
+          → Run profile how u (upToSegment how s b ++ more) (Refused n k b e) kept w
+      stop upto old c (inl y) = absurd (omega (arith, y, fault .from))
+      stop upto old c (inr y) =
+          stands s n k b e kept w r upto old more (y .1) (y .0) (ap (lookedAt how) (y .2 old)) (inl (record { upto = upto; more = more; stops = y .2 more }))
+
+      by : Fails profile how t (r .gs) (r .rows) (r .end) (r .rest) n e → Run profile how u (upToSegment how s b ++ more) (Refused n k b e) kept w
+      by (inl x) =
+          stop (x .upto) (x .more) (x .stops)
+          (subst (λ (c : Cut). Keeps (how .separators .terminator) (cutBy how) (r .rest) c) (x .stops) (cut-keeps (how .separators) (r .rest)))
+      by (inr (inl x)) =
+          let g = x .segment in
+          let end-mark = how .separators .terminator in
+          let y = whole-keeps (r .rest) g (x .more) (x .next) in
+          let cut : (z : Bytes) → cutBy how ((g ++ end-mark ∷ []) ++ z) ≡ Whole g z = λ z. ap (cutBy how) (append-assoc g (end-mark ∷ []) z) ∙ y .1 z in
+          stands s n k b e kept w r (g ++ end-mark ∷ []) (x .more) more (rw (length-append g (end-mark ∷ [])) (omega arith))
+          (y .0 ∙ sym (append-assoc g (end-mark ∷ []) (x .more))) (ap (lookedAt how) (cut (x .more)))
+          (inr (inl (record { segment = g; more = more; next = cut more; first = x .first })))
+      by (inr (inr x)) = absurd (omega (arith, x .number-is, fault .upto))
+
+  -- an acceptance stands
+  pub acceptance-stands : (s : Bytes) (a l c : ℕ) (kept : List Placed) (w : List ℕ) → Run profile how t s (Accepted a l c) kept w
+      → (more : Bytes) → Run profile how u (take c s ++ more) (Accepted a l c) kept w
+  acceptance-stands s a l c kept w r more =
+      let x = r .ends in
+      let g = x .segment in
+      let end-mark = how .separators .terminator in
+      let y = whole-keeps (r .rest) g (x .more) (x .next) in
+      let i : r .rest ≡ (g ++ end-mark ∷ []) ++ x .more = y .0 ∙ sym (append-assoc g (end-mark ∷ []) (x .more)) in
+      let z = looked s (r .gs) (r .rows) (r .end) (g ++ end-mark ∷ []) (x .more) (rw i at (r .passed)) (rw (length-append g (end-mark ∷ [])) (omega arith)) in
+      let n : length (z .front ++ (g ++ end-mark ∷ [])) ≡ c = simp length-append (omega (arith, x .bytes-is, z .place)) in
+      let front : take c s ≡ z .front ++ (g ++ end-mark ∷ []) =
+      ap (take c) (z .whole ∙ sym (append-assoc (z .front) (g ++ end-mark ∷ []) (x .more)))
+      ∙ take-at (z .front ++ (g ++ end-mark ∷ [])) (x .more) c n in
+      rw (front, append-assoc)
+      (record {
+        gs = r .gs;
+        rows = r .rows;
+        end = r .end;
+        rest = (g ++ end-mark ∷ []) ++ more;
+        passed = z .again more;
+        ends = record {
+          segment = g;
+          more = more;
+          row = x .row;
+          next = ap (cutBy how) (append-assoc g (end-mark ∷ []) more) ∙ y .1 more;
+          sound = x .sound;
+          fits = x .fits;
+          last = x .last;
+          room = room-larger profile t u (viewOf (how .separators) g ∷ onto [] (seen how (r .gs))) larger (x .room);
+          kept-is = x .kept-is;
+          numbers-is = x .numbers-is;
+          segments-is = x .segments-is;
+          levels-is = x .levels-is;
+          bytes-is = x .bytes-is;
+        };
+      })

@@ -1,0 +1,155 @@
+-- Levels that can be put behind others: a new name, a root, and a child for a level marked 1.
+-- Assumes nothing.
+use Prim.Native.Nat.{ℕ, suc, _≤_, _<_}
+use mathlib.Core.Path.{_≡_, refl, sym, subst}
+use mathlib.Core.Bool.{Bool, true, false, not, _||_}
+use mathlib.Core.List.{List, [], _∷_, map}
+use native.Mathlib.Omega.{arith}
+use native.Mathlib.Decide.{decLt, ℕ-discrete}
+use borrow.Author.Tests.{ne-eqb}
+use lib.Dec.{T, eqb, eqb→eq, leb, le→leb}
+use lib.ListN.{length, length-map}
+use Rattle.text.specs.Bytes.{Bytes, bytes, every, any, same}
+use Rattle.text.specs.Separators.{isDigit, isCapital}
+use Rattle.text.specs.View.{View}
+use Rattle.text.specs.declared.separators.Separators.{Separators}
+use Rattle.text.proofs.Bools.{both, first-of, second-of, or-left, or-right, or-cases, not-passes}
+use Rattle.text.proofs.Sames.{same-equal}
+use Rattle.text.proofs.Everys.{every-weaker}
+use Rattle.text.proofs.View.{Fitted}
+use Rattle.rows.specs.Tags.{tagNumber}
+use Rattle.elements.specs.Types.{isId}
+use Rattle.elements.specs.Checks.{Keeps}
+use Rattle.levels.specs.Profile.{codeOf, mayStandAlone, mayBeMarked, mayHang}
+use Rattle.levels.specs.Levels.{claimOf, Level, called, levelAt, levelOf}
+use Rattle.levels.specs.Rules.{levelChecks}
+use Rattle.gate.specs.Segments.{tagIn, isHL, levelsIn}
+use Rattle.gate.proofs.continuing.FreshNames.{Differs, fresh}
+use Rattle.gate.proofs.continuing.AddedSegments.{levels, ruling, isPlain, Text, plain-text, hlView}
+use Rattle.gate.proofs.continuing.LevelNames.{levels-hl, levels-other, level-earlier, level-latest, served}
+
+-- there are no more levels than segments
+pub levels-few : (h : List View) → length (levels h) ≤ length h
+unfolding levelsIn
+levels-few [] = omega arith
+levels-few (v ∷ h) = go (isHL v) refl (levels-few h)
+  where
+    go : (b : Bool) → isHL v ≡ b → length (levels h) ≤ length h → length (levels (v ∷ h)) ≤ suc (length h)
+    go true e i = rw (levels-hl h v e) (omega arith)
+    go false e i = rw (levels-other h v e) (omega arith)
+
+-- a name that no level has
+pub record Newcomer (q : Separators) (ls : List Level) : Type 0 where
+  pub name : Bytes
+  pub text : Text q 1 12 name
+  pub new : called name ls ≡ 0
+
+-- a name that differs from all calls nobody
+differs-called : (name : Bytes) (ls : List Level) → Differs name (map (λ (l : Level). l .id) ls) → called name ls ≡ 0
+differs-called name [] d = refl
+differs-called name (l ∷ ls) d =
+    let rest = every (λ (s : Bytes). not (same s name)) (map (λ (l : Level). l .id) ls) in
+    rw (not-passes (same (l .id) name) (first-of (not (same (l .id) name)) rest d))
+    (differs-called name ls (second-of (not (same (l .id) name)) rest d))
+
+module _ (q : Separators) (fit : Fitted q) where
+  -- digits are text
+  pub digits-text : (least most n : ℕ) (s : Bytes) → T (every isDigit s) → length s ≡ n → least ≤ n → n ≤ most → Text q least most s
+  digits-text least most n s d e l m =
+      plain-text q fit least most s (every-weaker isDigit isPlain (λ b. or-right (isCapital b) (isDigit b)) s d) (omega arith) (omega arith)
+
+  -- there is one while there are fewer than 4 ^ 12 levels
+  pub newcomer : (ls : List Level) → length ls < 16777216 → Newcomer q ls
+  newcomer ls h =
+      let f = fresh 12 (map (λ (l : Level). l .id) ls) (rw (length-map ls (λ (l : Level). l .id)) h) in
+      record {
+        name = f .name;
+        text = digits-text 1 12 12 (f .name) (f .digits) (f .long) (omega arith) (omega arith);
+        new = differs-called (f .name) ls (f .differs);
+      }
+
+  -- a code that may hang under a code that may be marked 1
+  pub record ChildCode (c : ℕ) : Type 0 where
+    pub text : Bytes
+    pub sized : Text q 1 2 text
+    pub spelled : T (isId text)
+    pub known : T (leb 1 (codeOf ruling text))
+    pub hangs : T (mayHang ruling c (codeOf ruling text))
+
+  -- I under RP
+  code-under-rp : ChildCode 1
+  unfolding codeOf mayHang
+  code-under-rp = record { text = bytes "I"; sized = plain-text q fit 1 2 (bytes "I") tt (omega arith) (omega arith); spelled = tt; known = tt; hangs = tt }
+
+  -- F under I
+  code-under-i : ChildCode 2
+  unfolding codeOf mayHang
+  code-under-i = record { text = bytes "F"; sized = plain-text q fit 1 2 (bytes "F") tt (omega arith) (omega arith); spelled = tt; known = tt; hangs = tt }
+
+  -- PC under F
+  code-under-f : ChildCode 3
+  unfolding codeOf mayHang
+  code-under-f = record { text = bytes "PC"; sized = plain-text q fit 1 2 (bytes "PC") tt (omega arith) (omega arith); spelled = tt; known = tt; hangs = tt }
+
+  -- every code that may be marked 1 has one
+  pub child-code : (c : ℕ) → T (mayBeMarked ruling c) → ChildCode c
+  unfolding mayBeMarked
+  child-code c =
+      or-cases (eqb c 1) (eqb c 2 || (eqb c 3 || false)) (λ t. under c 1 t code-under-rp)
+      (or-cases (eqb c 2) (eqb c 3 || false) (λ t. under c 2 t code-under-i)
+      (or-cases (eqb c 3) false (λ t. under c 3 t code-under-f) (λ t. absurd t)))
+    where
+      under : (c d : ℕ) → T (eqb c d) → ChildCode d → ChildCode c
+      under c d t x = subst ChildCode (sym (eqb→eq c d t)) x
+
+-- an RP without a parent keeps the rules of levels
+pub root-checks : (ls : List Level) (id : Bytes) → called id ls ≡ 0 → Keeps (levelChecks ruling ls (claimOf (hlView id [] (bytes "RP"))))
+unfolding codeOf mayStandAlone
+root-checks ls id new = (rw new tt, (tt, (tt, (tt, (tt, (tt, tt))))))
+
+-- and so does an HL under level m, which is marked 1
+pub child-checks : (ls : List Level) (m : ℕ) (id parent code : Bytes) → 1 ≤ m → called id ls ≡ 0 → called parent ls ≡ m → 1 ≤ length parent
+    → T (leb 1 (codeOf ruling code)) → T (mayHang ruling (levelAt m ls .code) (codeOf ruling code))
+    → T (same (levelAt m ls .mark) (bytes "1")) → Keeps (levelChecks ruling ls (claimOf (hlView id parent code)))
+child-checks ls m id parent code l new found some known hangs marked =
+    let there : eqb (length parent) 0 ≡ false = ne-eqb (length parent) 0 (λ z. omega arith) in
+    let one : levelAt m ls .mark ≡ bytes "1" = same-equal (levelAt m ls .mark) (bytes "1") marked in
+    let coded = both (leb 1 (codeOf ruling code)) true known tt in
+    (rw new tt, (rw (there, found) (le→leb 1 m l), (rw there coded, (rw (there, found) hangs, (rw (there, found, one) tt, (tt, tt))))))
+
+-- the levels above number n are served: each that is marked 1 has a child
+abbrev pub ServedAbove : ℕ → List Level → Type 0
+ServedAbove n ls = (m : ℕ) → n < m → m ≤ length ls → T (served ls m (levelAt m ls))
+
+-- those above n are, where level n + 1 is served too
+pub above-served : (n : ℕ) (ls : List Level) → T (served ls (suc n) (levelAt (suc n) ls)) → ServedAbove (suc n) ls → ServedAbove n ls
+above-served n ls t above m l h = go (ℕ-discrete m (suc n))
+  where
+    go : Dec (m ≡ suc n) → T (served ls m (levelAt m ls))
+    go (yes e) = rw e t
+    go (no e) = above m (omega arith) h
+
+-- and stay so with one level more that is not marked
+pub above-more : (n : ℕ) (l : Level) (ls : List Level) → l .mark ≡ [] → ServedAbove n ls → ServedAbove n (l ∷ ls)
+above-more n l ls e above m a b = go (decLt m (suc (length ls)))
+  where
+    go : Dec (m < suc (length ls)) → T (served (l ∷ ls) m (levelAt m (l ∷ ls)))
+    go (yes h) =
+        let unmarked = not (same (levelAt m ls .mark) (bytes "1")) in
+        let child = any (λ (child : Level). eqb (child .parent) m) ls in
+        rw (level-earlier m l ls (omega arith))
+        (or-cases unmarked child (or-left unmarked (eqb (l .parent) m || child))
+        (λ t. or-right unmarked (eqb (l .parent) m || child) (or-right (eqb (l .parent) m) child t))
+        (above m a (omega arith)))
+    go (no h) =
+        let i : m ≡ suc (length ls) = omega arith in
+        rw (i, level-latest l ls, e) tt
+
+-- it is an HL
+pub hl-is : (id parent code : Bytes) → isHL (hlView id parent code) ≡ true
+unfolding tagIn tagNumber
+hl-is id parent code = refl
+
+-- the level that an HL without a mark makes
+abbrev pub newLevel : List View → Bytes → Bytes → Bytes → Level
+newLevel h id parent code = levelOf ruling (suc (length h)) (claimOf (hlView id parent code)) (levels h)

@@ -1,0 +1,318 @@
+-- Segments that can be put behind others: plain ones, an HL and an SE, with the rules that they keep.
+-- Assumes nothing.
+use Prim.Native.Nat.{ℕ, zero, suc, _≤_}
+use Prim.Native.String.{String}
+use mathlib.Core.Path.{_≡_, refl}
+use mathlib.Core.Bool.{Bool, true, false, not, cond, _&&_, _||_}
+use mathlib.Core.List.{List, [], _∷_, _++_, map}
+use native.Mathlib.Omega.{arith}
+use lib.Dec.{T, not-T, eqb, eqb→eq, leb, leb→le, le→leb}
+use lib.ListN.{length}
+use Rattle.text.specs.Bytes.{Bytes, bytes, between, every, among}
+use Rattle.text.specs.Separators.{isDigit, isCapital, isSmall, mayServe, isSeparator, printable}
+use Rattle.text.specs.View.{View, empty, present, elementOf, unseparated, wellFormed}
+use Rattle.text.specs.declared.separators.Separators.{Separators}
+use Rattle.text.proofs.Bools.{both, first-of, second-of, or-right, or-cases}
+use Rattle.text.proofs.Everys.{every-weaker, every-anywhere}
+use Rattle.text.proofs.View.{Fitted}
+use Rattle.rows.specs.Tags.{tag, tagNumber}
+use Rattle.elements.specs.Types.{isId, isNumber, fits}
+use Rattle.elements.specs.Data.{Rules, rulesHL, rulesSE}
+use Rattle.elements.specs.Checks.{Check, each, Keeps}
+use Rattle.elements.specs.Rules.{dataPiece, byteChecks, endChecks, tooManyChecks, missingChecks, unfitChecks, noteChecks, checksBy, ruledChecks}
+use Rattle.elements.specs.declared.types.Kind.the-variants.{AN, ID, N0}
+use Rattle.levels.specs.Profile.{LevelProfile}
+use Rattle.levels.specs.Levels.{claimOf, Level}
+use Rattle.levels.specs.Rules.{levelChecks}
+use Rattle.gate.specs.Profile.{nonconformance}
+use Rattle.gate.specs.Segments.{tagIn, isHL, isSE, levelsIn}
+use Rattle.gate.specs.Rules.{hlChecks, closingChecks, seChecks, Kept}
+use Rattle.gate.proofs.reading.Laws.{keeps-both}
+
+-- the levels that segments make
+abbrev pub levels : List View → List Level
+levels h = levelsIn nonconformance h
+
+-- what is said of levels
+abbrev pub ruling : LevelProfile
+ruling = nonconformance .levels
+
+-- a byte is no separator
+abbrev pub noSeparator : Separators → ℕ → Bool
+noSeparator q b = not (isSeparator q b)
+
+-- capitals and digits
+abbrev pub isPlain : ℕ → Bool
+isPlain b = isCapital b || isDigit b
+
+-- text of a length from least to most, of printable bytes that are no separators
+pub record Text (q : Separators) (least most : ℕ) (s : Bytes) : Type 0 where
+  pub printed : T (every printable s)
+  pub free : T (every (noSeparator q) s)
+  pub long : least ≤ length s
+  pub short : length s ≤ most
+
+-- a segment of elements with one component each
+abbrev pub line : String → List Bytes → View
+line name texts = map (λ (s : Bytes). s ∷ []) (bytes name ∷ texts)
+
+-- a narrower range lies within the printable bytes
+range-printable : (lo hi b : ℕ) → 32 ≤ lo → hi ≤ 126 → T (between lo hi b) → T (printable b)
+range-printable lo hi b l m h =
+    let x = leb→le lo b (first-of (leb lo b) (leb b hi) h) in
+    let y = leb→le b hi (second-of (leb lo b) (leb b hi) h) in
+    both (leb 32 b) (leb b 126) (le→leb 32 b (omega arith)) (le→leb b 126 (omega arith))
+
+-- capitals and digits are printable
+plain-printable : (b : ℕ) → T (isPlain b) → T (printable b)
+plain-printable b p =
+    or-cases (isCapital b) (isDigit b)
+    (range-printable 65 90 b (omega arith) (omega arith))
+    (range-printable 48 57 b (omega arith) (omega arith))
+    p
+
+-- a byte that may serve is no capital and no digit: of capital, small, digit, other and range
+barred : (a b c d e : Bool) → T (e && not (a || b || c || d)) → T (a || c) → ⊥
+barred true b c d true s p = s
+barred false true true d true s p = s
+barred false false true d true s p = s
+barred false b false d true s p = p
+barred a b c d false s p = s
+
+-- capitals and digits may not serve as separators
+serves-no-plain : (b x : ℕ) → T (isPlain b) → T (mayServe x) → T (eqb b x) → ⊥
+unfolding mayServe
+serves-no-plain b x p s e =
+    let m : T (mayServe b) = rw (eqb→eq b x e) s in
+    barred (isCapital b) (isSmall b) (isDigit b) (among (bytes " .-") b) (between 1 126 b) m p
+
+-- capitals and digits are no separators that are fit
+plain-apart : (q : Separators) → Fitted q → (b : ℕ) → T (isPlain b) → T (noSeparator q b)
+plain-apart q fit b p =
+    not-T (isSeparator q b)
+    (or-cases (eqb b (q .element) || eqb b (q .component)) (eqb b (q .terminator))
+    (or-cases (eqb b (q .element)) (eqb b (q .component)) (serves-no-plain b (q .element) p (fit .element-serves))
+    (serves-no-plain b (q .component) p (fit .component-serves)))
+    (serves-no-plain b (q .terminator) p (fit .terminator-serves)))
+
+-- text of capitals and digits
+pub plain-text : (q : Separators) → Fitted q → (least most : ℕ) (s : Bytes) → T (every isPlain s) → least ≤ length s → length s ≤ most
+    → Text q least most s
+plain-text q fit least most s p l m = record {
+  printed = every-weaker isPlain printable plain-printable s p;
+  free = every-weaker isPlain (noSeparator q) (plain-apart q fit) s p;
+  long = l;
+  short = m;
+}
+
+-- a test of each text is one of each component of the line
+line-every : (f : Bytes → Bool) (texts : List Bytes) → T (every f texts) → T (every (every f) (map (λ (s : Bytes). s ∷ []) texts))
+line-every f [] h = tt
+line-every f (s ∷ texts) h =
+    both (f s && true) (every (every f) (map (λ (s : Bytes). s ∷ []) texts)) (both (f s) true (first-of (f s) (every f texts) h) tt)
+    (line-every f texts (second-of (f s) (every f texts) h))
+
+-- a view that writes to bytes and is seen in them again
+abbrev pub writes : Separators → View → Bool
+writes q v = wellFormed v && unseparated q v
+
+-- a test at each element
+each-by : (number a n : ℕ) (test : ℕ → Bool) → ((k : ℕ) → T (test k)) → Keeps (each number a n test)
+each-by number a zero test f = tt
+each-by number a (suc n) test f = (f a, each-by number (suc a) n test f)
+
+-- a line of printable texts keeps the rule of bytes
+line-bytes : (name : String) (texts : List Bytes) → T (every (every printable) (bytes name ∷ texts)) → Keeps (byteChecks (line name texts))
+unfolding byteChecks
+line-bytes name texts h =
+    each-by 5 0 (length (line name texts)) (λ (k : ℕ). dataPiece (elementOf (line name texts) k))
+    (every-anywhere dataPiece (line name texts) empty tt (line-every (every printable) (bytes name ∷ texts) h))
+
+-- an element of the line that is present ends with a byte
+ends-present : (s : Bytes) (last : Bool) → 1 ≤ length s → T (cond (present (s ∷ [])) (leb 1 (length s)) last)
+ends-present [] last h = absurd (omega arith)
+ends-present (b ∷ s) last h = le→leb 1 (suc (length s)) (omega arith)
+
+-- one that may be absent ends well where it is not the last
+ends-inside : (s : Bytes) → T (cond (present (s ∷ [])) (leb 1 (length s)) true)
+ends-inside [] = tt
+ends-inside (b ∷ s) = le→leb 1 (suc (length s)) (omega arith)
+
+-- text of one byte or more is present
+text-present : (s : Bytes) → 1 ≤ length s → T (present (s ∷ []) && true)
+text-present [] h = absurd (omega arith)
+text-present (b ∷ s) h = tt
+
+-- its length is in range
+text-sized : (least most : ℕ) (s : Bytes) → least ≤ length s → length s ≤ most → T (between least most (length s))
+text-sized least most s l m = both (leb least (length s)) (leb (length s) most) (le→leb least (length s) l) (le→leb (length s) most m)
+
+-- text of that length fits
+text-fits : (least most : ℕ) (s : Bytes) → least ≤ length s → length s ≤ most → T (fits AN least most s)
+unfolding fits
+text-fits least most s l m = both (between least most (length s)) true (text-sized least most s l m) tt
+
+-- text that may be absent fits where it is present
+text-fits-if : (most : ℕ) (s : Bytes) → length s ≤ most → T (not (present (s ∷ [])) || fits AN 1 most s)
+text-fits-if most [] h = tt
+text-fits-if most (b ∷ s) h = text-fits 1 most (b ∷ s) (omega arith) h
+
+-- an HL without a mark
+abbrev pub hlView : Bytes → Bytes → Bytes → View
+hlView id parent code = line "HL" (id ∷ parent ∷ code ∷ [])
+
+-- an SE
+abbrev pub seView : Bytes → Bytes → View
+seView count control = line "SE" (count ∷ control ∷ [])
+
+-- the four rules of a ruled segment, together
+ruled-kept : (rules : Rules) (v : View) → Keeps (tooManyChecks rules v) → Keeps (missingChecks rules v) → Keeps (unfitChecks rules v)
+    → Keeps (noteChecks (rules .notes) v) → Keeps (checksBy rules v)
+ruled-kept rules v a b c d =
+    let many = tooManyChecks rules v in
+    let missing = missingChecks rules v in
+    let unfit = unfitChecks rules v in
+    keeps-both (many ++ missing ++ unfit) (noteChecks (rules .notes) v) (keeps-both (many ++ missing) unfit (keeps-both many missing a b) c) d
+
+-- a test of three
+all-three : {A : Type 0} (f : A → Bool) (x y z : A) → T (f x) → T (f y) → T (f z) → T (every f (x ∷ y ∷ z ∷ []))
+all-three f x y z a b c = both (f x) (every f (y ∷ z ∷ [])) a (both (f y) (every f (z ∷ [])) b (both (f z) true c tt))
+
+-- a test of two
+all-two : {A : Type 0} (f : A → Bool) (x y : A) → T (f x) → T (f y) → T (every f (x ∷ y ∷ []))
+all-two f x y a b = both (f x) (every f (y ∷ [])) a (both (f y) true b tt)
+
+module _ (q : Separators) (fit : Fitted q) where
+  -- a line holds no separator if its texts hold none
+  line-free : (name : String) (texts : List Bytes) → T (every isPlain (bytes name)) → T (every (every (noSeparator q)) texts)
+      → T (unseparated q (line name texts))
+  line-free name texts p h =
+      line-every (every (noSeparator q)) (bytes name ∷ texts)
+      (both (every (noSeparator q) (bytes name)) (every (every (noSeparator q)) texts)
+      (every-weaker isPlain (noSeparator q) (plain-apart q fit) (bytes name) p) h)
+
+  -- an HL with fit elements writes to bytes
+  pub hl-writable : (id parent code : Bytes) → Text q 1 12 id → Text q 0 12 parent → Text q 1 2 code → T (writes q (hlView id parent code))
+  hl-writable id parent code a b c =
+      both (wellFormed (hlView id parent code)) (unseparated q (hlView id parent code)) tt
+      (line-free "HL" (id ∷ parent ∷ code ∷ []) tt (all-three (every (noSeparator q)) id parent code (a .free) (b .free) (c .free)))
+
+  -- and so does an SE
+  pub se-writable : (count control : Bytes) → Text q 1 10 count → Text q 4 9 control → T (writes q (seView count control))
+  se-writable count control a b =
+      both (wellFormed (seView count control)) (unseparated q (seView count control)) tt
+      (line-free "SE" (count ∷ control ∷ []) tt (all-two (every (noSeparator q)) count control (a .free) (b .free)))
+
+module _ (q : Separators) (h : List View) where
+  -- an HL with fit elements keeps the rules that its levels keep
+  pub hl-kept : (id parent code : Bytes) → Text q 1 12 id → Text q 0 12 parent → Text q 1 2 code → T (isId code)
+      → Keeps (levelChecks ruling (levels h) (claimOf (hlView id parent code)))
+      → Kept nonconformance h (hlView id parent code)
+  unfolding tagIn tagNumber endChecks ruledChecks hlChecks seChecks fits
+  hl-kept id parent code a b c i k =
+      let there : Keeps (missingChecks rulesHL (hlView id parent code)) = (text-present id (a .long), (tt, (text-present code (c .long), (tt, tt)))) in
+      let coded = both (between 1 2 (length code)) (isId code) (text-sized 1 2 code (c .long) (c .short)) i in
+      let fit : Keeps (unfitChecks rulesHL (hlView id parent code)) =
+      (text-fits-if 12 id (a .short), (text-fits-if 12 parent (b .short), (or-right (not (present (code ∷ []))) (fits ID 1 2 code) coded, (tt, tt)))) in
+      record {
+        bytes = line-bytes "HL" (id ∷ parent ∷ code ∷ []) (all-three (every printable) id parent code (a .printed) (b .printed) (c .printed));
+        ends = (tt, (ends-present id true (a .long), (ends-inside parent, (ends-present code false (c .long), tt))));
+        elements = ruled-kept rulesHL (hlView id parent code) (tt, (tt, (tt, tt))) there fit tt;
+        level = k;
+        closing = tt;
+      }
+
+  -- an SE with fit elements keeps the rules that it closes the segments before it with
+  pub se-kept : (count control : Bytes) → Text q 1 10 count → T (isNumber count) → Text q 4 9 control
+      → Keeps (closingChecks nonconformance h (seView count control)) → Kept nonconformance h (seView count control)
+  unfolding tagIn tagNumber endChecks ruledChecks hlChecks seChecks fits
+  se-kept count control a n b k =
+      let some : 1 ≤ length control = omega (arith, b .long) in
+      let there : Keeps (missingChecks rulesSE (seView count control)) = (text-present count (a .long), (text-present control some, tt)) in
+      let counted = both (between 1 10 (length count)) (isNumber count) (text-sized 1 10 count (a .long) (a .short)) n in
+      let first = or-right (not (present (count ∷ []))) (fits N0 1 10 count) counted in
+      let second = or-right (not (present (control ∷ []))) (fits AN 4 9 control) (text-fits 4 9 control (b .long) (b .short)) in
+      let fit : Keeps (unfitChecks rulesSE (seView count control)) = (first, (second, tt)) in
+      record {
+        bytes = line-bytes "SE" (count ∷ control ∷ []) (all-two (every printable) count control (a .printed) (b .printed));
+        ends = (tt, (ends-present count true (a .long), (ends-present control false some, tt)));
+        elements = ruled-kept rulesSE (seView count control) (tt, (tt, tt)) there fit tt;
+        level = tt;
+        closing = k;
+      }
+
+-- the tag of an HL
+pub hl-tag : (id parent code : Bytes) → tagIn (hlView id parent code) ≡ tag "HL"
+unfolding tagIn
+hl-tag id parent code = refl
+
+-- the tag of an SE
+pub se-tag : (count control : Bytes) → tagIn (seView count control) ≡ tag "SE"
+unfolding tagIn
+se-tag count control = refl
+
+-- a segment that keeps its rules wherever it stands, makes no level and does not end the transaction
+pub record Plain (name : String) : Type 0 where
+  pub texts : List Bytes
+  pub tagged : tagIn (line name texts) ≡ tag name
+  pub kept : (h : List View) → Kept nonconformance h (line name texts)
+  pub no-level : isHL (line name texts) ≡ false
+  pub written : (q : Separators) → Fitted q → T (writes q (line name texts))
+
+-- tests that all compute to true are kept
+keeps-all : (cs : List Check) → T (every (λ (c : Check). c .holds) cs) → Keeps cs
+keeps-all [] h = tt
+keeps-all (c ∷ cs) h =
+    let rest = every (λ (c : Check). c .holds) cs in
+    (first-of (c .holds) rest h, keeps-all cs (second-of (c .holds) rest h))
+
+-- a segment whose tests compute
+plain : (name : String) (texts : List Bytes) → tagIn (line name texts) ≡ tag name → T (every (λ (c : Check). c .holds) (byteChecks (line name texts)))
+    → T (every (λ (c : Check). c .holds) (endChecks (line name texts)))
+    → T (every (λ (c : Check). c .holds) (ruledChecks (nonconformance .elements) (tagIn (line name texts)) (line name texts)))
+    → isHL (line name texts) ≡ false → isSE (line name texts) ≡ false → T (wellFormed (line name texts))
+    → T (every (every isPlain) (bytes name ∷ texts)) → Plain name
+unfolding hlChecks seChecks
+plain name texts t a b c i j w p =
+    let v = line name texts in
+    record {
+      texts = texts;
+      tagged = t;
+      kept = λ h. record {
+        bytes = keeps-all (byteChecks v) a;
+        ends = keeps-all (endChecks v) b;
+        elements = keeps-all (ruledChecks (nonconformance .elements) (tagIn v) v) c;
+        level = rw i tt;
+        closing = rw j tt;
+      };
+      no-level = i;
+      written = λ q fit.
+          both (wellFormed v) (unseparated q v) w
+          (line-every (every (noSeparator q)) (bytes name ∷ texts)
+          (every-weaker (every isPlain) (every (noSeparator q)) (λ s. every-weaker isPlain (noSeparator q) (plain-apart q fit) s) (bytes name ∷ texts) p));
+    }
+
+-- ST*842*0001
+pub plain-st : Plain "ST"
+unfolding tagIn tagNumber byteChecks endChecks ruledChecks fits
+plain-st = plain "ST" (bytes "842" ∷ bytes "0001" ∷ []) refl tt tt tt refl refl tt tt
+
+-- BNR*1
+pub plain-bnr : Plain "BNR"
+unfolding tagIn tagNumber byteChecks endChecks ruledChecks fits
+plain-bnr = plain "BNR" (bytes "1" ∷ []) refl tt tt tt refl refl tt tt
+
+-- LQ*1
+pub plain-lq : Plain "LQ"
+unfolding tagIn tagNumber byteChecks endChecks ruledChecks fits
+plain-lq = plain "LQ" (bytes "1" ∷ []) refl tt tt tt refl refl tt tt
+
+-- FA2*1
+pub plain-fa2 : Plain "FA2"
+unfolding tagIn tagNumber byteChecks endChecks ruledChecks fits
+plain-fa2 = plain "FA2" (bytes "1" ∷ []) refl tt tt tt refl refl tt tt
+
+-- BIN*1*A
+pub plain-bin : Plain "BIN"
+unfolding tagIn tagNumber byteChecks endChecks ruledChecks fits
+plain-bin = plain "BIN" (bytes "1" ∷ bytes "A" ∷ []) refl tt tt tt refl refl tt tt

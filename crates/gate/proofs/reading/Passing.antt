@@ -1,0 +1,93 @@
+-- What the next of some segments says: it keeps its rules, a row fits it, it is no SE; and how segments that were passed grow by one.
+-- Assumes nothing.
+use Prim.Native.Nat.{ℕ, suc, _+_, _≤_}
+use mathlib.Core.Path.{_≡_, refl, sym, ap, _∙_}
+use mathlib.Core.Bool.{Bool, true, false, not}
+use mathlib.Core.List.{List, [], _∷_, _++_, map, append-assoc}
+use native.Mathlib.Omega.{arith}
+use lib.Dec.{T}
+use lib.ListN.{length}
+use Rattle.text.specs.Bytes.{Bytes}
+use Rattle.text.specs.View.{View}
+use Rattle.text.specs.Cut.{Placed}
+use Rattle.text.proofs.Lists.{map-append, splits}
+use Rattle.rows.specs.Rows.{Viable, list842}
+use Rattle.rows.specs.RowList.{tagOf}
+use Rattle.rows.specs.Following.{Fits}
+use Rattle.rows.proofs.Fit.{viable-before}
+use Rattle.levels.specs.Levels.{Claim, levelsOf}
+use Rattle.gate.specs.Profile.{Profile}
+use Rattle.gate.specs.Segments.{tagIn, isHL, isSE, seen, onto, addClaim, claims, levelsIn}
+use Rattle.gate.specs.Rules.{Kept, From}
+use Rattle.gate.specs.Records.{Tables, Room}
+use Rattle.gate.specs.Reads.{Passed}
+use Rattle.gate.specs.declared.how.How.{How}
+use Rattle.gate.proofs.reading.Laws.{from-at, from-append, same-rows}
+
+-- rows that number segments, and what each of these keeps: a reading aside from where it stands and what it has room for
+pub record Numbers (profile : Profile) (vs : List View) (rows : List ℕ) : Type 0 where
+  pub viable : Viable list842 rows
+  pub tags : map tagOf rows ≡ map tagIn vs
+  pub kept : From (Kept profile) [] vs
+  pub ongoing : From (λ h v. T (not (isSE v))) [] vs
+
+pub numbers : {profile : Profile} {how : How} {t : Tables} {s : Bytes} {gs : List Placed} {rows : List ℕ} {end : ℕ} {rest : Bytes}
+    → Passed profile how t s gs rows end rest → Numbers profile (seen how gs) rows
+numbers p = record { viable = p .viable; tags = p .tags; kept = p .kept; ongoing = p .ongoing }
+
+-- the segment behind xs, of more that were passed
+pub record Next (profile : Profile) (xs : List View) (w : List ℕ) (v : View) : Type 0 where
+  pub row : ℕ
+  pub fits : Fits w (tagIn v) row
+  pub kept : Kept profile (onto [] xs) v
+  pub ongoing : T (not (isSE v))
+
+pub next-of : (profile : Profile) (xs : List View) (w : List ℕ) (v : View) (ys : List View) (rows : List ℕ) → Numbers profile xs w
+    → Numbers profile (xs ++ (v ∷ ys)) rows → Next profile xs w v
+next-of profile xs w v ys rows a b =
+    let i = splits tagOf rows (map tagIn xs) (tagIn v) (map tagIn ys) (b .tags ∙ map-append tagIn xs (v ∷ ys)) in
+    let z : Viable list842 (i .front ++ (i .mid ∷ i .back)) = rw (i .whole) at (b .viable) in
+    let f : i .front ≡ w = same-rows (i .front) w xs (viable-before (i .front) (i .mid ∷ i .back) z) (a .viable) (i .front-is) (a .tags) in
+    record {
+      row = i .mid;
+      fits = record { viable = viable-before (w ++ (i .mid ∷ [])) (i .back) (rw (append-assoc, ← f) z); tagged = i .mid-is };
+      kept = from-at (Kept profile) [] xs v ys (b .kept);
+      ongoing = from-at (λ h v. T (not (isSE v))) [] xs v ys (b .ongoing);
+    }
+
+-- one more
+pub numbers-more : (profile : Profile) (vs : List View) (w : List ℕ) (v : View) (r : ℕ) → Numbers profile vs w → Kept profile (onto [] vs) v
+    → Fits w (tagIn v) r → T (not (isSE v)) → Numbers profile (vs ++ (v ∷ [])) (w ++ (r ∷ []))
+numbers-more profile vs w v r p k f o = record {
+  viable = f .viable;
+  tags = map-append tagOf w (r ∷ []) ∙ rw (p .tags, f .tagged) (sym (map-append tagIn vs (v ∷ [])));
+  kept = from-append (Kept profile) [] vs (v ∷ []) (p .kept) (k, tt);
+  ongoing = from-append (λ h v. T (not (isSE v))) [] vs (v ∷ []) (p .ongoing) (o, tt);
+}
+
+-- room for more segments is room for fewer
+claim-more : (b : Bool) (n : ℕ) (v : View) (cs : List (ℕ × Claim)) → length cs ≤ length (addClaim b n v cs)
+claim-more true n v cs = omega arith
+claim-more false n v cs = omega arith
+
+length-levels : (profile : Profile) (cs : List (ℕ × Claim)) → length (levelsOf (profile .levels) cs) ≡ length cs
+length-levels profile [] = refl
+length-levels profile (c ∷ cs) = ap suc (length-levels profile cs)
+
+pub levels-number : (profile : Profile) (h : List View) → length (levelsIn profile h) ≡ length (claims h)
+unfolding levelsIn
+levels-number profile h = length-levels profile (claims h)
+
+onto-longer : (h vs : List View) → (length h ≤ length (onto h vs)) × (length (claims h) ≤ length (claims (onto h vs)))
+onto-longer h [] = (omega arith, omega arith)
+onto-longer h (v ∷ vs) =
+    let i = onto-longer (v ∷ h) vs in
+    (omega arith, omega (arith, claim-more (isHL v) (suc (length h)) v (claims h)))
+
+pub room-fewer : (profile : Profile) (t : Tables) (h vs : List View) → Room profile t (onto h vs) → Room profile t h
+room-fewer profile t h vs r =
+    let m = onto-longer h vs in
+    record {
+      segments-fit = omega (arith, r .segments-fit);
+      levels-fit = omega (arith, r .levels-fit, levels-number profile h, levels-number profile (onto h vs));
+    }

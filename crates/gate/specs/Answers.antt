@@ -1,0 +1,22 @@
+-- The answers, as document 01 numbers them.
+-- Assumes nothing.
+use Prim.Native.Nat.{ℕ, _≤_}
+use mathlib.Core.List.{List, [], _∷_}
+use Rattle.gate.specs.declared.answer.Answer.{Answer}
+use Rattle.gate.specs.declared.answer.Answer.the-variants.{Accepted, Refused}
+
+-- the four numbers of an answer: 0 with segments, levels and bytes; or the refusal with the segment, the byte where it starts, and the
+-- element
+abbrev pub numbersOf : Answer → List ℕ
+numbersOf (Accepted segments levels bytes) = 0 ∷ segments ∷ levels ∷ bytes ∷ []
+numbersOf (Refused number segment byte element) = number ∷ segment ∷ byte ∷ element ∷ []
+
+-- the answers that blame a segment for a broken rule
+pub record Fault (number : ℕ) : Type 0 where
+  pub from : 4 ≤ number
+  pub upto : number ≤ 16
+
+-- the list of a reading's answers: acceptance, and refusals 1 to 17
+abbrev pub Listed : Answer → Type 0
+Listed (Accepted segments levels bytes) = Unit {0}
+Listed (Refused number segment byte element) = (1 ≤ number) × (number ≤ 17)

@@ -1,0 +1,90 @@
+-- Rule 5 in bytes: the view of a segment holds data alone exactly if each byte of the segment is data or one of its two separators.
+-- Assumes nothing.
+use Prim.Native.Nat.{ℕ, zero, suc, _+_, _≤_, _<_}
+use mathlib.Core.Path.{_≡_, refl, sym, ap, _∙_}
+use mathlib.Core.Bool.{Bool, true, false, _&&_, _||_}
+use mathlib.Core.List.{List, [], _∷_, _++_, map}
+use native.Mathlib.Omega.{arith}
+use lib.Dec.{T, eqb}
+use lib.ListN.{length, getD}
+use Rattle.text.specs.Bytes.{Bytes, every}
+use Rattle.text.specs.Separators.{printable}
+use Rattle.text.specs.Pieces.{before, pieces}
+use Rattle.text.specs.View.{viewOf, empty, elementOf}
+use Rattle.text.specs.declared.separators.Separators.{Separators}
+use Rattle.text.proofs.Bools.{both, first-of, second-of, and-assoc, and-true, or-false}
+use Rattle.text.proofs.Everys.{every-at}
+use Rattle.text.proofs.Pieces.{pieces-some}
+use Rattle.elements.specs.Checks.{each, Keeps}
+use Rattle.elements.specs.Rules.{dataPiece, byteChecks}
+use Rattle.reading.proofs.cut.Marks.{belongs}
+use Rattle.reading.proofs.cut.Queue.{All}
+use Rattle.gate.proofs.reading.Laws.{keeps-at}
+
+-- the same test of n elements holds if it holds at each
+pub keeps-of : (number a n : ℕ) (test : ℕ → Bool) → ((k : ℕ) → a ≤ k → k < a + n → T (test k)) → Keeps (each number a n test)
+keeps-of number a zero test f = tt
+keeps-of number a (suc n) test f = (f a (omega arith) (omega arith), keeps-of number (suc a) n test (λ k l u. f k (omega arith) (omega arith)))
+
+-- a test passes at every one of a list if it does at each place
+pub every-of : {A : Type 0} (f : A → Bool) (l : List A) (d : A) → ((k : ℕ) → k < length l → T (f (getD l k d))) → T (every f l)
+every-of f [] d h = tt
+every-of f (x ∷ l) d h = both (f x) (every f l) (h 0 (omega arith)) (every-of f l d (λ k u. h (suc k) (omega arith)))
+
+-- a test that passes at every one passes at one in the middle of the list
+pub every-middle : {A : Type 0} (f : A → Bool) (xs : List A) (y : A) (ys : List A) → T (every f (xs ++ y ∷ ys)) → T (f y)
+every-middle f [] y ys t = first-of (f y) (every f ys) t
+every-middle f (x ∷ xs) y ys t = every-middle f xs y ys (second-of (f x) (every f (xs ++ y ∷ ys)) t)
+
+-- one more at the end
+pub every-snoc : {A : Type 0} (f : A → Bool) (xs : List A) (y : A) → every f (xs ++ (y ∷ [])) ≡ every f xs && f y
+every-snoc f [] y = and-true (f y)
+every-snoc f (x ∷ xs) y = ap (λ (t : Bool). f x && t) (every-snoc f xs y) ∙ sym (and-assoc (f x) (every f xs) (f y))
+
+-- bytes with a property pass a test that each byte with it does
+pub all-every : (P : ℕ → Type 0) (f : ℕ → Bool) (s : Bytes) → ((b : ℕ) → P b → T (f b)) → All P s → T (every f s)
+all-every P f [] h u = tt
+all-every P f (b ∷ s) h u = both (f b) (every f s) (h b (u .0)) (all-every P f s h (u .1))
+
+-- a test of the bytes of pieces, with one byte more in front
+every-before : (f : ℕ → Bool) (t : Bool) (b : ℕ) (ps : List Bytes) → 0 < length ps
+    → every (every f) (before t b ps) ≡ (f b || t) && every (every f) ps
+every-before f t b [] h = absurd (omega arith)
+every-before f true b (p ∷ ps) h = any-way (f b) (every f p && every (every f) ps)
+  where
+    any-way : (a x : Bool) → x ≡ (a || true) && x
+    any-way true x = refl
+    any-way false x = refl
+every-before f false b (p ∷ ps) h = rw (or-false (f b)) (and-assoc (f b) (every f p) (every (every f) ps))
+
+-- a test of the bytes of all pieces is one of all bytes but the separator
+pub every-pieces : (f : ℕ → Bool) (sep : ℕ) (s : Bytes) → every (every f) (pieces sep s) ≡ every (λ (b : ℕ). f b || eqb b sep) s
+every-pieces f sep [] = refl
+every-pieces f sep (b ∷ s) =
+    every-before f (eqb b sep) b (pieces sep s) (pieces-some sep s) ∙ ap (λ (t : Bool). (f b || eqb b sep) && t) (every-pieces f sep s)
+
+-- a view's bytes are printable: in terms of its pieces
+data-pieces : (c : ℕ) (ps : List Bytes) → every dataPiece (map (pieces c) ps) ≡ every (every (λ (b : ℕ). printable b || eqb b c)) ps
+data-pieces c [] = refl
+data-pieces c (p ∷ ps) = rw (every-pieces printable c p, data-pieces c ps)
+
+-- and in terms of the segment
+data-view : (q : Separators) (segment : Bytes) → every dataPiece (viewOf q segment) ≡ every (belongs q) segment
+data-view q segment =
+    data-pieces (q .component) (pieces (q .element) segment)
+    ∙ every-pieces (λ (b : ℕ). printable b || eqb b (q .component)) (q .element) segment
+
+-- rule 5, from the bytes to the view
+pub data-kept : (q : Separators) (segment : Bytes) → T (every (belongs q) segment) → Keeps (byteChecks (viewOf q segment))
+unfolding byteChecks
+data-kept q segment t =
+    keeps-of 5 0 (length (viewOf q segment)) (λ (k : ℕ). dataPiece (elementOf (viewOf q segment) k))
+    (λ k l u. every-at dataPiece (viewOf q segment) empty (rw (data-view q segment) t) k (omega arith))
+
+-- and back
+pub data-told : (q : Separators) (segment : Bytes) → Keeps (byteChecks (viewOf q segment)) → T (every (belongs q) segment)
+unfolding byteChecks
+data-told q segment h =
+    rw (← data-view q segment)
+    (every-of dataPiece (viewOf q segment) empty
+    (λ k u. keeps-at 5 0 (length (viewOf q segment)) (λ (k : ℕ). dataPiece (elementOf (viewOf q segment) k)) h k (omega arith) (omega arith)))

@@ -1,0 +1,177 @@
+-- The reader from the first segment to its answer: what holds at the start, after each segment, and at each end.
+-- Assumes nothing.
+use Prim.Native.Nat.{ℕ, _+_, _-_, _/_, _≤_, _<_}
+use mathlib.Core.Path.{_≡_, ap, subst, _∙_}
+use mathlib.Core.Logic.{inl, inr}
+use mathlib.Core.Bool.{Bool, false}
+use mathlib.Core.List.{List, [], _∷_}
+use native.Mathlib.Omega.{arith}
+use native.Mathlib.Nat.{add-sub-cancel-left}
+use lib.ListN.{length, take, drop, length-append, length-drop}
+use lib.Seq.{take-append-seam}
+use Rattle.text.specs.Bytes.{Bytes}
+use Rattle.text.specs.View.{viewOf}
+use Rattle.text.specs.Cut.{Placed}
+use Rattle.text.proofs.View.{Fitted}
+use Rattle.elements.specs.Checks.{firstBroken}
+use Rattle.elements.specs.Rules.{byteChecks}
+use Rattle.elements.proofs.Verdicts.{keeps-holds}
+use Rattle.gate.specs.Profile.{nonconformance}
+use Rattle.gate.specs.Segments.{seen, onto}
+use Rattle.gate.specs.Records.{Tables}
+use Rattle.gate.specs.Reads.{Read}
+use Rattle.reading.specs.internal.Standing.{Standing}
+use Rattle.reading.specs.internal.Cutting.{Cuts, BadSegment, GoodSegment}
+use Rattle.reading.specs.internal.Judgements.{Inside, Noted, Judges}
+use Rattle.reading.specs.internal.Settling.{between, refusedBy, InRoom, Settling, Stands, Settles}
+use Rattle.reading.specs.internal.Loop.{Going}
+use Rattle.gate.specs.declared.answer.Answer.{Answer}
+use Rattle.gate.specs.declared.answer.Answer.the-variants.{Refused}
+use Rattle.gate.specs.declared.how.How.{How}
+use Rattle.reading.specs.declared.judging.Judgement.{Judgement}
+use Rattle.reading.specs.declared.judging.Notes.{Notes}
+use Rattle.reading.specs.declared.judging.State.{State}
+use Rattle.reading.specs.declared.settling.Step.{Step}
+use Rattle.reading.specs.declared.settling.Step.the-variants.{Done, Passed}
+use Rattle.reading.specs.declared.cutting.Next.{Next}
+use Rattle.reading.specs.declared.cutting.Next.the-variants.{Open, Bad, Segment}
+use Rattle.reading.proofs.reader.RuleOrder.{bad-bytes}
+use Rattle.reading.proofs.cut.Facts.{ready-first, open-stops, bad-cut, good-cut, end-inside}
+use Rattle.reading.proofs.reader.JudgeSteps.{verdict-cases}
+use Rattle.reading.proofs.reader.Standings.{standing-start, standing-refuses, segments-long, levels-long, history-long}
+
+-- at the start
+pub going-start : (how : How) (s : Bytes) (marks : List Bool) (before : Tables) (queue starts : List ℕ) → length queue ≡ 72 → length starts ≡ 33
+    → Going how s marks before (before .segments) (before .levels) queue starts 0 0 0 0 (record { count = 0; row = 0; again = false; known = 0; greatest = 0 })
+going-start how s marks before queue starts q r = record {
+  stands = record { gs = []; rows = []; standing = standing-start how before s };
+  ready = ready-first marks s queue q;
+  room = r;
+}
+
+module _ {how : How} {s : Bytes} {before : Tables} {segments levels : List ℕ} {at : ℕ} {state : State}
+    (stands : Stands how before s segments levels at state) where
+  -- no more records are counted than there is room for
+  pub segments-within : state .count ≤ length segments / 3
+  segments-within =
+      omega (arith, segments-long (stands .standing), history-long how (stands .gs), stands .standing .count-is, stands .standing .passed .room .segments-fit)
+
+  pub segments-few : state .count ≤ length (before .segments) / 3
+  segments-few = omega (arith, history-long how (stands .gs), stands .standing .count-is, stands .standing .passed .room .segments-fit)
+
+  levels-within : state .known ≤ length levels / 4
+  levels-within = omega (arith, levels-long (stands .standing), stands .standing .known-is, stands .standing .passed .room .levels-fit)
+
+  -- the tables are as long as they were
+  pub segments-same : length segments ≡ length (before .segments)
+  segments-same = segments-long (stands .standing)
+
+  pub levels-same : length levels ≡ length (before .levels)
+  levels-same = levels-long (stands .standing)
+
+  -- 3
+  pub open-refuses : (next : Next) (queue starts : List ℕ) (marks : List Bool) → Cuts (how .separators) marks s at queue starts next → next ≡ Open
+      → Read nonconformance how s before (Refused 3 (state .count + 1) at 0) (record { segments = segments; levels = levels })
+  open-refuses next queue starts marks cuts is =
+      let free = subst (λ (n : Next). Cuts (how .separators) marks s at queue starts n) is cuts in
+      standing-refuses (stands .standing) 3 0 (inl (record { upto = drop at s; more = []; stops = open-stops (how .separators) s at free }))
+
+  -- 5
+  bad-place : {end : ℕ} (b : BadSegment (how .separators) s at end) → between s at end ≡ b .segment
+  bad-place {end} b =
+      let e : end - at ≡ length (b .segment) = ap (λ (x : ℕ). x - at) (b .place) ∙ add-sub-cancel-left at (length (b .segment)) in
+      rw e (ap (take (length (b .segment))) (b .whole) ∙ take-append-seam (b .segment) (how .separators .terminator ∷ b .more))
+
+  pub bad-within : (next : Next) (queue starts : List ℕ) (marks : List Bool) → Cuts (how .separators) marks s at queue starts next → (end : ℕ) → next ≡ Bad end
+      → (at ≤ end) × (end ≤ length s)
+  bad-within next queue starts marks cuts end is =
+      let b = subst (λ (n : Next). Cuts (how .separators) marks s at queue starts n) is cuts in
+      (omega (arith, b .place), omega (arith, b .place, length-drop at s, ap length (b .whole) ∙ length-append (b .segment) (how .separators .terminator ∷ b .more)))
+
+  pub bad-refuses : (next : Next) (queue starts : List ℕ) (marks : List Bool) → Cuts (how .separators) marks s at queue starts next → (end : ℕ) → next ≡ Bad end
+      → (r : Answer) → r ≡ refusedBy (firstBroken (byteChecks (viewOf (how .separators) (between s at end)))) (state .count) at
+      → Read nonconformance how s before r (record { segments = segments; levels = levels })
+  bad-refuses next queue starts marks cuts end is r says =
+      let b = subst (λ (n : Next). Cuts (how .separators) marks s at queue starts n) is cuts in
+      let v = viewOf (how .separators) (b .segment) in
+      rw (says, bad-place b)
+      (verdict-cases (firstBroken (byteChecks v))
+      (λ e. absurd (b .broken (keeps-holds (byteChecks v) .0 e)))
+      (λ n k e.
+      rw e
+      (standing-refuses (stands .standing) n k (inr (inl (record {
+        segment = b .segment;
+        more = b .more;
+        next = bad-cut b;
+        first = bad-bytes nonconformance (stands .rows) (onto [] (seen how (stands .gs))) v n k e;
+      }))))))
+
+-- a segment that was cut and has data bytes
+pub cut-good : {how : How} {s : Bytes} {marks : List Bool} {queue starts : List ℕ} {at : ℕ} (next : Next) → Cuts (how .separators) marks s at queue starts next
+    → {end count : ℕ} {plain ended : Bool} {head tail ahead : ℕ} → next ≡ Segment end count plain ended head tail ahead
+    → GoodSegment (how .separators) marks s at queue starts end count plain ended head tail ahead
+cut-good {how} {s} {marks} {queue} {starts} {at} next cuts is = subst (λ (n : Next). Cuts (how .separators) marks s at queue starts n) is cuts
+
+module _ {how : How} {s : Bytes} {marks : List Bool} {queue starts : List ℕ} {at end count : ℕ} {plain ended : Bool} {head tail ahead : ℕ}
+    (good : GoodSegment (how .separators) marks s at queue starts end count plain ended head tail ahead) where
+  abbrev notes : Notes
+  notes = record { at = at; end = end; count = count; plain = plain; ended = ended }
+
+  noted : Noted how s starts notes (good .segment) (good .more)
+  noted = record {
+    whole = good .whole;
+    free = good .free;
+    place = good .place;
+    data-only = good .data-only;
+    elements = good .elements;
+    begins = good .begins;
+    room = good .room;
+    single = good .single;
+    kept = good .kept;
+    unkept = good .unkept;
+  }
+
+  pub good-forward : at ≤ end
+  good-forward = omega (arith, good .place)
+
+  pub good-within : end < length s
+  good-within = end-inside good
+
+  pub good-inside : Inside s notes
+  good-inside = record { forward = good-forward; within = omega (arith, good-within) }
+
+  module _ {before : Tables} {segments levels : List ℕ} {state : State} (stands : Stands how before s segments levels at state) where
+    pub in-room : length s ≤ 1048576 → InRoom segments levels notes state
+    in-room l = record {
+      forward = good-forward;
+      short = omega (arith, good-within);
+      segments-fit = segments-within stands;
+      levels-fit = levels-within stands;
+    }
+
+    -- `settle` on what `judge` said
+    module _ (fit : Fitted (how .separators)) (j : Judgement)
+        (judged : (before : Tables) (gs : List Placed) (rows : List ℕ) (g more : Bytes) → Fitted (how .separators) → Noted how s starts notes g more
+        → Standing how before s segments levels at (state .count) (state .row) (state .again) (state .known) (state .greatest) gs rows
+        → Judges rows (onto [] (seen how gs)) (viewOf (how .separators) g) j)
+        (segments′ levels′ : List ℕ) (r : Step)
+        (settles : (how : How) (before : Tables) (s : Bytes) (gs : List Placed) (rows : List ℕ) (g more : Bytes)
+        → Settling how before s segments levels notes state gs rows g more j → Settles how before s notes segments′ levels′ r) where
+      settled : Settles how before s notes segments′ levels′ r
+      settled =
+          settles how before s (stands .gs) (stands .rows) (good .segment) (good .more) (record {
+            fit = fit;
+            standing = stands .standing;
+            cut = good-cut good;
+            whole = good .whole;
+            place = good .place;
+            right = judged before (stands .gs) (stands .rows) (good .segment) (good .more) fit noted (stands .standing);
+          })
+
+      -- the answer
+      pub settled-done : (a : Answer) → r ≡ Done a → Read nonconformance how s before a (record { segments = segments′; levels = levels′ })
+      settled-done a e = subst (λ (x : Step). Settles how before s notes segments′ levels′ x) e settled
+
+      -- the next place
+      pub settled-passed : (after : State) → r ≡ Passed after → Stands how before s segments′ levels′ (end + 1) after
+      settled-passed after e = subst (λ (x : Step). Settles how before s notes segments′ levels′ x) e settled

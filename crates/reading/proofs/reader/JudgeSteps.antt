@@ -1,0 +1,256 @@
+-- The next segment judged by right notes, after what the reader stands at: each way that `judge` goes says what the rules say.
+-- Assumes nothing.
+use Prim.Native.Nat.{ℕ, suc, _+_, _-_, _≤_, _<_}
+use mathlib.Core.Path.{_≡_, refl, sym, ap, subst, _∙_}
+use mathlib.Core.Bool.{Bool, true, false, not, cond}
+use mathlib.Core.List.{List, [], _∷_, _++_}
+use native.Mathlib.Omega.{arith}
+use native.Mathlib.Nat.{add-sub-cancel-left}
+use lib.Dec.{T, eqb, eqb→eq}
+use lib.ListN.{length, take, getD, length-append, length-drop}
+use lib.Seq.{take-append-seam}
+use Rattle.text.specs.Bytes.{Bytes}
+use Rattle.text.specs.Pieces.{pieces}
+use Rattle.text.specs.View.{View, viewOf, elementOf}
+use Rattle.text.specs.Cut.{Placed}
+use Rattle.text.proofs.Bools.{passes, not-passes}
+use Rattle.text.proofs.View.{Fitted}
+use Rattle.rows.specs.Tags.{tag, tagNumber}
+use Rattle.rows.specs.Written.{writtenTable}
+use Rattle.rows.specs.Following.{Fits, OneFits}
+use Rattle.rows.specs.Lookup.{RowAfter}
+use Rattle.rows.specs.Rows.{Viable, list842}
+use Rattle.rows.specs.RowList.{tagOf, rowAt}
+use Rattle.rows.proofs.Follow.{viable-iff}
+use Rattle.elements.specs.Types.{valueOf, numberOf}
+use Rattle.elements.specs.Checks.{Check, Keeps, firstBroken}
+use Rattle.elements.specs.Rules.{endChecks, ruledChecks}
+use Rattle.elements.specs.Noted.{notedView, RightNotes}
+use Rattle.elements.specs.Post.{notedElement}
+use Rattle.elements.specs.declared.verdict.Verdict.{Verdict}
+use Rattle.elements.specs.declared.verdict.Verdict.the-variants.{Holds, Broken as Faulty}
+use Rattle.elements.proofs.Verdicts.{keeps-holds}
+use Rattle.elements.proofs.Right.{ruled-right, text-right}
+use Rattle.levels.specs.Levels.{Claim, claimOf, textOf}
+use Rattle.levels.specs.Rules.{levelChecks, judged}
+use Rattle.levels.specs.Shortcuts.{keyOf, Ordered}
+use Rattle.levels.specs.Told.{told}
+use Rattle.gate.specs.Profile.{nonconformance}
+use Rattle.gate.specs.Segments.{tagIn, isHL, isSE, seen, onto, levelsIn}
+use Rattle.gate.specs.Rules.{closingChecks}
+use Rattle.gate.specs.Records.{Tables}
+use Rattle.reading.specs.internal.Standing.{Standing}
+use Rattle.reading.specs.internal.Judgements.{notedClaim, notedClosing, segmentOf, brokenBy, byLevel, byClosing, lateJudgement, JudgesLate, Noted, Judges}
+use Rattle.gate.specs.declared.how.How.{How}
+use Rattle.reading.specs.declared.judging.Judgement.{Judgement}
+use Rattle.reading.specs.declared.judging.Judgement.the-variants.{Broken, Plain}
+use Rattle.reading.specs.declared.judging.Notes.{Notes}
+use Rattle.reading.specs.declared.judging.State.{State}
+use Rattle.reading.proofs.reader.RuleOrder.{unknown-tag, bad-end, no-row, bad-element, bad-level, bad-closing, no-level, no-closing, its-level, its-closing, all-kept}
+use Rattle.gate.proofs.reading.ElementTexts.{tag-of-view, hl-claim, se-count, se-control}
+use Rattle.reading.proofs.reader.OpeningControl.{control-of-first, counted-number}
+use Rattle.reading.proofs.reader.Standings.{history-long}
+
+module _ {how : How} {s : Bytes} {starts : List ℕ} {notes : Notes} {g more : Bytes} (nt : Noted how s starts notes g more) where
+  -- the notes are right, as the element rules take them
+  right : RightNotes (how .separators) s (notes .at) g starts (notes .end) (notes .count) (notes .plain)
+  right = record {
+    here = ap (take (length g)) (nt .whole) ∙ take-append-seam g (how .separators .terminator ∷ more);
+    ends = nt .place;
+    inside = omega (arith, nt .place, length-drop (notes .at) s, ap length (nt .whole) ∙ length-append g (how .separators .terminator ∷ more));
+    counted = omega (arith, nt .elements);
+    started = λ k l h. nt .begins k h l;
+    plainly = λ e. nt .single (rw e tt);
+  }
+
+  -- the segment is what the notes name
+  segment-is : segmentOf s notes ≡ g
+  segment-is =
+      let e : notes .end - notes .at ≡ length g = ap (λ (x : ℕ). x - notes .at) (nt .place) ∙ add-sub-cancel-left (notes .at) (length g) in
+      rw e (right .here)
+
+  -- its elements
+  text-is : (k : ℕ) → k ≤ 31 → notedElement s starts (notes .end) (notes .count) k ≡ getD (pieces (how .separators .element) g) k []
+  text-is k h = text-right right k h
+
+  tag-is : Fitted (how .separators) → tagNumber (notedElement s starts (notes .end) (notes .count) 0) ≡ tagIn (viewOf (how .separators) g)
+  tag-is fit = ap tagNumber (text-is 0 (omega arith)) ∙ sym (tag-of-view (how .separators) fit g)
+
+-- an SE's row comes behind another row
+row-1 : tagOf 1 ≡ tag "SE" → ⊥
+unfolding tagOf rowAt list842 tagNumber
+row-1 e = omega (arith, e)
+
+late-row : (rows : List ℕ) (x : ℕ) → Viable list842 (rows ++ (x ∷ [])) → tagOf x ≡ tag "SE" → 0 < length rows
+late-row [] x v e = absurd (row-1 (sym (ap tagOf (viable-iff x [] .0 v .0)) ∙ e))
+late-row (r ∷ rows) x v e = omega arith
+
+-- the verdict of tests as what they say
+pub verdict-cases : {C : Type 0} (d : Verdict) → (d ≡ Holds → C) → ((n e : ℕ) → d ≡ Faulty n e → C) → C
+verdict-cases Holds f g = f refl
+verdict-cases (Faulty n e) f g = g n e refl
+
+-- 4
+pub judges-tag : {how : How} {s : Bytes} {starts : List ℕ} {notes : Notes} {g more : Bytes} (rows : List ℕ) (h : List View) (t : ℕ) → 34 ≤ t
+    → t ≡ tagNumber (notedElement s starts (notes .end) (notes .count) 0) → Fitted (how .separators) → Noted how s starts notes g more
+    → Judges rows h (viewOf (how .separators) g) (Broken 4 0)
+judges-tag {how} {g = g} rows h t l noted fit nt =
+    unknown-tag nonconformance rows h (viewOf (how .separators) g) (nt .data-only) (rw (← (noted ∙ tag-is nt fit)) l)
+
+module _ {how : How} {before : Tables} {s : Bytes} {segments levels : List ℕ} {at count row : ℕ} {again : Bool} {known greatest : ℕ} {gs : List Placed} {rows : List ℕ}
+    {starts : List ℕ} {notes : Notes} {g more : Bytes} (fit : Fitted (how .separators)) (nt : Noted how s starts notes g more)
+    (st : Standing how before s segments levels at count row again known greatest gs rows) (t : ℕ)
+    (tag-noted : t ≡ tagNumber (notedElement s starts (notes .end) (notes .count) 0)) where
+  abbrev v : View
+  v = viewOf (how .separators) g
+
+  abbrev h : List View
+  h = onto [] (seen how gs)
+
+  tag-known : t ≡ tagIn v
+  tag-known = tag-noted ∙ tag-is nt fit
+
+  module _ (small : t < 34) where
+    known-tag : tagIn v < 34
+    known-tag = rw (← tag-known) small
+
+    -- 6
+    pub judges-end : T (not (notes .ended)) → (j : Judgement) → j ≡ brokenBy (firstBroken (endChecks (viewOf (how .separators) (segmentOf s notes)))) → Judges rows h v j
+    judges-end open-end j is =
+        rw (is, segment-is nt)
+        (verdict-cases (firstBroken (endChecks v))
+        (λ e. absurd (nt .unkept open-end (keeps-holds (endChecks v) .0 e)))
+        (λ n k e. rw e (bad-end nonconformance rows h v (nt .data-only) known-tag n k e)))
+
+    module _ (ended : T (notes .ended)) (x : ℕ) (after : RowAfter writtenTable row again t x) where
+      ends : Keeps (endChecks v)
+      ends = nt .kept ended
+
+      one-fits : OneFits rows (tagIn v) x
+      one-fits = rw tag-known at (after .meaning refl rows (st .passed .viable) (st .row-is) (st .again-is))
+
+      -- 7
+      pub judges-row : x ≡ 0 → Judges rows h v (Broken 7 0)
+      judges-row e = no-row nonconformance rows h v (nt .data-only) known-tag ends (λ r f. one-fits .alone r f .1 e)
+
+      module _ (some : x ≡ 0 → ⊥) where
+        fits : Fits rows (tagIn v) x
+        fits = one-fits .fits some
+
+        ruled-is : firstBroken (ruledChecks (nonconformance .elements) t (notedView s starts (notes .end) (notes .count) (notes .plain) (how .separators .component)))
+            ≡ firstBroken (ruledChecks (nonconformance .elements) (tagIn v) v)
+        ruled-is = ruled-right (right nt) t ∙ ap (λ (k : ℕ). firstBroken (ruledChecks (nonconformance .elements) k v)) tag-known
+
+        -- 9, 8, 10, 11
+        pub judges-element : (d : Verdict)
+            → d ≡ firstBroken (ruledChecks (nonconformance .elements) t (notedView s starts (notes .end) (notes .count) (notes .plain) (how .separators .component)))
+            → (n e : ℕ) → d ≡ Faulty n e → Judges rows h v (Broken n e)
+        judges-element d is n e q = bad-element nonconformance rows h v (nt .data-only) known-tag ends x fits n e (sym ruled-is ∙ sym is ∙ q)
+
+        module _ (elements : Keeps (ruledChecks (nonconformance .elements) (tagIn v) v)) where
+          -- 12, 13, 14, 15 of an HL
+          its-claim : tagIn v ≡ tag "HL" → notedClaim s starts (notes .end) (notes .count) ≡ claimOf v
+          its-claim e =
+              let a = text-is nt 1 (omega arith) in
+              let b = text-is nt 2 (omega arith) in
+              let c = text-is nt 3 (omega arith) in
+              let d = text-is nt 4 (omega arith) in
+              (λ i. record { id = a i; parent = b i; code = c i; mark = d i }) ∙ sym (hl-claim (how .separators) g elements e)
+
+          hl-no-se : T (isHL v) → T (not (isSE v))
+          unfolding tagNumber
+          hl-no-se hl = rw (eqb→eq (tagIn v) 12 hl) tt
+
+          by-level : T (isHL v) → Judges rows h v (byLevel x (keyOf (claimOf v .id)) (judged (nonconformance .levels) (levelsIn nonconformance h) (claimOf v)))
+          unfolding judged
+          by-level hl =
+              let checks = levelChecks (nonconformance .levels) (levelsIn nonconformance h) (claimOf v) in
+              verdict-cases (firstBroken checks)
+              (λ q.
+              let level = its-level nonconformance rows h v (nt .data-only) known-tag ends x fits elements hl (keeps-holds checks .0 q) in
+              let closing = no-closing nonconformance rows h v (nt .data-only) known-tag ends x fits elements (hl-no-se hl) in
+              rw q (
+                record { kept = all-kept nonconformance rows h v (nt .data-only) known-tag ends x fits elements level closing; fits = fits },
+                passes (isHL v) hl,
+                hl-no-se hl,
+                refl,
+                refl,
+              ))
+              (λ n k q. rw q (bad-level nonconformance rows h v (nt .data-only) known-tag ends x fits elements hl n k q))
+
+          -- 16 and 15 of an SE
+          se-no-hl : T (isSE v) → T (not (isHL v))
+          unfolding tagNumber
+          se-no-hl se = rw (eqb→eq (tagIn v) 33 se) tt
+
+          by-closing : T (isSE v) → Judges rows h v (byClosing x (firstBroken (closingChecks nonconformance h v)))
+          by-closing se =
+              let checks = closingChecks nonconformance h v in
+              verdict-cases (firstBroken checks)
+              (λ q.
+              let level = no-level nonconformance rows h v (nt .data-only) known-tag ends x fits elements (se-no-hl se) in
+              let closing = its-closing nonconformance rows h v (nt .data-only) known-tag ends x fits elements se (keeps-holds checks .0 q) in
+              rw q (
+                record { kept = all-kept nonconformance rows h v (nt .data-only) known-tag ends x fits elements level closing; fits = fits },
+                not-passes (isHL v) (se-no-hl se),
+                se,
+              ))
+              (λ n k q. rw q (bad-closing nonconformance rows h v (nt .data-only) known-tag ends x fits elements (se-no-hl se) se n k q))
+
+          -- an SE is not the first segment
+          some-before : tagIn v ≡ tag "SE" → 0 < count
+          some-before e = omega (arith, st .count-is, st .rows-are, late-row rows x (fits .viable) (fits .tagged ∙ e))
+
+          its-closing-tests : tagIn v ≡ tag "SE"
+              → notedClosing s (how .separators .element) starts (notes .end) (notes .count) segments levels count known ≡ closingChecks nonconformance h v
+          its-closing-tests e =
+              let total : numberOf (notedElement s starts (notes .end) (notes .count) 1) ≡ valueOf (textOf (elementOf v 1)) =
+              ap numberOf (text-is nt 1 (omega arith) ∙ sym (se-count (how .separators) g elements e)) ∙ counted-number (how .separators) g elements e in
+              let control : notedElement s starts (notes .end) (notes .count) 2 ≡ textOf (elementOf v 2) =
+              text-is nt 2 (omega arith) ∙ sym (se-control (how .separators) g elements e) in
+              let first = control-of-first how before s segments levels at count row again known greatest gs rows (some-before e) st in
+              let long : suc count ≡ suc (length h) = omega (arith, history-long how gs, st .count-is) in
+              rw (total, control, first, long, st .tells .told-is) refl
+
+          -- what the notes and tables say of an HL and of an SE
+          abbrev hl-says : Judgement
+          hl-says = byLevel x (keyOf (notedElement s starts (notes .end) (notes .count) 1))
+              (judged (nonconformance .levels) (told s (how .separators .element) segments levels known) (notedClaim s starts (notes .end) (notes .count)))
+
+          abbrev se-says : Judgement
+          se-says = byClosing x (firstBroken (notedClosing s (how .separators .element) starts (notes .end) (notes .count) segments levels count known))
+
+          -- what the late rules say
+          judges-late : (state : State) → state .count ≡ count → state .known ≡ known
+              → Judges rows h v (lateJudgement (how .separators .element) s starts notes state segments levels t x)
+          unfolding tagNumber
+          judges-late state counted levelled = rw (counted, levelled) (by (eqb t 12) (eqb t 33) refl refl)
+            where
+              by : (a b : Bool) → eqb t 12 ≡ a → eqb t 33 ≡ b → Judges rows h v (cond a hl-says (cond b se-says (Plain x)))
+              by true b p q =
+                  let e : tagIn v ≡ 12 = sym tag-known ∙ eqb→eq t 12 (rw p tt) in
+                  rw (st .tells .told-is)
+                  (subst (λ (c : Claim). Judges rows h v (byLevel x (keyOf (c .id)) (judged (nonconformance .levels) (levelsIn nonconformance h) c)))
+                  (sym (its-claim e)) (by-level (rw e tt)))
+              by false true p q =
+                  let e : tagIn v ≡ 33 = sym tag-known ∙ eqb→eq t 33 (rw q tt) in
+                  subst (λ (cs : List Check). Judges rows h v (byClosing x (firstBroken cs))) (sym (its-closing-tests e)) (by-closing (rw e tt))
+              by false false p q =
+                  let hl : T (not (isHL v)) = rw (← tag-known, p) tt in
+                  let se : T (not (isSE v)) = rw (← tag-known, q) tt in
+                  let level = no-level nonconformance rows h v (nt .data-only) known-tag ends x fits elements hl in
+                  let closing = no-closing nonconformance rows h v (nt .data-only) known-tag ends x fits elements se in (
+                    record { kept = all-kept nonconformance rows h v (nt .data-only) known-tag ends x fits elements level closing; fits = fits },
+                    not-passes (isHL v) hl,
+                    se,
+                  )
+
+        -- 12 to 16, where those hold
+        pub judges-rest : (d : Verdict)
+            → d ≡ firstBroken (ruledChecks (nonconformance .elements) t (notedView s starts (notes .end) (notes .count) (notes .plain) (how .separators .component)))
+            → d ≡ Holds → (state : State) → state .count ≡ count → state .known ≡ known → state .greatest ≡ greatest
+            → (j : Judgement) → JudgesLate (how .separators .element) s starts notes state segments levels t x j → Judges rows h v j
+        judges-rest d is q state counted levelled bounded j says =
+            let ordered : Ordered (state .greatest) (told s (how .separators .element) segments levels (state .known)) =
+            rw (levelled, bounded, st .tells .told-is) (st .ordered) in
+            subst (λ (j : Judgement). Judges rows h v j) (sym (says ordered)) (judges-late (keeps-holds (ruledChecks (nonconformance .elements) (tagIn v) v) .0 (sym ruled-is ∙ sym is ∙ q)) state counted levelled)

@@ -1,0 +1,65 @@
+-- An HL judged by the levels before it: what the shortcuts find is what a search finds.
+-- Assumes nothing.
+use Prim.Native.Nat.{ℕ, _<_}
+use mathlib.Core.Path.{_≡_, sym, ap, _∙_}
+use mathlib.Core.Bool.{Bool, true, false}
+use mathlib.Core.List.{List}
+use native.Mathlib.Omega.{arith}
+use lib.Dec.{eqb}
+use lib.ListN.{length}
+use borrow.Author.Tests.{eqb-true, eqb-false}
+use Rattle.text.specs.Bytes.{Bytes}
+use Rattle.levels.specs.Profile.{nonconformance}
+use Rattle.levels.specs.Levels.{Claim, Level, called, levelAt}
+use Rattle.levels.specs.Rules.{judged}
+use Rattle.levels.specs.Groups.{judgedRoot, judgedUnder}
+use Rattle.levels.specs.Shortcuts.{keyOf, KeysUpTo, Apart, near}
+use Rattle.levels.specs.declared.judging.Judged.{Judged}
+use Rattle.levels.specs.declared.judging.Judged.the-variants.{Refused}
+use Rattle.levels.proofs.Greater.{above-all}
+use Rattle.levels.proofs.Nearby.{near-called}
+use Rattle.levels.proofs.Judgements.{judged-used, judged-alone, judged-nobody, judged-child}
+use Rattle.reading.specs.internal.Judgements.{byLevel}
+use Rattle.reading.proofs.reader.ClosingTests.{claims-same}
+
+-- a key above all others
+pub new-above : (id : Bytes) (ls : List Level) (greatest key : ℕ) → key ≡ keyOf id → greatest < key → KeysUpTo greatest ls → true ≡ eqb (called id ls) 0
+new-above id ls greatest key keyed above b =
+    ap (λ (n : ℕ). eqb n 0) (sym (above-all greatest id ls b (omega (arith, keyed, above))))
+
+-- a level that is found near
+pub near-found : (id : Bytes) (ls : List Level) (n : ℕ) → n ≡ near id ls → (n ≡ 0 → ⊥) → Apart ls → n ≡ called id ls
+near-found id ls n is some apart = is ∙ near-called id ls apart (λ z. some (is ∙ z))
+
+module _ (ls : List Level) (c : Claim) (new : Bool) (tested : new ≡ eqb (called (c .id) ls) 0) where
+  -- 12
+  pub placed-used : new ≡ false → Refused 12 1 ≡ judged nonconformance ls c
+  placed-used e = judged-used ls c (called (c .id) ls) (λ i. called (c .id) ls) (eqb-false (called (c .id) ls) 0 (sym tested ∙ e))
+
+  module _ (e : new ≡ true) where
+    fresh : called (c .id) ls ≡ 0
+    fresh = eqb-true (called (c .id) ls) 0 (sym tested ∙ e)
+
+    -- without a parent
+    pub placed-root : length (c .parent) ≡ 0 → (r : Judged) → r ≡ judgedRoot nonconformance (c .code) (c .mark) → r ≡ judged nonconformance ls c
+    placed-root none r is = is ∙ judged-alone ls c fresh none
+
+    module _ (some : length (c .parent) ≡ 0 → ⊥) (above : ℕ) (found : above ≡ called (c .parent) ls) where
+      -- 13
+      pub placed-nowhere : above ≡ 0 → Refused 13 2 ≡ judged nonconformance ls c
+      placed-nowhere z = judged-nobody ls c fresh above found some z
+
+      -- under a parent
+      pub placed-under : (above ≡ 0 → ⊥) → (l : Level) → l ≡ levelAt above ls → (r : Judged)
+          → r ≡ judgedUnder nonconformance above l (c .code) (c .mark) → r ≡ judged nonconformance ls c
+      placed-under named l m r is = is ∙ judged-child ls c fresh above found some named l m
+
+-- the answer as a judgement, where it is k, by elements that are equal to those judged
+pub hl-judged : (ls : List Level) (a a′ b b′ c c′ d d′ : Bytes) (row key : ℕ) (j k : Judged) → a ≡ a′ → b ≡ b′ → c ≡ c′ → d ≡ d′ → key ≡ keyOf a
+    → j ≡ judged nonconformance ls (record { id = a; parent = b; code = c; mark = d }) → j ≡ k
+    → byLevel row key k ≡ byLevel row (keyOf a′) (judged nonconformance ls (record { id = a′; parent = b′; code = c′; mark = d′ }))
+hl-judged ls a a′ b b′ c c′ d d′ row key j k p q r s keyed is so =
+    let keys : key ≡ keyOf a′ = keyed ∙ ap keyOf p in
+    let answers : k ≡ judged nonconformance ls (record { id = a′; parent = b′; code = c′; mark = d′ }) =
+    sym so ∙ is ∙ claims-same ls a a′ b b′ c c′ d d′ p q r s in
+    λ i. byLevel row (keys i) (answers i)

@@ -1,0 +1,307 @@
+-- The reader from one segment to the next: what it knows at the start, after a segment that is passed, and where it stops.
+-- Assumes nothing.
+use Prim.Native.Nat.{ℕ, suc, _+_, _*_, _/_, _≤_, _<_, max}
+use mathlib.Core.Path.{_≡_, refl, sym, ap, subst, _∙_}
+use mathlib.Core.Bool.{Bool, true, false, not}
+use mathlib.Core.List.{List, [], _∷_, _++_, append-assoc}
+use native.Mathlib.Omega.{arith}
+use lib.Dec.{T, eqb, eqb→eq}
+use lib.ListN.{length, take, drop, length-append, length-drop, length-map}
+use lib.Seq.{take-at, drop-at, drop-drop}
+use Rattle.text.specs.Bytes.{Bytes}
+use Rattle.text.specs.View.{View, viewOf}
+use Rattle.text.specs.Cut.{Whole, Placed}
+use Rattle.text.proofs.Lists.{map-append}
+use Rattle.text.proofs.View.{Fitted}
+use Rattle.rows.specs.Tags.{tag}
+use Rattle.rows.specs.Following.{Fits, lastOf, twice}
+use Rattle.elements.specs.Checks.{Keeps}
+use Rattle.levels.specs.Levels.{Level, called, levelOf, recordOf, recordsOf, claimOf}
+use Rattle.levels.specs.Rules.{levelChecks}
+use Rattle.levels.specs.Shortcuts.{keyOf}
+use Rattle.levels.specs.Told.{storedAt}
+use Rattle.levels.proofs.Calling.{Everyone}
+use Rattle.levels.proofs.Depth.{Within4}
+use Rattle.levels.proofs.Greater.{ordered-none, ordered-more}
+use Rattle.levels.proofs.Telling.{tells-none, told-segment-stored, told-level-stored}
+use Rattle.gate.specs.Profile.{nonconformance}
+use Rattle.gate.specs.Segments.{tagIn, isHL, isSE, seen, onto, levelsIn}
+use Rattle.gate.specs.Rules.{hlChecks, Kept}
+use Rattle.gate.specs.Records.{Tables, segmentRecords, levelRecords, Room, over}
+use Rattle.gate.specs.Reads.{cutBy, skipBy, Passed, Read}
+use Rattle.reading.specs.internal.Standing.{Standing}
+use Rattle.gate.specs.declared.answer.Answer.the-variants.{Accepted, Refused}
+use Rattle.gate.specs.declared.how.How.{How}
+use Rattle.gate.proofs.reading.Laws.{onto-append, kept-sound, onto-length}
+use Rattle.gate.proofs.reading.Once.{Fails}
+use Rattle.reading.proofs.reader.HlSegments.{hl-written, depths}
+use Rattle.gate.proofs.reading.RowOfSE.{last-snoc}
+use Rattle.gate.proofs.continuing.LevelNames.{levels-hl, levels-other}
+use Rattle.gate.proofs.reading.Reference.{passed-none, passed-more}
+
+-- Tables with records in front
+-- a record stored behind the others is one record more in front
+pub over-stored : (width : ℕ) (table records : List ℕ) (n : ℕ) (numbers : List ℕ) → length records ≡ n * width → length numbers ≡ width
+    → storedAt width (over table records) n numbers ≡ over table (records ++ numbers)
+over-stored width table records n numbers l m =
+    let front : take (n * width) (over table records) ≡ records = take-at records (drop (length records) table) (n * width) l in
+    let back : drop (n * width + width) (over table records) ≡ drop (n * width + width) table =
+    sym (drop-drop width (n * width) (over table records))
+    ∙ ap (drop width) (drop-at records (drop (length records) table) (n * width) l)
+    ∙ ap (drop width) (ap (λ (k : ℕ). drop k table) l) ∙ drop-drop width (n * width) table in
+    let long : length (records ++ numbers) ≡ n * width + width = length-append records numbers ∙ omega (arith, l, m) in
+    rw (front, back, long) (sym (append-assoc records numbers (drop (n * width + width) table)))
+
+-- no record: the table as it was
+over-none : (table : List ℕ) → table ≡ over table []
+over-none table = refl
+
+over-long : (table records : List ℕ) → length records ≤ length table → length (over table records) ≡ length table
+over-long table records h = simp (length-append, length-drop) (omega arith)
+
+-- one segment more
+pub records-more : (how : How) (h : List View) (gs : List Placed) (rows : List ℕ) (g : Placed) (r : ℕ) → length rows ≡ length gs
+    → segmentRecords how h (gs ++ (g ∷ [])) (rows ++ (r ∷ [])) ≡ segmentRecords how h gs rows ++ (g .at ∷ length (g .segment) ∷ r ∷ [])
+records-more how h [] [] g r l = refl
+records-more how h [] (x ∷ rows) g r l = absurd (omega arith)
+records-more how h (f ∷ gs) [] g r l = absurd (omega arith)
+records-more how h (f ∷ gs) (x ∷ rows) g r l =
+    ap (λ (k : List ℕ). f .at ∷ length (f .segment) ∷ x ∷ k) (records-more how (viewOf (how .separators) (f .segment) ∷ h) gs rows g r (omega arith))
+
+records-long : (how : How) (h : List View) (gs : List Placed) (rows : List ℕ) → length rows ≡ length gs → length (segmentRecords how h gs rows) ≡ length gs * 3
+records-long how h [] rows l = refl
+records-long how h (g ∷ gs) [] l = absurd (omega arith)
+records-long how h (g ∷ gs) (r ∷ rows) l = omega (arith, records-long how (viewOf (how .separators) (g .segment) ∷ h) gs rows (omega arith))
+
+level-records-long : (ls : List Level) → length (recordsOf ls) ≡ length ls * 4
+level-records-long [] = refl
+level-records-long (l ∷ ls) = length-append (recordsOf ls) (recordOf l) ∙ omega (arith, level-records-long ls)
+
+pub history-long : (how : How) (gs : List Placed) → length (onto [] (seen how gs)) ≡ length gs
+history-long how gs = onto-length [] (seen how gs) ∙ omega (arith, length-map gs (λ (g : Placed). viewOf (how .separators) (g .segment)))
+
+-- one row more
+twice-more : (r : ℕ) (already : Bool) (w : List ℕ) (x : ℕ) → twice r already (w ++ (x ∷ [])) ≡ eqb x (lastOf r w)
+twice-more r already [] x = refl
+twice-more r already (y ∷ w) x = twice-more y (eqb y r) w x
+
+-- an HL that keeps its rules has a new HL01
+new-name : (h : List View) (v : View) → isHL v ≡ true → Keeps (hlChecks nonconformance h v) → called (claimOf v .id) (levelsIn nonconformance h) ≡ 0
+unfolding hlChecks
+new-name h v e k =
+    let kept : Keeps (levelChecks (nonconformance .levels) (levelsIn nonconformance h) (claimOf v)) = rw e at k in
+    eqb→eq (called (claimOf v .id) (levelsIn nonconformance h)) 0 (kept .0)
+
+-- at the start
+pub standing-start : (how : How) (before : Tables) (s : Bytes) → Standing how before s (before .segments) (before .levels) 0 0 0 false 0 0 [] []
+unfolding levelsIn
+standing-start how before s = record {
+  passed = passed-none nonconformance how before s;
+  segments-are = refl;
+  levels-are = refl;
+  count-is = refl;
+  rows-are = refl;
+  row-is = refl;
+  again-is = refl;
+  known-is = refl;
+  tells = tells-none s (how .separators .element) (before .segments) (before .levels);
+  ordered = ordered-none;
+}
+
+module _ {how : How} {before : Tables} {s : Bytes} {segments levels : List ℕ} {at count row : ℕ} {again : Bool} {known greatest : ℕ} {gs : List Placed} {rows : List ℕ}
+    (st : Standing how before s segments levels at count row again known greatest gs rows) where
+  abbrev before-views : List View
+  before-views = onto [] (seen how gs)
+
+  -- the tables are as long as they were
+  pub segments-long : length segments ≡ length (before .segments)
+  segments-long =
+      ap length (st .segments-are)
+      ∙ over-long (before .segments) (segmentRecords how [] gs rows)
+      (omega (arith, records-long how [] gs rows (st .rows-are), st .passed .room .segments-fit, history-long how gs))
+
+  pub levels-long : length levels ≡ length (before .levels)
+  levels-long =
+      ap length (st .levels-are)
+      ∙ over-long (before .levels) (levelRecords nonconformance how gs)
+      (omega (arith, level-records-long (levelsIn nonconformance before-views), st .passed .room .levels-fit))
+
+  -- a refusal at the next segment
+  pub standing-refuses : (n e : ℕ) → Fails nonconformance how before gs rows at (drop at s) n e
+      → Read nonconformance how s before (Refused n (count + 1) at e) (record { segments = segments; levels = levels })
+  standing-refuses n e f = record {
+    kept = gs;
+    numbers = rows;
+    run = record {
+      gs = gs;
+      rows = rows;
+      end = at;
+      rest = drop at s;
+      passed = st .passed;
+      ends = (omega (arith, st .count-is), refl, refl, refl, f);
+    };
+    tables = λ i. record { segments = st .segments-are i; levels = st .levels-are i };
+  }
+
+  -- the next segment g, which was cut whole
+  module _ (g more : Bytes) (cut : cutBy how (drop at s) ≡ Whole g more) (whole : drop at s ≡ g ++ how .separators .terminator ∷ more) where
+    abbrev v : View
+    v = viewOf (how .separators) g
+
+    abbrev gs′ : List Placed
+    gs′ = gs ++ (record { at = at; segment = g } ∷ [])
+
+    behind : drop (at + length g + 1) s ≡ more
+    behind =
+        let e : at + length g + 1 ≡ at + (length g + 1) = omega arith in
+        let f : drop (length g + 1) (g ++ how .separators .terminator ∷ more) ≡ more =
+        ap (drop (length g + 1)) (sym (append-assoc g (how .separators .terminator ∷ []) more))
+        ∙ drop-at (g ++ how .separators .terminator ∷ []) more (length g + 1) (length-append g (how .separators .terminator ∷ [])) in
+        rw e (sym (drop-drop (length g + 1) at s) ∙ ap (drop (length g + 1)) whole ∙ f)
+
+    history-more : onto [] (seen how gs′) ≡ v ∷ before-views
+    history-more =
+        ap (onto []) (map-append (λ (p : Placed). viewOf (how .separators) (p .segment)) gs (record { at = at; segment = g } ∷ []))
+        ∙ onto-append [] (seen how gs) (v ∷ [])
+
+    -- the segment table with its record
+    segments-more : (r : ℕ) → storedAt 3 segments count (at ∷ length g ∷ r ∷ []) ≡ over (before .segments) (segmentRecords how [] gs′ (rows ++ (r ∷ [])))
+    segments-more r =
+        ap (λ (t : List ℕ). storedAt 3 t count (at ∷ length g ∷ r ∷ [])) (st .segments-are)
+        ∙ over-stored 3 (before .segments) (segmentRecords how [] gs rows) count (at ∷ length g ∷ r ∷ [])
+        (records-long how [] gs rows (st .rows-are) ∙ ap (λ (k : ℕ). k * 3) (st .count-is)) refl
+        ∙ ap (over (before .segments)) (sym (records-more how [] gs rows (record { at = at; segment = g }) r (st .rows-are)))
+
+    -- room for a segment, and for one that makes a level
+    pub room-plain : isHL v ≡ false → count < length segments / 3 → Room nonconformance before (v ∷ before-views)
+    room-plain hl l = record {
+      segments-fit = omega (arith, segments-long, history-long how gs, st .count-is);
+      levels-fit = rw (levels-other before-views v hl) (st .passed .room .levels-fit);
+    }
+
+    pub room-level : isHL v ≡ true → count < length segments / 3 → known < length levels / 4 → Room nonconformance before (v ∷ before-views)
+    room-level hl l m = record {
+      segments-fit = omega (arith, segments-long, history-long how gs, st .count-is);
+      levels-fit = rw (levels-hl before-views v hl) (omega (arith, levels-long, st .known-is));
+    }
+
+    -- no room
+    pub no-segment-room : length segments / 3 ≤ count → Room nonconformance before (v ∷ before-views) → ⊥
+    no-segment-room l r = omega (arith, segments-long, history-long how gs, st .count-is, r .segments-fit)
+
+    pub no-level-room : isHL v ≡ true → length levels / 4 ≤ known → Room nonconformance before (v ∷ before-views) → ⊥
+    no-level-room hl l r =
+        let f : suc (length (levelsIn nonconformance before-views)) ≤ length (before .levels) / 4 = rw (levels-hl before-views v hl) at (r .levels-fit) in
+        omega (arith, levels-long, st .known-is, f)
+
+    -- the new place
+    passed-next : (r : ℕ) → Kept nonconformance before-views v → Fits rows (tagIn v) r → T (not (isSE v)) → Room nonconformance before (v ∷ before-views)
+        → Passed nonconformance how before s gs′ (rows ++ (r ∷ [])) (at + length g + 1) (drop (at + length g + 1) s)
+    passed-next r k f o room =
+        let p = passed-more nonconformance how before s gs rows at (drop at s) g more (st .passed) cut r k f o room in
+        let e : at + length g + 1 + skipBy how more ≡ at + length g + 1 = omega arith in
+        subst (λ (x : Bytes). Passed nonconformance how before s gs′ (rows ++ (r ∷ [])) (at + length g + 1) x) (sym behind)
+        (subst (λ (x : ℕ). Passed nonconformance how before s gs′ (rows ++ (r ∷ [])) x more) e p)
+
+    count-more : length gs′ ≡ count + 1
+    count-more = length-append gs (record { at = at; segment = g } ∷ []) ∙ omega (arith, st .count-is)
+
+    rows-more : (r : ℕ) → length (rows ++ (r ∷ [])) ≡ length gs′
+    rows-more r = length-append rows (r ∷ []) ∙ omega (arith, st .rows-are, st .count-is, count-more)
+
+    again-more : (r : ℕ) → twice 0 false (rows ++ (r ∷ [])) ≡ eqb r row
+    again-more r = twice-more 0 false rows r ∙ ap (eqb r) (st .row-is)
+
+    -- a segment that makes no level is passed
+    pub standing-plain : (r : ℕ) → Kept nonconformance before-views v → Fits rows (tagIn v) r → isHL v ≡ false → T (not (isSE v))
+        → count < length segments / 3
+        → Standing how before s (storedAt 3 segments count (at ∷ length g ∷ r ∷ [])) levels (at + length g + 1) (count + 1) r (eqb r row) known greatest gs′ (rows ++ (r ∷ []))
+    standing-plain r k f hl se room =
+        let same : levelsIn nonconformance (onto [] (seen how gs′)) ≡ levelsIn nonconformance before-views =
+        ap (levelsIn nonconformance) history-more ∙ levels-other before-views v hl in
+        let one : suc count ≡ count + 1 = omega arith in
+        record {
+          passed = passed-next r k f se (room-plain hl room);
+          segments-are = segments-more r;
+          levels-are = st .levels-are ∙ ap (λ (ls : List Level). over (before .levels) (recordsOf ls)) (sym same);
+          count-is = count-more;
+          rows-are = rows-more r;
+          row-is = last-snoc 0 rows r;
+          again-is = again-more r;
+          known-is = ap length same ∙ st .known-is;
+          tells = rw (← one, same) (told-segment-stored (st .tells) at (length g) r (omega arith));
+          ordered = rw same (st .ordered);
+        }
+
+    -- a segment that makes a level is passed
+    abbrev new : Level
+    new = levelOf (nonconformance .levels) (suc (length before-views)) (claimOf v) (levelsIn nonconformance before-views)
+
+    pub standing-level : Fitted (how .separators) → (r : ℕ) → Kept nonconformance before-views v → Fits rows (tagIn v) r → isHL v ≡ true → T (not (isSE v))
+        → count < length segments / 3 → known < length levels / 4 → (numbers : List ℕ) → numbers ≡ recordOf new → (key : ℕ)
+        → key ≡ keyOf (claimOf v .id)
+        → Standing how before s (storedAt 3 segments count (at ∷ length g ∷ r ∷ [])) (storedAt 4 levels known numbers) (at + length g + 1) (count + 1) r (eqb r row)
+        (known + 1) (max greatest key) gs′ (rows ++ (r ∷ []))
+    standing-level fit r k f hl se room level-room numbers is key keyed =
+        let p = passed-next r k f se (room-level hl room level-room) in
+        let more-levels : levelsIn nonconformance (onto [] (seen how gs′)) ≡ new ∷ levelsIn nonconformance before-views =
+        ap (levelsIn nonconformance) history-more ∙ levels-hl before-views v hl in
+        let one : suc count ≡ count + 1 = omega arith in
+        let two : suc known ≡ known + 1 = omega arith in
+        let deep : Everyone Within4 (new ∷ levelsIn nonconformance before-views) = rw more-levels at (depths (seen how gs′) (p .kept)) in
+        let written = hl-written (how .separators) fit s at g more whole (k .elements) (eqb→eq (tagIn v) (tag "HL") (rw hl tt)) in
+        record {
+          passed = p;
+          segments-are = segments-more r;
+          levels-are =
+              ap (λ (t : List ℕ). storedAt 4 t known numbers) (st .levels-are)
+              ∙ over-stored 4 (before .levels) (levelRecords nonconformance how gs) known numbers
+              (level-records-long (levelsIn nonconformance before-views) ∙ ap (λ (n : ℕ). n * 4) (st .known-is)) (ap length is)
+              ∙ ap (over (before .levels))
+              (ap (λ (l : List ℕ). recordsOf (levelsIn nonconformance before-views) ++ l) is ∙ sym (ap recordsOf more-levels));
+          count-is = count-more;
+          rows-are = rows-more r;
+          row-is = last-snoc 0 rows r;
+          again-is = again-more r;
+          known-is = ap length more-levels ∙ omega (arith, st .known-is);
+          tells = rw (← one, ← two, more-levels, is)
+              (told-level-stored (st .tells) at (length g) r (omega arith) new (omega (arith, history-long how gs, st .count-is)) (deep .0 .1) (omega arith) written);
+          ordered = rw (more-levels, keyed) (ordered-more greatest (levelsIn nonconformance before-views) (st .ordered) new (new-name before-views v hl (k .level)));
+        }
+
+    -- the SE closes the transaction
+    pub standing-closes : (r : ℕ) → Kept nonconformance before-views v → Fits rows (tagIn v) r → isHL v ≡ false → T (isSE v) → count < length segments / 3
+        → Read nonconformance how s before (Accepted (count + 1) known (at + length g + 1))
+        (record { segments = storedAt 3 segments count (at ∷ length g ∷ r ∷ []); levels = levels })
+    standing-closes r k f hl se room =
+        let same : levelsIn nonconformance (onto [] (seen how gs′)) ≡ levelsIn nonconformance before-views =
+        ap (levelsIn nonconformance) history-more ∙ levels-other before-views v hl in
+        let are : levels ≡ over (before .levels) (levelRecords nonconformance how gs′) =
+        st .levels-are ∙ ap (λ (ls : List Level). over (before .levels) (recordsOf ls)) (sym same) in
+        record {
+          kept = gs′;
+          numbers = rows ++ (r ∷ []);
+          run = record {
+            gs = gs;
+            rows = rows;
+            end = at;
+            rest = drop at s;
+            passed = st .passed;
+            ends = record {
+              segment = g;
+              more = more;
+              row = r;
+              next = cut;
+              sound = kept-sound nonconformance rows before-views v r k f;
+              fits = f;
+              last = se;
+              room = room-plain hl room;
+              kept-is = refl;
+              numbers-is = refl;
+              segments-is = sym count-more;
+              levels-is = sym (ap length same ∙ st .known-is);
+              bytes-is = refl;
+            };
+          };
+          tables = λ i. record { segments = segments-more r i; levels = are i };
+        }

@@ -1,0 +1,9 @@
+-- Contracts among the functions of this crate. No rule is stated with anything here.
+-- Assumes nothing.
+pub mod Standing
+pub mod Marks
+pub mod Queue
+pub mod Cutting
+pub mod Judgements
+pub mod Settling
+pub mod Loop

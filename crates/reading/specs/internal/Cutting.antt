@@ -1,0 +1,68 @@
+-- What the cut of the next segment answers: the segment, rules 5 and 6 of it, and where its elements start.
+-- Assumes nothing.
+use Prim.Native.Nat.{ℕ, _+_, _≤_}
+use mathlib.Core.Path.{_≡_}
+use mathlib.Core.Bool.{Bool, not}
+use mathlib.Core.List.{List, _∷_, _++_}
+use lib.Dec.{T}
+use lib.ListN.{length, drop, getD}
+use Rattle.text.specs.Bytes.{Bytes}
+use Rattle.text.specs.Pieces.{Free, pieces}
+use Rattle.text.specs.View.{viewOf}
+use Rattle.text.specs.Lookup.{pieceSpan}
+use Rattle.text.specs.Post.{Meets}
+use Rattle.text.specs.declared.separators.Separators.{Separators}
+use Rattle.elements.specs.Checks.{Keeps}
+use Rattle.elements.specs.Rules.{byteChecks, endChecks}
+use Rattle.reading.specs.internal.Queue.{Ready}
+use Rattle.reading.specs.declared.cutting.Next.{Next}
+use Rattle.reading.specs.declared.cutting.Next.the-variants.{Open, Bad, Segment}
+
+-- the three separators differ
+pub record Apart (q : Separators) : Type 0 where
+  pub element-component : q .element ≡ q .component → ⊥
+  pub element-terminator : q .element ≡ q .terminator → ⊥
+  pub component-terminator : q .component ≡ q .terminator → ⊥
+
+-- from `at` on stands a segment with its terminator at `end`, and a byte of it is neither data nor separator
+pub record BadSegment (q : Separators) (s : Bytes) (at end : ℕ) : Type 0 where
+  pub segment : Bytes
+  pub more : Bytes
+  pub whole : drop at s ≡ segment ++ q .terminator ∷ more
+  pub free : Free (q .terminator) segment
+  pub place : end ≡ at + length segment
+  pub broken : Keeps (byteChecks (viewOf q segment)) → ⊥
+
+-- from `at` on stands a segment with its terminator at `end`, and its bytes are data and separators
+pub record GoodSegment (q : Separators) (table : List Bool) (s : Bytes) (at : ℕ) (queue starts : List ℕ) (end count : ℕ) (plain ended : Bool)
+    (head tail seen : ℕ) : Type 0 where
+  pub segment : Bytes
+  pub more : Bytes
+  pub whole : drop at s ≡ segment ++ q .terminator ∷ more
+  pub free : Free (q .terminator) segment
+  pub place : end ≡ at + length segment
+  pub data-only : Keeps (byteChecks (viewOf q segment))
+  -- its elements, and where they start, of the tag and the first 32
+  pub elements : length (pieces (q .element) segment) ≡ count + 1
+  pub begins : (k : ℕ) → k ≤ 32 → k ≤ count → getD starts k 0 ≡ at + pieceSpan (q .element) segment k .start
+  pub room : length starts ≡ 33
+  -- no component separator stands in it
+  pub single : T plain → Free (q .component) segment
+  -- rule 6, both ways
+  pub kept : T ended → Keeps (endChecks (viewOf q segment))
+  pub unkept : T (not ended) → Keeps (endChecks (viewOf q segment)) → ⊥
+  -- what is left of the queue serves the next cut
+  pub ready : Ready table s (end + 1) queue head tail seen
+
+-- what `next_segment` answers
+abbrev pub Cuts : Separators → List Bool → Bytes → ℕ → List ℕ → List ℕ → Next → Type 0
+Cuts q table s at queue starts Open = Free (q .terminator) (drop at s)
+Cuts q table s at queue starts (Bad end) = BadSegment q s at end
+Cuts q table s at queue starts (Segment end count plain ended head tail seen) =
+    GoodSegment q table s at queue starts end count plain ended head tail seen
+
+-- what `stop` answers: the first terminator from `from` on, or that there is none
+abbrev pub Stops : Bytes → ℕ → ℕ → Next → Type 0
+Stops s from terminator Open = Free terminator (drop from s)
+Stops s from terminator (Bad end) = Meets s from terminator end
+Stops s from terminator (Segment end count plain ended head tail seen) = ⊥

@@ -1,0 +1,19 @@
+-- What the reader knows before each segment: where it stands, and that the queue serves the next cut.
+-- Assumes nothing.
+use Prim.Native.Nat.{ℕ}
+use mathlib.Core.Path.{_≡_}
+use mathlib.Core.Bool.{Bool}
+use mathlib.Core.List.{List}
+use lib.ListN.{length}
+use Rattle.text.specs.Bytes.{Bytes}
+use Rattle.gate.specs.Records.{Tables}
+use Rattle.reading.specs.internal.Queue.{Ready}
+use Rattle.reading.specs.internal.Settling.{Stands}
+use Rattle.gate.specs.declared.how.How.{How}
+use Rattle.reading.specs.declared.judging.State.{State}
+
+pub record Going (how : How) (s : Bytes) (marks : List Bool) (before : Tables) (segments levels queue starts : List ℕ) (at head tail seen : ℕ)
+    (state : State) : Type 0 where
+  pub stands : Stands how before s segments levels at state
+  pub ready : Ready marks s at queue head tail seen
+  pub room : length starts ≡ 33
