@@ -6,14 +6,13 @@ use mathlib.Core.Logic.{_⊎_}
 use mathlib.Core.Bool.{Bool, true, false, not}
 use mathlib.Core.List.{List, [], _∷_, _++_, map}
 use lib.Dec.{T, leb}
-use lib.ListN.{length, getD}
+use lib.ListN.{length}
 use Rattle.text.specs.Bytes.{Bytes}
 use Rattle.text.specs.Separators.{fitSeparators}
 use Rattle.text.specs.View.{View, viewOf}
 use Rattle.text.specs.Cut.{Cut, Whole, Stop, cutOf, skipOf, Placed, Leads}
 use Rattle.rows.specs.Rows.{Viable, list842}
 use Rattle.rows.specs.RowList.{tagOf}
-use Rattle.rows.specs.Following.{Fits}
 use Rattle.gate.specs.Profile.{Profile, nonconformance}
 use Rattle.gate.specs.Segments.{tagIn, isSE, seen, onto, levelsIn}
 use Rattle.gate.specs.Answers.{numbersOf}
@@ -44,14 +43,15 @@ pub record Passed (profile : Profile) (how : How) (t : Tables) (s : Bytes) (gs :
   pub ongoing : From (λ h v. T (not (isSE v))) [] (seen how gs)
   pub room : Room profile t (onto [] (seen how gs))
 
+-- how a reading goes on from the segments gs that were passed, with their rows, to the rest of the bytes, which starts at `end`
 module _ (profile : Profile) (how : How) (t : Tables) (gs : List Placed) (rows : List ℕ) (end : ℕ) (rest : Bytes) where
+  -- the segments before the next one, latest first
+  abbrev pub earlier : List View
+  earlier = onto [] (seen how gs)
+
   -- the rules of the next segment
   abbrev pub rulesNext : Bytes → List Rattle.gate.specs.Rules.Rule
-  rulesNext segment = rules profile rows (onto [] (seen how gs)) (viewOf (how .separators) segment)
-
-  -- the segments with the next one, latest first
-  abbrev pub withNext : Bytes → List View
-  withNext segment = viewOf (how .separators) segment ∷ onto [] (seen how gs)
+  rulesNext segment = rules profile rows earlier (viewOf (how .separators) segment)
 
   -- 3: the cut finds no segment
   pub record Stopped (number element : ℕ) : Type 0 where
@@ -66,42 +66,45 @@ module _ (profile : Profile) (how : How) (t : Tables) (gs : List Placed) (rows :
     pub next : cutBy how rest ≡ Whole segment more
     pub first : FirstBroken (rulesNext segment) number element
 
+  -- the next segment keeps every rule and has this row
+  pub record Keeping (segment : Bytes) (row : ℕ) : Type 0 where
+    pub more : Bytes
+    pub next : cutBy how rest ≡ Whole segment more
+    pub sound : Sound profile rows earlier (viewOf (how .separators) segment) row
+
+  -- there is room for the records with the next segment's
+  abbrev pub RoomWith : Bytes → Type 0
+  RoomWith segment = Room profile t (viewOf (how .separators) segment ∷ earlier)
+
   -- 17: every rule holds, and a table has no room for a record
   pub record Full (number element : ℕ) : Type 0 where
     pub segment : Bytes
-    pub more : Bytes
-    pub next : cutBy how rest ≡ Whole segment more
-    pub sound : Sound (rulesNext segment)
-    pub no-room : Room profile t (withNext segment) → ⊥
+    pub row : ℕ
+    pub keeping : Keeping segment row
+    pub no-room : RoomWith segment → ⊥
     pub number-is : number ≡ 17
     pub element-is : element ≡ 0
 
-  -- 0: the next segment is an SE, every rule holds, and there is room; its terminator ends the transaction
-  pub record Closes (kept : List Placed) (numbers : List ℕ) (segments levels bytes : ℕ) : Type 0 where
+  -- 0: the next segment is an SE, every rule holds, and there is room; its terminator ends the transaction. `kept` are the segments that have
+  -- records, and `numbers` their rows. The four numbers of the answer count the segments, the levels and the bytes
+  pub record Accepts (four : List ℕ) (kept : List Placed) (numbers : List ℕ) : Type 0 where
     pub segment : Bytes
-    pub more : Bytes
     pub row : ℕ
-    pub next : cutBy how rest ≡ Whole segment more
-    pub sound : Sound (rulesNext segment)
-    pub fits : Fits rows (tagIn (viewOf (how .separators) segment)) row
+    pub keeping : Keeping segment row
     pub last : T (isSE (viewOf (how .separators) segment))
-    pub room : Room profile t (withNext segment)
+    pub room : RoomWith segment
     pub kept-is : kept ≡ gs ++ (record { at = end; segment = segment } ∷ [])
     pub numbers-is : numbers ≡ rows ++ (row ∷ [])
-    pub segments-is : segments ≡ length kept
-    pub levels-is : levels ≡ length (levelsIn profile (onto [] (seen how kept)))
-    pub bytes-is : bytes ≡ end + length segment + 1
+    pub counts : four ≡ 0 ∷ length kept ∷ length (levelsIn profile (onto [] (seen how kept))) ∷ (end + length segment + 1) ∷ []
 
-  -- how the reading ends after the segments that were passed; kept are the segments that have records, and numbers their rows. The four
-  -- numbers of an acceptance are 0, segments, levels and bytes
-  abbrev pub Accepts : List ℕ → List Placed → List ℕ → Type 0
-  Accepts four kept numbers = Closes kept numbers (getD four 1 0) (getD four 2 0) (getD four 3 0)
-
-  -- those of a refusal are its number, the segment, the byte where it starts, and the element
-  abbrev pub Refuses : List ℕ → List Placed → List ℕ → Type 0
-  Refuses four kept numbers =
-      (getD four 1 0 ≡ length gs + 1) × (getD four 2 0 ≡ end) × (kept ≡ gs) × (numbers ≡ rows)
-      × (Stopped (getD four 0 0) (getD four 3 0) ⊎ (Breaks (getD four 0 0) (getD four 3 0) ⊎ Full (getD four 0 0) (getD four 3 0)))
+  -- a refusal: only what was passed has records, and the four numbers are the answer's number, the next segment, where it starts, and the element
+  pub record Refuses (four : List ℕ) (kept : List Placed) (numbers : List ℕ) : Type 0 where
+    pub number : ℕ
+    pub element : ℕ
+    pub cause : Stopped number element ⊎ (Breaks number element ⊎ Full number element)
+    pub kept-is : kept ≡ gs
+    pub numbers-is : numbers ≡ rows
+    pub place : four ≡ number ∷ (length gs + 1) ∷ end ∷ element ∷ []
 
   abbrev pub Ends : Answer → List Placed → List ℕ → Type 0
   Ends (Accepted segments levels bytes) kept numbers = Accepts (numbersOf (Accepted segments levels bytes)) kept numbers

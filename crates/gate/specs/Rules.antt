@@ -64,11 +64,6 @@ late profile h v = ruledChecks (profile .elements) (tagIn v) v ++ hlChecks profi
 abbrev pub rules : Profile → List ℕ → List View → View → List Rule
 rules profile w h v = asRules (early v) ++ rowRules w v ++ asRules (late profile h v)
 
--- every rule holds
-abbrev pub Sound : List Rule → Type 0
-Sound [] = Unit {0}
-Sound (r ∷ rs) = r .Holds × Sound rs
-
 -- the first rule that does not hold has this number and element
 abbrev pub FirstBroken : List Rule → ℕ → ℕ → Type 0
 FirstBroken [] number element = ⊥
@@ -82,6 +77,11 @@ pub record Kept (profile : Profile) (h : List View) (v : View) : Type 0 where
   pub elements : Keeps (ruledChecks (profile .elements) (tagIn v) v)
   pub level : Keeps (hlChecks profile h v)
   pub closing : Keeps (seChecks profile h v)
+
+-- every rule holds of the segment, and this is the row that fits it
+pub record Sound (profile : Profile) (w : List ℕ) (h : List View) (v : View) (row : ℕ) : Type 0 where
+  pub kept : Kept profile h v
+  pub fits : Fits w (tagIn v) row
 
 -- each of the segments keeps P after those before it
 abbrev pub From : (List View → View → Type 0) → List View → List View → Type 0

@@ -14,10 +14,8 @@ ghost use Rattle.gate.specs.Profile.{nonconformance};
 ghost use Rattle.gate.specs.Records.{Tables};
 ghost use Rattle.gate.specs.Reads.{limit, Read, Reads};
 ghost use Rattle.reading.specs.internal.Settling.{between, refusedBy};
-use gate::answer::Answer;
 use crate::cutting;
 use crate::cutting::Next;
-use gate::how::How;
 use crate::judging;
 use crate::judging::Notes;
 use crate::judging::State;
@@ -25,6 +23,8 @@ use crate::settling;
 use crate::settling::Step;
 use elements::segment;
 use elements::verdict::Verdict;
+use gate::answer::Answer;
+use gate::how::How;
 use rows::next;
 
 // The longest input.

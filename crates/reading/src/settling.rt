@@ -3,11 +3,11 @@ ghost use mathlib.Core.Path.{_≡_};
 ghost use Prim.Native.Nat.{_/_, _≤_, _<_, max};
 ghost use lib.ListN.{length};
 ghost use Rattle.reading.specs.internal.Settling.{stateAfter, refusedAt, acceptedAt, InRoom, SettlesBy, SettlesPlain, SettlesLevel, SettlesLast};
-use gate::answer::Answer;
 use crate::judging::Judgement;
 use crate::judging::Notes;
 use crate::judging::State;
 use crate::storing;
+use gate::answer::Answer;
 
 // What became of the next segment.
 pub(crate) enum Step {

@@ -22,7 +22,7 @@ use Rattle.gate.specs.Reads.{cutBy, skipBy, Run}
 use Rattle.gate.specs.Conditions.{usedBy}
 use Rattle.gate.specs.declared.answer.Answer.the-variants.{Accepted}
 use Rattle.gate.specs.declared.how.How.{How}
-use Rattle.gate.proofs.reading.Laws.{sound-kept, kept-sound, from-at, onto-append, MeetsFrom}
+use Rattle.gate.proofs.reading.Laws.{from-at, onto-append, MeetsFrom}
 use Rattle.gate.proofs.reading.Passing.{numbers, room-fewer}
 use Rattle.gate.proofs.reading.RowOfSE.{tag-79}
 use Rattle.gate.proofs.reading.LastSegment.{passed-closed, word-viable, tags-last, closed-passed, word-ended}
@@ -75,12 +75,12 @@ module _ (profile : Profile) (how : How) (t : Tables) (s : Bytes) where
       let vs : seen how kept ≡ seen how (r .gs) ++ (v ∷ []) =
       ap (seen how) (x .kept-is) ∙ map-append (λ (g : Placed). viewOf (how .separators) (g .segment)) (r .gs) (record { at = r .end; segment = x .segment } ∷ []) in
       record {
-        end = r .end + length (x .segment) + 1 + skipBy how (x .more);
-        rest = drop (skipBy how (x .more)) (x .more);
-        leads = rw (x .kept-is) (led-snoc 0 s (r .gs) (r .end) (r .rest) (x .segment) (x .more) (r .passed .leads) (x .next));
+        end = r .end + length (x .segment) + 1 + skipBy how (x .keeping .more);
+        rest = drop (skipBy how (x .keeping .more)) (x .keeping .more);
+        leads = rw (x .kept-is)
+            (led-snoc 0 s (r .gs) (r .end) (r .rest) (x .segment) (x .keeping .more) (r .passed .leads) (x .keeping .next));
         meets = rw (vs, x .numbers-is)
-            (passed-closed profile (seen how (r .gs)) (r .rows) v (x .row) (numbers (r .passed)) (sound-kept profile (r .rows) (onto [] (seen how (r .gs))) v (x .sound) .0)
-            (x .fits) (x .last));
+            (passed-closed profile (seen how (r .gs)) (r .rows) v (x .row) (numbers (r .passed)) (x .keeping .sound .kept) (x .keeping .sound .fits) (x .last));
         room = rw (vs, onto-append) (x .room);
       }
 
@@ -89,8 +89,9 @@ module _ (profile : Profile) (how : How) (t : Tables) (s : Bytes) where
       → Accepted a b c ≡ Accepted (length kept) (length (levelsIn profile (onto [] (seen how kept)))) (usedBy kept)
   accepted-numbers a b c kept w r =
       let x = r .ends in
-      let u : c ≡ usedBy kept = x .bytes-is ∙ sym (ap usedBy (x .kept-is) ∙ used-snoc (r .gs) (record { at = r .end; segment = x .segment })) in
-      cc (x .segments-is, x .levels-is, u)
+      let last : usedBy kept ≡ r .end + length (x .segment) + 1 =
+      ap usedBy (x .kept-is) ∙ used-snoc (r .gs) (record { at = r .end; segment = x .segment }) in
+      cc (x .counts, last)
 
   -- a transaction whose last row is 79 is read and accepted
   closing-run : (gs : List Placed) (g : Placed) (w : List ℕ) → Transaction profile how t s (gs ++ (g ∷ [])) (w ++ (79 ∷ []))
@@ -121,18 +122,17 @@ module _ (profile : Profile) (how : How) (t : Tables) (s : Bytes) where
         };
         ends = record {
           segment = g .segment;
-          more = l .more;
           row = 79;
-          next = l .next;
-          sound = kept-sound profile w (onto [] vs) v 79 (from-at (Kept profile) [] vs v [] (m .kept)) f;
-          fits = f;
+          keeping = record {
+            more = l .more;
+            next = l .next;
+            sound = record { kept = from-at (Kept profile) [] vs v [] (m .kept); fits = f };
+          };
           last = rw (se .1) (eqb-refl (tag "SE"));
           room = r;
           kept-is = refl;
           numbers-is = refl;
-          segments-is = refl;
-          levels-is = refl;
-          bytes-is = used-snoc gs g;
+          counts = rw (used-snoc gs g);
         };
       }
 

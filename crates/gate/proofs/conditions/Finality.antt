@@ -21,7 +21,7 @@ use Rattle.gate.specs.Reads.{cutBy, skipBy, Passed, Run}
 use Rattle.gate.specs.Conditions.{Larger, lookedAt, upToSegment}
 use Rattle.gate.specs.declared.answer.Answer.the-variants.{Accepted, Refused}
 use Rattle.gate.specs.declared.how.How.{How}
-use Rattle.gate.proofs.reading.Once.{Fails}
+use Rattle.gate.proofs.reading.Once.{Fails, refused-fails, refused-byte}
 
 -- room in a table is room in a larger one
 pub room-larger : (profile : Profile) (t u : Tables) (h : List View) → Larger t u → Room profile t h → Room profile u h
@@ -80,7 +80,7 @@ module _ (profile : Profile) (how : How) (t u : Tables) (larger : Larger t u) wh
       → Run profile how u (upToSegment how s b ++ more) (Refused n k b e) kept w
   stands s n k b e kept w r x old more l i j f =
       let z = looked s (r .gs) (r .rows) (r .end) x old (rw i at (r .passed)) l in
-      let up : upToSegment how s b ≡ z .front ++ x = upto-is s (z .front) x old b (z .whole) (r .ends .1 ∙ z .place) j in
+      let up : upToSegment how s b ≡ z .front ++ x = upto-is s (z .front) x old b (z .whole) (refused-byte profile how t (r .gs) (r .rows) (r .end) (r .rest) n k b e kept w (r .ends) ∙ z .place) j in
       rw (up, append-assoc)
       (record {
         gs = r .gs;
@@ -88,13 +88,20 @@ module _ (profile : Profile) (how : How) (t u : Tables) (larger : Larger t u) wh
         end = r .end;
         rest = x ++ more;
         passed = z .again more;
-        ends = (r .ends .0, r .ends .1, r .ends .2, r .ends .3, f);
+        ends = record {
+          number = n;
+          element = e;
+          cause = f;
+          kept-is = r .ends .kept-is;
+          numbers-is = r .ends .numbers-is;
+          place = cc (r .ends .place);
+        };
       })
 
   -- a fault stands
   pub refusal-stands : (s : Bytes) (n k b e : ℕ) (kept : List Placed) (w : List ℕ) → Fault n → Run profile how t s (Refused n k b e) kept w
       → (more : Bytes) → Run profile how u (upToSegment how s b ++ more) (Refused n k b e) kept w
-  refusal-stands s n k b e kept w fault r more = by (r .ends .4)
+  refusal-stands s n k b e kept w fault r more = by (refused-fails profile how t (r .gs) (r .rows) (r .end) (r .rest) n k b e kept w (r .ends))
     where
       stop : (upto old : Bytes) → cutBy how (r .rest) ≡ Stop n e upto old
           → (n ≡ 3) ⊎ ((r .rest ≡ upto ++ old) × (0 < length upto) × ((x : Bytes) → cutBy how (upto ++ x) ≡ Stop n e upto x))
@@ -124,13 +131,15 @@ module _ (profile : Profile) (how : How) (t u : Tables) (larger : Larger t u) wh
       let x = r .ends in
       let g = x .segment in
       let end-mark = how .separators .terminator in
-      let y = whole-keeps (r .rest) g (x .more) (x .next) in
-      let i : r .rest ≡ (g ++ end-mark ∷ []) ++ x .more = y .0 ∙ sym (append-assoc g (end-mark ∷ []) (x .more)) in
-      let z = looked s (r .gs) (r .rows) (r .end) (g ++ end-mark ∷ []) (x .more) (rw i at (r .passed)) (rw (length-append g (end-mark ∷ [])) (omega arith)) in
-      let n : length (z .front ++ (g ++ end-mark ∷ [])) ≡ c = simp length-append (omega (arith, x .bytes-is, z .place)) in
+      let old = x .keeping .more in
+      let y = whole-keeps (r .rest) g old (x .keeping .next) in
+      let i : r .rest ≡ (g ++ end-mark ∷ []) ++ old = y .0 ∙ sym (append-assoc g (end-mark ∷ []) old) in
+      let z = looked s (r .gs) (r .rows) (r .end) (g ++ end-mark ∷ []) old (rw i at (r .passed)) (rw (length-append g (end-mark ∷ [])) (omega arith)) in
+      let used : c ≡ r .end + length g + 1 = cc (x .counts) in
+      let n : length (z .front ++ (g ++ end-mark ∷ [])) ≡ c = simp length-append (omega (arith, used, z .place)) in
       let front : take c s ≡ z .front ++ (g ++ end-mark ∷ []) =
-      ap (take c) (z .whole ∙ sym (append-assoc (z .front) (g ++ end-mark ∷ []) (x .more)))
-      ∙ take-at (z .front ++ (g ++ end-mark ∷ [])) (x .more) c n in
+      ap (take c) (z .whole ∙ sym (append-assoc (z .front) (g ++ end-mark ∷ []) old))
+      ∙ take-at (z .front ++ (g ++ end-mark ∷ [])) old c n in
       rw (front, append-assoc)
       (record {
         gs = r .gs;
@@ -140,17 +149,12 @@ module _ (profile : Profile) (how : How) (t u : Tables) (larger : Larger t u) wh
         passed = z .again more;
         ends = record {
           segment = g;
-          more = more;
           row = x .row;
-          next = ap (cutBy how) (append-assoc g (end-mark ∷ []) more) ∙ y .1 more;
-          sound = x .sound;
-          fits = x .fits;
+          keeping = record { more = more; next = ap (cutBy how) (append-assoc g (end-mark ∷ []) more) ∙ y .1 more; sound = x .keeping .sound };
           last = x .last;
           room = room-larger profile t u (viewOf (how .separators) g ∷ onto [] (seen how (r .gs))) larger (x .room);
           kept-is = x .kept-is;
           numbers-is = x .numbers-is;
-          segments-is = x .segments-is;
-          levels-is = x .levels-is;
-          bytes-is = x .bytes-is;
+          counts = x .counts;
         };
       })

@@ -31,7 +31,7 @@ use Rattle.gate.specs.Reads.{limit, cutBy, skipBy, Passed, Run}
 use Rattle.gate.specs.Conditions.{Continues}
 use Rattle.gate.specs.declared.answer.Answer.the-variants.{Refused}
 use Rattle.gate.specs.declared.how.How.{How}
-use Rattle.gate.proofs.reading.Once.{Fails}
+use Rattle.gate.proofs.reading.Once.{Fails, refused-fails, refused-segment, refused-byte}
 use Rattle.gate.proofs.whole.AllRules.{from-meets}
 use Rattle.gate.proofs.continuing.Continuation.{Continued, continued}
 
@@ -196,7 +196,7 @@ cut-behind (b ∷ g) t m = (b, g ++ t ∷ m, refl)
 
 fault-byte : (how : How) (t : Tables) (s : Bytes) (n k b e : ℕ) (kept : List Placed) (w : List ℕ) → Fault n
     → (r : Run nonconformance how t s (Refused n k b e) kept w) → (x : ℕ) × (y : Bytes) × (r .rest ≡ x ∷ y)
-fault-byte how t s n k b e kept w f r = by (r .ends .4)
+fault-byte how t s n k b e kept w f r = by (refused-fails nonconformance how t (r .gs) (r .rows) (r .end) (r .rest) n k b e kept w (r .ends))
   where
     stopped : (u m : Bytes) → (n ≡ 3) ⊎ ((r .rest ≡ u ++ m) × (0 < length u) × ((x : Bytes) → cutBy how (u ++ x) ≡ Stop n e u x))
         → (x : ℕ) × (y : Bytes) × (r .rest ≡ x ∷ y)
@@ -220,5 +220,6 @@ pub fault-continues : (how : How) (t : Tables) (s : Bytes) (n k b e : ℕ) (kept
 fault-continues how t s n k b e kept w fit short f r =
     let x = fault-byte how t s n k b e kept w f r in
     let p : Passed nonconformance how t s (r .gs) (r .rows) (r .end) (x .0 ∷ x .1) = rw (x .2) at (r .passed) in
-    subst (λ (place : ℕ). Continues how s k place) (sym (r .ends .1))
-    (continues how (fitted (how .separators) fit) t s (r .gs) (r .rows) (r .end) (x .0) (x .1) p short k (sym (r .ends .0)))
+    subst (λ (place : ℕ). Continues how s k place) (sym (refused-byte nonconformance how t (r .gs) (r .rows) (r .end) (r .rest) n k b e kept w (r .ends)))
+    (continues how (fitted (how .separators) fit) t s (r .gs) (r .rows) (r .end) (x .0) (x .1) p short k
+    (sym (refused-segment nonconformance how t (r .gs) (r .rows) (r .end) (r .rest) n k b e kept w (r .ends))))

@@ -38,28 +38,33 @@ keeps-at number a (suc n) test h k l u =
     (λ w. keeps-at number (suc a) n test (h .1) k (omega arith) (omega arith))
     (λ w. let z : a ≡ k = omega arith in rw z at (h .0))
 
+-- every rule of the list holds
+abbrev pub EachHolds : List Rule → Type 0
+EachHolds [] = Unit {0}
+EachHolds (r ∷ rs) = r .Holds × EachHolds rs
+
 -- rules, appended
-pub sound-split : (a b : List Rule) → Sound (a ++ b) → Sound a × Sound b
-sound-split [] b s = (tt, s)
-sound-split (r ∷ a) b s = let i = sound-split a b (s .1) in ((s .0, i .0), i .1)
+pub holds-split : (a b : List Rule) → EachHolds (a ++ b) → EachHolds a × EachHolds b
+holds-split [] b s = (tt, s)
+holds-split (r ∷ a) b s = let i = holds-split a b (s .1) in ((s .0, i .0), i .1)
 
-pub sound-both : (a b : List Rule) → Sound a → Sound b → Sound (a ++ b)
-sound-both [] b x y = y
-sound-both (r ∷ a) b x y = (x .0, sound-both a b (x .1) y)
+pub holds-both : (a b : List Rule) → EachHolds a → EachHolds b → EachHolds (a ++ b)
+holds-both [] b x y = y
+holds-both (r ∷ a) b x y = (x .0, holds-both a b (x .1) y)
 
-pub sound-keeps : (cs : List Check) → Sound (asRules cs) → Keeps cs
-sound-keeps [] s = tt
-sound-keeps (c ∷ cs) s = (s .0, sound-keeps cs (s .1))
+pub holds-keeps : (cs : List Check) → EachHolds (asRules cs) → Keeps cs
+holds-keeps [] s = tt
+holds-keeps (c ∷ cs) s = (s .0, holds-keeps cs (s .1))
 
-pub keeps-sound : (cs : List Check) → Keeps cs → Sound (asRules cs)
-keeps-sound [] k = tt
-keeps-sound (c ∷ cs) k = (k .0, keeps-sound cs (k .1))
+pub keeps-holds : (cs : List Check) → Keeps cs → EachHolds (asRules cs)
+keeps-holds [] k = tt
+keeps-holds (c ∷ cs) k = (k .0, keeps-holds cs (k .1))
 
 -- where a rule is broken not all hold, and the first that is broken is one
-pub broken-unsound : (rs : List Rule) (n e : ℕ) → FirstBroken rs n e → Sound rs → ⊥
-broken-unsound [] n e f s = f
-broken-unsound (r ∷ rs) n e (inl f) s = f .0 (s .0)
-broken-unsound (r ∷ rs) n e (inr f) s = broken-unsound rs n e (f .1) (s .1)
+broken-not-each : (rs : List Rule) (n e : ℕ) → FirstBroken rs n e → EachHolds rs → ⊥
+broken-not-each [] n e f s = f
+broken-not-each (r ∷ rs) n e (inl f) s = f .0 (s .0)
+broken-not-each (r ∷ rs) n e (inr f) s = broken-not-each rs n e (f .1) (s .1)
 
 pub broken-once : (rs : List Rule) (n e m f : ℕ) → FirstBroken rs n e → FirstBroken rs m f → (n ≡ m) × (e ≡ f)
 broken-once [] n e m f a b = absurd a
@@ -68,28 +73,37 @@ broken-once (r ∷ rs) n e m f (inl a) (inr b) = absurd (a .0 (b .0))
 broken-once (r ∷ rs) n e m f (inr a) (inl b) = absurd (b .0 (a .0))
 broken-once (r ∷ rs) n e m f (inr a) (inr b) = broken-once rs n e m f (a .1) (b .1)
 
--- all rules of a segment hold exactly if it keeps its tests and a row fits
-pub sound-kept : (profile : Profile) (w : List ℕ) (h : List View) (v : View) → Sound (rules profile w h v) → Kept profile h v × ((r : ℕ) × Fits w (tagIn v) r)
-sound-kept profile w h v s =
-    let i = sound-split (asRules (early v) ++ rowRules w v) (asRules (late profile h v)) s in
-    let j = sound-split (asRules (early v)) (rowRules w v) (i .0) in
-    let a = keeps-split (byteChecks v ++ tagChecks v) (endChecks v) (sound-keeps (early v) (j .0)) in
-    let ruled = ruledChecks (profile .elements) (tagIn v) v in
-    let b = keeps-split (ruled ++ hlChecks profile h v) (seChecks profile h v) (sound-keeps (late profile h v) (i .1)) in
-    let c = keeps-split ruled (hlChecks profile h v) (b .0) in
-    (record { bytes = keeps-split (byteChecks v) (tagChecks v) (a .0) .0; ends = a .1; elements = c .0; level = c .1; closing = b .1 }, j .1 .0)
+-- a segment of which each rule of the list holds is sound, whichever row fits, and back
+module _ (profile : Profile) (w : List ℕ) (h : List View) (v : View) where
+  pub holds-sound : (r : ℕ) → Fits w (tagIn v) r → EachHolds (rules profile w h v) → Sound profile w h v r
+  holds-sound r f s =
+      let i = holds-split (asRules (early v) ++ rowRules w v) (asRules (late profile h v)) s in
+      let j = holds-split (asRules (early v)) (rowRules w v) (i .0) in
+      let a = keeps-split (byteChecks v ++ tagChecks v) (endChecks v) (holds-keeps (early v) (j .0)) in
+      let ruled = ruledChecks (profile .elements) (tagIn v) v in
+      let b = keeps-split (ruled ++ hlChecks profile h v) (seChecks profile h v) (holds-keeps (late profile h v) (i .1)) in
+      let c = keeps-split ruled (hlChecks profile h v) (b .0) in
+      record {
+        kept = record { bytes = keeps-split (byteChecks v) (tagChecks v) (a .0) .0; ends = a .1; elements = c .0; level = c .1; closing = b .1 };
+        fits = f;
+      }
 
-pub kept-sound : (profile : Profile) (w : List ℕ) (h : List View) (v : View) (r : ℕ) → Kept profile h v → Fits w (tagIn v) r → Sound (rules profile w h v)
-unfolding tagChecks
-kept-sound profile w h v r k f =
-    let ruled = ruledChecks (profile .elements) (tagIn v) v in
-    let tagged : Keeps (tagChecks v) = (lt→ltb (tagIn v) 34 (fits-tag w (tagIn v) r f), tt) in
-    sound-both (asRules (early v) ++ rowRules w v) (asRules (late profile h v))
-    (sound-both (asRules (early v)) (rowRules w v)
-    (keeps-sound (early v) (keeps-both (byteChecks v ++ tagChecks v) (endChecks v) (keeps-both (byteChecks v) (tagChecks v) (k .bytes) tagged) (k .ends)))
-    ((r, f), tt))
-    (keeps-sound (late profile h v)
-    (keeps-both (ruled ++ hlChecks profile h v) (seChecks profile h v) (keeps-both ruled (hlChecks profile h v) (k .elements) (k .level)) (k .closing)))
+  sound-holds : (r : ℕ) → Sound profile w h v r → EachHolds (rules profile w h v)
+  unfolding tagChecks
+  sound-holds r s =
+      let k = s .kept in
+      let ruled = ruledChecks (profile .elements) (tagIn v) v in
+      let tagged : Keeps (tagChecks v) = (lt→ltb (tagIn v) 34 (fits-tag w (tagIn v) r (s .fits)), tt) in
+      holds-both (asRules (early v) ++ rowRules w v) (asRules (late profile h v))
+      (holds-both (asRules (early v)) (rowRules w v)
+      (keeps-holds (early v) (keeps-both (byteChecks v ++ tagChecks v) (endChecks v) (keeps-both (byteChecks v) (tagChecks v) (k .bytes) tagged) (k .ends)))
+      ((r, s .fits), tt))
+      (keeps-holds (late profile h v)
+      (keeps-both (ruled ++ hlChecks profile h v) (seChecks profile h v) (keeps-both ruled (hlChecks profile h v) (k .elements) (k .level)) (k .closing)))
+
+  -- so a segment that breaks a rule is not sound
+  pub broken-unsound : (n e r : ℕ) → FirstBroken (rules profile w h v) n e → Sound profile w h v r → ⊥
+  broken-unsound n e r f s = broken-not-each (rules profile w h v) n e f (sound-holds r s)
 
 -- each segment with those before it
 module _ (P : List View → View → Type 0) where

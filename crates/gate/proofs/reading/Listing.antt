@@ -28,7 +28,7 @@ use Rattle.gate.specs.declared.answer.Answer.{Answer}
 use Rattle.gate.specs.declared.answer.Answer.the-variants.{Accepted, Refused}
 use Rattle.gate.specs.declared.how.How.{How}
 use Rattle.gate.proofs.reading.Numbers.{refusal-of}
-use Rattle.gate.proofs.reading.Once.{Fails}
+use Rattle.gate.proofs.reading.Once.{Fails, refused-fails}
 
 -- every test of the list is numbered 4 to 16
 abbrev Numbered : List Check → Type 0
@@ -126,7 +126,7 @@ stop-3 how rest upto more n e q = subst (λ (c : Cut). Says (how .separators) re
 
 read-listed : (how : How) (s : Bytes) (before : Tables) (r : Answer) (after : Tables) → Read nonconformance how s before r after → Listed r
 read-listed how s before (Accepted a l b) after x = tt
-read-listed how s before (Refused n k b e) after x = by (x .run .ends .4)
+read-listed how s before (Refused n k b e) after x = by (refused-fails nonconformance how before (x .run .gs) (x .run .rows) (x .run .end) (x .run .rest) n k b e (x .kept) (x .numbers) (x .run .ends))
   where
     by : Fails nonconformance how before (x .run .gs) (x .run .rows) (x .run .end) (x .run .rest) n e → Listed (Refused n k b e)
     by (inl f) = let q = stop-3 how (x .run .rest) (f .upto) (f .more) n e (f .stops) in (omega (arith, q), omega (arith, q))

@@ -24,14 +24,15 @@ use Rattle.elements.specs.Checks.{Check, Keeps as KeepsChecks}
 use Rattle.elements.specs.Rules.{byteChecks, endChecks}
 use Rattle.gate.specs.Profile.{Profile}
 use Rattle.gate.specs.Segments.{tagIn, isSE, seen, onto, levelsIn}
-use Rattle.gate.specs.Rules.{tagChecks, Rule, asRules, rowRules, early, late, rules, Sound, FirstBroken, Kept}
+use Rattle.gate.specs.Rules.{tagChecks, Rule, asRules, rowRules, early, late, rules, Sound, FirstBroken}
 use Rattle.gate.specs.Records.{Tables, Room, segmentRoom, levelRoom}
 use Rattle.gate.specs.Reads.{cutBy, skipBy, Passed, Run}
 use Rattle.gate.specs.declared.answer.Answer.{Answer}
 use Rattle.gate.specs.declared.answer.Answer.the-variants.{Accepted, Refused}
 use Rattle.gate.specs.declared.how.How.{How}
-use Rattle.gate.proofs.reading.Laws.{keeps-split, sound-kept, onto-append}
+use Rattle.gate.proofs.reading.Laws.{EachHolds, holds-sound, keeps-split, onto-append}
 use Rattle.gate.proofs.reading.Passing.{numbers, numbers-more}
+use Rattle.gate.proofs.reading.Once.{Fails}
 use Rattle.gate.proofs.conditions.Accepting.{led-snoc}
 
 -- what the rules say of a segment: the row that fits, or the first that is broken
@@ -103,7 +104,7 @@ compute profile how segments levels s = run profile how segments levels (suc (le
 module _ (profile : Profile) (w : List ℕ) (v : View) where
   abbrev Right : List Rule → Says → Type 0
   Right rs (Bad n e) = FirstBroken rs n e
-  Right rs (Fine x) = Sound rs × Fits w (tagIn v) x
+  Right rs (Fine x) = EachHolds rs × Fits w (tagIn v) x
 
   right-more : (r : Rule) (rs : List Rule) (d : Says) → r .Holds → Right rs d → Right (r ∷ rs) d
   right-more r rs (Bad n e) h j = inr (h, j)
@@ -149,6 +150,18 @@ module _ (profile : Profile) (how : How) (t : Tables) (s : Bytes) where
   abbrev Good : Out → Type 0
   Good o = Run profile how t s (o .0) (o .1) (o .2)
 
+  -- a refusal behind what was passed
+  pub refused-run : (gs : List Placed) (w : List ℕ) (end : ℕ) (rest : Bytes) (n e : ℕ) → Passed profile how t s gs w end rest
+      → Fails profile how t gs w end rest n e → Run profile how t s (Refused n (length gs + 1) end e) gs w
+  refused-run gs w end rest n e p f = record {
+    gs = gs;
+    rows = w;
+    end = end;
+    rest = rest;
+    passed = p;
+    ends = record { number = n; element = e; cause = f; kept-is = refl; numbers-is = refl; place = refl };
+  }
+
   -- the answer at a whole segment
   module _ (gs : List Placed) (w : List ℕ) (end : ℕ) (rest g more : Bytes) (p : Passed profile how t s gs w end rest) (next : cutBy how rest ≡ Whole g more) where
     abbrev v : View
@@ -163,10 +176,10 @@ module _ (profile : Profile) (how : How) (t : Tables) (s : Bytes) where
     pub seen-more : seen how gs′ ≡ seen how gs ++ (v ∷ [])
     seen-more = map-append (λ (p : Placed). viewOf (how .separators) (p .segment)) gs (record { at = end; segment = g } ∷ [])
 
-    pub passed-more : (r : ℕ) → Kept profile h v → Fits w (tagIn v) r → T (not (isSE v)) → Room profile t (v ∷ h)
+    pub passed-more : (r : ℕ) → Sound profile w h v r → T (not (isSE v)) → Room profile t (v ∷ h)
         → Passed profile how t s gs′ (w ++ (r ∷ [])) (end + length g + 1 + skipBy how more) (drop (skipBy how more) more)
-    passed-more r k f o room =
-        let n = numbers-more profile (seen how gs) w v r (numbers p) k f o in
+    passed-more r sound o room =
+        let n = numbers-more profile (seen how gs) w v r (numbers p) (sound .kept) (sound .fits) o in
         record {
           leads = led-snoc profile how t s 0 s gs end rest g more (p .leads) next;
           viable = n .viable;
@@ -179,30 +192,17 @@ module _ (profile : Profile) (how : How) (t : Tables) (s : Bytes) where
     chosen : (d : Says) (room last : Bool) (o : Out) → Right profile w v (rules profile w h v) d → hasRoom profile (segmentRoom t) (levelRoom t) (v ∷ h) ≡ room → isSE v ≡ last
         → ((r : ℕ) → d ≡ Fine r → Passed profile how t s gs′ (w ++ (r ∷ [])) (end + length g + 1 + skipBy how more) (drop (skipBy how more) more) → Good o)
         → Good (choose profile how (segmentRoom t) (levelRoom t) gs w end g d room last o)
-    chosen (Bad n e) room last o j y z f =
-        record { gs = gs; rows = w; end = end; rest = rest; passed = p; ends = (refl, refl, refl, refl, inr (inl (record { segment = g; more = more; next = next; first = j }))) }
-    chosen (Fine r) false last o j y z f = record {
-      gs = gs;
-      rows = w;
-      end = end;
-      rest = rest;
-      passed = p;
-      ends = (
-        refl,
-        refl,
-        refl,
-        refl,
-        inr (inr (record {
+    chosen (Bad n e) room last o j y z f = refused-run gs w end rest n e p (inr (inl (record { segment = g; more = more; next = next; first = j })))
+    chosen (Fine r) false last o j y z f =
+        refused-run gs w end rest 17 0 p
+        (inr (inr (record {
           segment = g;
-          more = more;
-          next = next;
-          sound = j .0;
+          row = r;
+          keeping = record { more = more; next = next; sound = holds-sound profile w h v r (j .1) (j .0) };
           no-room = λ x. rw y at (so-room profile t (v ∷ h) x);
           number-is = refl;
           element-is = refl;
-        })),
-      );
-    }
+        })))
     chosen (Fine r) true true o j y z f = record {
       gs = gs;
       rows = w;
@@ -211,22 +211,17 @@ module _ (profile : Profile) (how : How) (t : Tables) (s : Bytes) where
       passed = p;
       ends = record {
         segment = g;
-        more = more;
         row = r;
-        next = next;
-        sound = j .0;
-        fits = j .1;
+        keeping = record { more = more; next = next; sound = holds-sound profile w h v r (j .1) (j .0) };
         last = rw z tt;
         room = room-so profile t (v ∷ h) (rw y tt);
         kept-is = refl;
         numbers-is = refl;
-        segments-is = refl;
-        levels-is = refl;
-        bytes-is = refl;
+        counts = refl;
       };
     }
     chosen (Fine r) true false o j y z f =
-        f r refl (passed-more r (sound-kept profile w h v (j .0) .0) (j .1) (rw z tt) (room-so profile t (v ∷ h) (rw y tt)))
+        f r refl (passed-more r (holds-sound profile w h v r (j .1) (j .0)) (rw z tt) (room-so profile t (v ∷ h) (rw y tt)))
 
   -- with fuel for more bytes than the rest has
   abbrev Goes : ℕ → Type 0
@@ -253,8 +248,7 @@ module _ (profile : Profile) (how : How) (t : Tables) (s : Bytes) where
     where
       by : (c : Cut) → cutBy how rest ≡ c → Good (atCut profile how (segmentRoom t) (levelRoom t) (run profile how (segmentRoom t) (levelRoom t) fuel) gs w (onto [] (seen how gs)) end c)
       by (Whole g more) q = at-whole fuel goes gs w end rest g more p q l
-      by (Stop n x upto more) q =
-          record { gs = gs; rows = w; end = end; rest = rest; passed = p; ends = (refl, refl, refl, refl, inl (record { upto = upto; more = more; stops = q })) }
+      by (Stop n x upto more) q = refused-run gs w end rest n x p (inl (record { upto = upto; more = more; stops = q }))
 
   goes-all : (fuel : ℕ) → Goes fuel
   goes-all zero gs w h end rest e p l = absurd (omega arith)

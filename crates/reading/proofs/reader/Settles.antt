@@ -17,7 +17,7 @@ use Rattle.levels.specs.Told.{storedAt}
 use Rattle.gate.specs.Profile.{nonconformance}
 use Rattle.gate.specs.Segments.{seen, onto}
 use Rattle.gate.specs.Records.{Tables, Room}
-use Rattle.reading.specs.internal.Judgements.{Judges, Sound}
+use Rattle.reading.specs.internal.Judgements.{Judges}
 use Rattle.reading.specs.internal.Settling.{stateAfter, refusedAt, acceptedAt, Settling, Stands, Settles}
 use Rattle.gate.specs.declared.how.How.{How}
 use Rattle.reading.specs.declared.judging.Judgement.{Judgement}
@@ -25,7 +25,7 @@ use Rattle.reading.specs.declared.judging.Judgement.the-variants.{Broken
 use Rattle.reading.specs.declared.judging.Notes.{Notes}
 use Rattle.reading.specs.declared.judging.State.{State}
 use Rattle.reading.specs.declared.settling.Step.{Step}
-use Rattle.gate.proofs.reading.Laws.{kept-sound}
+use Rattle.gate.specs.Rules.{Sound}
 use Rattle.reading.proofs.reader.Standings.{standing-refuses, no-segment-room, no-level-room, standing-plain, standing-level, standing-closes, history-long}
 
 -- what a test of room says
@@ -68,15 +68,14 @@ module _ {how : How} {before : Tables} {s : Bytes} {segments levels : List ℕ} 
       (standing-refuses (t .standing) n e (inr (inl (record { segment = g; more = more; next = t .cut; first = says (Broken n e) q }))))
 
   -- 17
-  full : (row : ℕ) → Sound rows h v row → (Room nonconformance before (v ∷ h) → ⊥) → (r : Step) → r ≡ refusedAt 17 notes state 0
+  full : (row : ℕ) → Sound nonconformance rows h v row → (Room nonconformance before (v ∷ h) → ⊥) → (r : Step) → r ≡ refusedAt 17 notes state 0
       → Settles how before s notes segments levels r
   full row sound none r is =
       rw is
       (standing-refuses (t .standing) 17 0 (inr (inr (record {
         segment = g;
-        more = more;
-        next = t .cut;
-        sound = kept-sound nonconformance rows h v row (sound .kept) (sound .fits);
+        row = row;
+        keeping = record { more = more; next = t .cut; sound = sound };
         no-room = none;
         number-is = refl;
         element-is = refl;
@@ -110,7 +109,7 @@ module _ {how : How} {before : Tables} {s : Bytes} {segments levels : List ℕ} 
       rw (stored, is, long, ← next-at) (record {
         gs = gs ++ (record { at = notes .at; segment = g } ∷ []);
         rows = rows ++ (row ∷ []);
-        standing = standing-plain (t .standing) g more (t .cut) (t .whole) row (p .0 .kept) (p .0 .fits) (p .1) (p .2) room;
+        standing = standing-plain (t .standing) g more (t .cut) (t .whole) row (p .0) (p .1) (p .2) room;
       })
 
   pub settles-level : (row parent depth code key : ℕ) → j ≡ Level row parent depth code key → state .count < length segments / 3 → state .known < length levels / 4
@@ -124,7 +123,7 @@ module _ {how : How} {before : Tables} {s : Bytes} {segments levels : List ℕ} 
         gs = gs ++ (record { at = notes .at; segment = g } ∷ []);
         rows = rows ++ (row ∷ []);
         standing =
-            standing-level (t .standing) g more (t .cut) (t .whole) (t .fit) row (p .0 .kept) (p .0 .fits) (p .1) (p .2) room level-room _
+            standing-level (t .standing) g more (t .cut) (t .whole) (t .fit) row (p .0) (p .1) (p .2) room level-room _
             (ap (λ (n : ℕ). n ∷ parent ∷ depth ∷ code ∷ []) (sym number) ∙ p .3) key (p .4);
       })
 
@@ -135,4 +134,4 @@ module _ {how : How} {before : Tables} {s : Bytes} {segments levels : List ℕ} 
   settles-last row q room segments′ stored r is =
       let p = says (Last row) q in
       rw (is, stored, long, ← next-at)
-      (standing-closes (t .standing) g more (t .cut) (t .whole) row (p .0 .kept) (p .0 .fits) (p .1) (p .2) room)
+      (standing-closes (t .standing) g more (t .cut) (t .whole) row (p .0) (p .1) (p .2) room)

@@ -26,13 +26,13 @@ use Rattle.levels.proofs.Greater.{ordered-none, ordered-more}
 use Rattle.levels.proofs.Telling.{tells-none, told-segment-stored, told-level-stored}
 use Rattle.gate.specs.Profile.{nonconformance}
 use Rattle.gate.specs.Segments.{tagIn, isHL, isSE, seen, onto, levelsIn}
-use Rattle.gate.specs.Rules.{hlChecks, Kept}
+use Rattle.gate.specs.Rules.{hlChecks, Kept, Sound}
 use Rattle.gate.specs.Records.{Tables, segmentRecords, levelRecords, Room, over}
 use Rattle.gate.specs.Reads.{cutBy, skipBy, Passed, Read}
 use Rattle.reading.specs.internal.Standing.{Standing}
 use Rattle.gate.specs.declared.answer.Answer.the-variants.{Accepted, Refused}
 use Rattle.gate.specs.declared.how.How.{How}
-use Rattle.gate.proofs.reading.Laws.{onto-append, kept-sound, onto-length}
+use Rattle.gate.proofs.reading.Laws.{onto-append, onto-length}
 use Rattle.gate.proofs.reading.Once.{Fails}
 use Rattle.reading.proofs.reader.HlSegments.{hl-written, depths}
 use Rattle.gate.proofs.reading.RowOfSE.{last-snoc}
@@ -138,7 +138,7 @@ module _ {how : How} {before : Tables} {s : Bytes} {segments levels : List ℕ} 
       end = at;
       rest = drop at s;
       passed = st .passed;
-      ends = (omega (arith, st .count-is), refl, refl, refl, f);
+      ends = record { number = n; element = e; cause = f; kept-is = refl; numbers-is = refl; place = cc (st .count-is) };
     };
     tables = λ i. record { segments = st .segments-are i; levels = st .levels-are i };
   }
@@ -195,10 +195,10 @@ module _ {how : How} {before : Tables} {s : Bytes} {segments levels : List ℕ} 
         omega (arith, levels-long, st .known-is, f)
 
     -- the new place
-    passed-next : (r : ℕ) → Kept nonconformance before-views v → Fits rows (tagIn v) r → T (not (isSE v)) → Room nonconformance before (v ∷ before-views)
+    passed-next : (r : ℕ) → Sound nonconformance rows before-views v r → T (not (isSE v)) → Room nonconformance before (v ∷ before-views)
         → Passed nonconformance how before s gs′ (rows ++ (r ∷ [])) (at + length g + 1) (drop (at + length g + 1) s)
-    passed-next r k f o room =
-        let p = passed-more nonconformance how before s gs rows at (drop at s) g more (st .passed) cut r k f o room in
+    passed-next r sound o room =
+        let p = passed-more nonconformance how before s gs rows at (drop at s) g more (st .passed) cut r sound o room in
         let e : at + length g + 1 + skipBy how more ≡ at + length g + 1 = omega arith in
         subst (λ (x : Bytes). Passed nonconformance how before s gs′ (rows ++ (r ∷ [])) (at + length g + 1) x) (sym behind)
         (subst (λ (x : ℕ). Passed nonconformance how before s gs′ (rows ++ (r ∷ [])) x more) e p)
@@ -213,15 +213,15 @@ module _ {how : How} {before : Tables} {s : Bytes} {segments levels : List ℕ} 
     again-more r = twice-more 0 false rows r ∙ ap (eqb r) (st .row-is)
 
     -- a segment that makes no level is passed
-    pub standing-plain : (r : ℕ) → Kept nonconformance before-views v → Fits rows (tagIn v) r → isHL v ≡ false → T (not (isSE v))
+    pub standing-plain : (r : ℕ) → Sound nonconformance rows before-views v r → isHL v ≡ false → T (not (isSE v))
         → count < length segments / 3
         → Standing how before s (storedAt 3 segments count (at ∷ length g ∷ r ∷ [])) levels (at + length g + 1) (count + 1) r (eqb r row) known greatest gs′ (rows ++ (r ∷ []))
-    standing-plain r k f hl se room =
+    standing-plain r sound hl se room =
         let same : levelsIn nonconformance (onto [] (seen how gs′)) ≡ levelsIn nonconformance before-views =
         ap (levelsIn nonconformance) history-more ∙ levels-other before-views v hl in
         let one : suc count ≡ count + 1 = omega arith in
         record {
-          passed = passed-next r k f se (room-plain hl room);
+          passed = passed-next r sound se (room-plain hl room);
           segments-are = segments-more r;
           levels-are = st .levels-are ∙ ap (λ (ls : List Level). over (before .levels) (recordsOf ls)) (sym same);
           count-is = count-more;
@@ -237,19 +237,19 @@ module _ {how : How} {before : Tables} {s : Bytes} {segments levels : List ℕ} 
     abbrev new : Level
     new = levelOf (nonconformance .levels) (suc (length before-views)) (claimOf v) (levelsIn nonconformance before-views)
 
-    pub standing-level : Fitted (how .separators) → (r : ℕ) → Kept nonconformance before-views v → Fits rows (tagIn v) r → isHL v ≡ true → T (not (isSE v))
+    pub standing-level : Fitted (how .separators) → (r : ℕ) → Sound nonconformance rows before-views v r → isHL v ≡ true → T (not (isSE v))
         → count < length segments / 3 → known < length levels / 4 → (numbers : List ℕ) → numbers ≡ recordOf new → (key : ℕ)
         → key ≡ keyOf (claimOf v .id)
         → Standing how before s (storedAt 3 segments count (at ∷ length g ∷ r ∷ [])) (storedAt 4 levels known numbers) (at + length g + 1) (count + 1) r (eqb r row)
         (known + 1) (max greatest key) gs′ (rows ++ (r ∷ []))
-    standing-level fit r k f hl se room level-room numbers is key keyed =
-        let p = passed-next r k f se (room-level hl room level-room) in
+    standing-level fit r sound hl se room level-room numbers is key keyed =
+        let p = passed-next r sound se (room-level hl room level-room) in
         let more-levels : levelsIn nonconformance (onto [] (seen how gs′)) ≡ new ∷ levelsIn nonconformance before-views =
         ap (levelsIn nonconformance) history-more ∙ levels-hl before-views v hl in
         let one : suc count ≡ count + 1 = omega arith in
         let two : suc known ≡ known + 1 = omega arith in
         let deep : Everyone Within4 (new ∷ levelsIn nonconformance before-views) = rw more-levels at (depths (seen how gs′) (p .kept)) in
-        let written = hl-written (how .separators) fit s at g more whole (k .elements) (eqb→eq (tagIn v) (tag "HL") (rw hl tt)) in
+        let written = hl-written (how .separators) fit s at g more whole (sound .kept .elements) (eqb→eq (tagIn v) (tag "HL") (rw hl tt)) in
         record {
           passed = p;
           segments-are = segments-more r;
@@ -266,14 +266,14 @@ module _ {how : How} {before : Tables} {s : Bytes} {segments levels : List ℕ} 
           known-is = ap length more-levels ∙ omega (arith, st .known-is);
           tells = rw (← one, ← two, more-levels, is)
               (told-level-stored (st .tells) at (length g) r (omega arith) new (omega (arith, history-long how gs, st .count-is)) (deep .0 .1) (omega arith) written);
-          ordered = rw (more-levels, keyed) (ordered-more greatest (levelsIn nonconformance before-views) (st .ordered) new (new-name before-views v hl (k .level)));
+          ordered = rw (more-levels, keyed) (ordered-more greatest (levelsIn nonconformance before-views) (st .ordered) new (new-name before-views v hl (sound .kept .level)));
         }
 
     -- the SE closes the transaction
-    pub standing-closes : (r : ℕ) → Kept nonconformance before-views v → Fits rows (tagIn v) r → isHL v ≡ false → T (isSE v) → count < length segments / 3
+    pub standing-closes : (r : ℕ) → Sound nonconformance rows before-views v r → isHL v ≡ false → T (isSE v) → count < length segments / 3
         → Read nonconformance how s before (Accepted (count + 1) known (at + length g + 1))
         (record { segments = storedAt 3 segments count (at ∷ length g ∷ r ∷ []); levels = levels })
-    standing-closes r k f hl se room =
+    standing-closes r sound hl se room =
         let same : levelsIn nonconformance (onto [] (seen how gs′)) ≡ levelsIn nonconformance before-views =
         ap (levelsIn nonconformance) history-more ∙ levels-other before-views v hl in
         let are : levels ≡ over (before .levels) (levelRecords nonconformance how gs′) =
@@ -289,18 +289,13 @@ module _ {how : How} {before : Tables} {s : Bytes} {segments levels : List ℕ} 
             passed = st .passed;
             ends = record {
               segment = g;
-              more = more;
               row = r;
-              next = cut;
-              sound = kept-sound nonconformance rows before-views v r k f;
-              fits = f;
+              keeping = record { more = more; next = cut; sound = sound };
               last = se;
               room = room-plain hl room;
               kept-is = refl;
               numbers-is = refl;
-              segments-is = sym count-more;
-              levels-is = sym (ap length same ∙ st .known-is);
-              bytes-is = refl;
+              counts = cc (count-more, ap length same ∙ st .known-is);
             };
           };
           tables = λ i. record { segments = segments-more r i; levels = are i };

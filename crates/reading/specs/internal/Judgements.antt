@@ -13,7 +13,6 @@ use Rattle.text.specs.Lookup.{pieceSpan}
 use Rattle.text.specs.Cut.{Placed}
 use Rattle.text.proofs.View.{Fitted}
 use Rattle.rows.specs.Tags.{tagNumber}
-use Rattle.rows.specs.Following.{Fits}
 use Rattle.elements.specs.Types.{numberOf}
 use Rattle.elements.specs.Checks.{Check, check, firstBroken, Keeps}
 use Rattle.elements.specs.declared.verdict.Verdict.{Verdict}
@@ -27,8 +26,8 @@ use Rattle.levels.specs.declared.judging.Judged.the-variants.{Entitled, Refused
 use Rattle.levels.specs.Shortcuts.{keyOf, Ordered}
 use Rattle.levels.specs.Told.{told}
 use Rattle.gate.specs.Profile.{nonconformance}
-use Rattle.gate.specs.Segments.{tagIn, isHL, isSE, seen, onto, levelsIn}
-use Rattle.gate.specs.Rules.{rules, FirstBroken, Kept}
+use Rattle.gate.specs.Segments.{isHL, isSE, seen, onto, levelsIn}
+use Rattle.gate.specs.Rules.{rules, FirstBroken, Sound}
 use Rattle.gate.specs.Records.{Tables}
 use Rattle.reading.specs.internal.Standing.{Standing}
 use Rattle.gate.specs.declared.how.How.{How}
@@ -118,21 +117,16 @@ pub record Noted (how : How) (s : Bytes) (starts : List ℕ) (notes : Notes) (g 
   pub kept : T (notes .ended) → Keeps (endChecks (viewOf (how .separators) g))
   pub unkept : T (not (notes .ended)) → Keeps (endChecks (viewOf (how .separators) g)) → ⊥
 
--- every rule holds of the segment, and the row fits
-pub record Sound (rows : List ℕ) (h : List View) (v : View) (r : ℕ) : Type 0 where
-  pub kept : Kept nonconformance h v
-  pub fits : Fits rows (tagIn v) r
-
 -- what a judgement says of the segment with the view v, after the segments h and their rows
 abbrev pub Judges : List ℕ → List View → View → Judgement → Type 0
 Judges rows h v (Broken number element) = FirstBroken (rules nonconformance rows h v) number element
-Judges rows h v (Plain r) = Sound rows h v r × (isHL v ≡ false) × T (not (isSE v))
+Judges rows h v (Plain r) = Sound nonconformance rows h v r × (isHL v ≡ false) × T (not (isSE v))
 Judges rows h v (Level r parent depth code key) =
-    Sound rows h v r × (isHL v ≡ true) × T (not (isSE v))
+    Sound nonconformance rows h v r × (isHL v ≡ true) × T (not (isSE v))
     × (suc (length h) ∷ parent ∷ depth ∷ code ∷ []
     ≡ recordOf (levelOf (nonconformance .levels) (suc (length h)) (claimOf v) (levelsIn nonconformance h)))
     × (key ≡ keyOf (claimOf v .id))
-Judges rows h v (Last r) = Sound rows h v r × (isHL v ≡ false) × T (isSE v)
+Judges rows h v (Last r) = Sound nonconformance rows h v r × (isHL v ≡ false) × T (isSE v)
 
 -- where the notes are right and the reader stands before the segment, the judgement says what the rules say
 abbrev pub JudgesNext : How → Bytes → List ℕ → Notes → State → (segments levels : List ℕ) → Judgement → Type 0
