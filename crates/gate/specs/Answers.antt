@@ -11,6 +11,11 @@ abbrev pub numbersOf : Answer → List ℕ
 numbersOf (Accepted segments levels bytes) = 0 ∷ segments ∷ levels ∷ bytes ∷ []
 numbersOf (Refused number segment byte element) = number ∷ segment ∷ byte ∷ element ∷ []
 
+-- an acceptance
+abbrev pub IsAccepted : Answer → Type 0
+IsAccepted (Accepted segments levels bytes) = Unit {0}
+IsAccepted (Refused number segment byte element) = ⊥
+
 -- the answers that blame a segment for a broken rule
 pub record Fault (number : ℕ) : Type 0 where
   pub from : 4 ≤ number

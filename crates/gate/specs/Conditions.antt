@@ -1,19 +1,35 @@
--- What the second and the third condition of acceptance say, in terms of the promise of reading and of the rules of a whole transaction.
+-- The three conditions of acceptance as statements, clause by clause in the tender's order, about the promise of reading and the rules of a whole
+-- transaction. Each is proved as one theorem. What condition 2 says of rewriting stands with rewriting.
 -- Assumes nothing.
 use Prim.Native.Nat.{ℕ, _+_, _≤_}
 use mathlib.Core.Path.{_≡_}
+use mathlib.Core.Logic.{_↔_}
 use mathlib.Core.List.{List, [], _∷_, _++_}
+use lib.Dec.{T}
 use lib.ListN.{length, take, drop}
 use Rattle.text.specs.Bytes.{Bytes}
+use Rattle.text.specs.Separators.{fitSeparators}
 use Rattle.text.specs.Cut.{Cut, Whole, Stop, Placed, Leads}
-use Rattle.gate.specs.Profile.{nonconformance}
+use Rattle.gate.specs.Profile.{profileOf}
 use Rattle.gate.specs.Segments.{seen, onto, levelsIn}
+use Rattle.gate.specs.Answers.{IsAccepted, Fault, Listed}
 use Rattle.gate.specs.Meets.{Meets}
 use Rattle.gate.specs.Records.{Tables, Room, recorded}
 use Rattle.gate.specs.Reads.{limit, cutBy, skipBy, Reads}
 use Rattle.gate.specs.declared.answer.Answer.{Answer}
-use Rattle.gate.specs.declared.answer.Answer.the-variants.{Accepted}
+use Rattle.gate.specs.declared.answer.Answer.the-variants.{Accepted, Refused}
 use Rattle.gate.specs.declared.how.How.{How}
+
+-- Condition 1
+-- every input, every choice of separators and every table size
+pub record Condition1 : Type 0 where
+  -- gets an answer
+  pub answered : (how : How) (s : Bytes) (before : Tables) → (r : Answer) × (after : Tables) × Reads how s before r after
+  -- from the list,
+  pub listed : (how : How) (s : Bytes) (before : Tables) (r : Answer) (after : Tables) → Reads how s before r after → Listed r
+  -- and its numbers, and what it leaves in the lent tables, are exactly those
+  pub once : (how : How) (s : Bytes) (before : Tables) (r r′ : Answer) (after after′ : Tables) → Reads how s before r after
+      → Reads how s before r′ after′ → (r ≡ r′) × (after ≡ after′)
 
 -- Condition 2
 -- segments that begin the bytes, and rows that number them so that every rule holds
@@ -21,7 +37,18 @@ pub record Numbering (how : How) (s : Bytes) (gs : List Placed) (rows : List ℕ
   pub end : ℕ
   pub rest : Bytes
   pub leads : Leads (cutBy how) (skipBy how) 0 s gs end rest
-  pub meets : Meets nonconformance (seen how gs) rows
+  pub meets : Meets (profileOf how) (seen how gs) rows
+
+-- there is room for the records of these segments
+abbrev pub HasRoom : How → Tables → List Placed → Type 0
+HasRoom how t gs = Room (profileOf how) t (onto [] (seen how gs))
+
+-- the segments can be numbered so, and there is room
+pub record Numbered (how : How) (s : Bytes) (before : Tables) : Type 0 where
+  pub gs : List Placed
+  pub rows : List ℕ
+  pub numbering : Numbering how s gs rows
+  pub room : HasRoom how before gs
 
 -- the bytes that segments take: up to the terminator of the last
 abbrev pub usedBy : List Placed → ℕ
@@ -31,12 +58,20 @@ usedBy (g ∷ (h ∷ gs)) = usedBy (h ∷ gs)
 
 -- the answer accepts these segments, and the tables show their rows and levels
 pub record Shows (how : How) (before : Tables) (gs : List Placed) (rows : List ℕ) (r : Answer) (after : Tables) : Type 0 where
-  pub answer : r ≡ Accepted (length gs) (length (levelsIn nonconformance (onto [] (seen how gs)))) (usedBy gs)
-  pub tables : after ≡ recorded nonconformance how before gs rows
+  pub answer : r ≡ Accepted (length gs) (length (levelsIn (profileOf how) (onto [] (seen how gs)))) (usedBy gs)
+  pub tables : after ≡ recorded (profileOf how) how before gs rows
 
--- there is room for the records of these segments
-abbrev pub HasRoom : How → Tables → List Placed → Type 0
-HasRoom how t gs = Room nonconformance t (onto [] (seen how gs))
+-- with fit separators and a length within the limit,
+pub record Condition2 : Type 0 where
+  -- a transaction is accepted exactly when its segments can be numbered so that every rule holds, and there is room;
+  pub exactly-when : (how : How) (s : Bytes) (before : Tables) (r : Answer) (after : Tables) → T (fitSeparators (how .separators)) → length s ≤ limit
+      → Reads how s before r after → IsAccepted r ↔ Numbered how s before
+  -- the tables then show that numbering,
+  pub shown : (how : How) (s : Bytes) (before : Tables) (r : Answer) (after : Tables) → Reads how s before r after → IsAccepted r
+      → (gs : List Placed) (rows : List ℕ) → Numbering how s gs rows → Shows how before gs rows r after
+  -- of which there is no other
+  pub one-numbering : (how : How) (s : Bytes) (gs gs′ : List Placed) (rows rows′ : List ℕ) → Numbering how s gs rows → Numbering how s gs′ rows′
+      → (gs ≡ gs′) × (rows ≡ rows′)
 
 -- Condition 3
 -- tables that are at least as large
@@ -52,6 +87,10 @@ lookedAt how (Stop number element upto more) = upto
 -- the bytes up to the end of the segment that starts at byte b
 abbrev pub upToSegment : How → Bytes → ℕ → Bytes
 upToSegment how s b = take b s ++ lookedAt how (cutBy how (drop b s))
+
+-- the bytes s begin with `front`
+abbrev pub BeginsWith : Bytes → Bytes → Type 0
+BeginsWith front s = (more : Bytes) × (s ≡ front ++ more)
 
 -- an answer is final where bytes that begin with `front` get it, whatever follows within the limit, also with larger tables
 abbrev pub Final : How → Tables → Bytes → Answer → Type 0
@@ -70,4 +109,20 @@ pub record Continues (how : How) (s : Bytes) (k b : ℕ) : Type 0 where
   pub rows : List ℕ
   pub end : ℕ
   pub whole : Leads (cutBy how) (skipBy how) 0 (take b s ++ more) (passed ++ added) end []
-  pub meets : Meets nonconformance (seen how (passed ++ added)) rows
+  pub meets : Meets (profileOf how) (seen how (passed ++ added)) rows
+
+-- a verdict is final and comes no sooner than it must
+pub record Condition3 : Type 0 where
+  -- when segment k is refused for a fault, the same refusal stands whatever bytes follow that segment within the length limit and with any larger
+  -- tables,
+  pub refusal-final : (how : How) (s : Bytes) (before : Tables) (number k byte element : ℕ) (after : Tables) → Fault number
+      → Reads how s before (Refused number k byte element) after → Final how before (upToSegment how s byte) (Refused number k byte element)
+  -- the input being one of those that begin so;
+  pub refusal-begins : (how : How) (s : Bytes) (before : Tables) (number k byte element : ℕ) (after : Tables) → Fault number
+      → Reads how s before (Refused number k byte element) after → BeginsWith (upToSegment how s byte) s
+  -- and the segments before k can be continued to a transaction that meets every rule, with length and room set aside;
+  pub refusal-not-early : (how : How) (s : Bytes) (before : Tables) (number k byte element : ℕ) (after : Tables) → Fault number
+      → Reads how s before (Refused number k byte element) after → Continues how s k byte
+  -- an acceptance likewise stands under more bytes, within the length limit, and more room
+  pub acceptance-final : (how : How) (s : Bytes) (before : Tables) (segments levels bytes : ℕ) (after : Tables)
+      → Reads how s before (Accepted segments levels bytes) after → Final how before (take bytes s) (Accepted segments levels bytes)

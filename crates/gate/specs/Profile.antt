@@ -3,6 +3,7 @@
 use Rattle.rows.specs.Profile.{RowProfile, nonconformance as rowsOfReports}
 use Rattle.elements.specs.Data.{ElementProfile, nonconformance as elementsOfReports}
 use Rattle.levels.specs.Profile.{LevelProfile, nonconformance as levelsOfReports}
+use Rattle.gate.specs.declared.how.How.{How}
 
 pub record Profile : Type 0 where
   pub rows : RowProfile
@@ -12,3 +13,7 @@ pub record Profile : Type 0 where
 -- the one profile: nonconformance reports
 abbrev pub nonconformance : Profile
 nonconformance = record { rows = rowsOfReports; elements = elementsOfReports; levels = levelsOfReports }
+
+-- the profile by which a transaction is read: that one, however it is read
+abbrev pub profileOf : How → Profile
+profileOf how = nonconformance

@@ -13,7 +13,7 @@ use Rattle.text.specs.View.{View, viewOf}
 use Rattle.text.specs.Cut.{Cut, Whole, Stop, cutOf, skipOf, Placed, Leads}
 use Rattle.rows.specs.Rows.{Viable, list842}
 use Rattle.rows.specs.RowList.{tagOf}
-use Rattle.gate.specs.Profile.{Profile, nonconformance}
+use Rattle.gate.specs.Profile.{Profile, profileOf}
 use Rattle.gate.specs.Segments.{tagIn, isSE, seen, onto, levelsIn}
 use Rattle.gate.specs.Answers.{numbersOf}
 use Rattle.gate.specs.Rules.{rules, Sound, FirstBroken, Kept, From}
@@ -143,6 +143,6 @@ ReadsFit false profile how s before r after = Untouched 1 before r after
 unfoldable pub ReadsBy : Profile → How → Bytes → Tables → Answer → Tables → Type 0
 ReadsBy profile how s before r after = ReadsFit (fitSeparators (how .separators)) profile how s before r after
 
--- the promise of reading a nonconformance report
+-- the promise of reading
 abbrev pub Reads : How → Bytes → Tables → Answer → Tables → Type 0
-Reads how s before r after = ReadsBy nonconformance how s before r after
+Reads how s before r after = ReadsBy (profileOf how) how s before r after

@@ -5,7 +5,7 @@ ghost use Prim.Native.Nat.{ℕ, _≤_};
 ghost use lib.ListN.{length};
 ghost use Rattle.text.specs.Bytes.{Bytes};
 ghost use Rattle.text.specs.View.{viewOf};
-ghost use Rattle.text.proofs.View.{Fitted};
+ghost use Rattle.text.specs.Separators.{Fitted};
 ghost use Rattle.rows.specs.Written.{writtenTable};
 ghost use Rattle.elements.specs.Checks.{firstBroken};
 ghost use Rattle.elements.specs.Rules.{byteChecks};

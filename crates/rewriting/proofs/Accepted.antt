@@ -18,7 +18,7 @@ use Rattle.gate.specs.Conditions.{Numbering, usedBy}
 use Rattle.gate.specs.declared.answer.Answer.{Answer}
 use Rattle.gate.specs.declared.answer.Answer.the-variants.{Accepted, Refused}
 use Rattle.gate.specs.declared.how.How.{How}
-use Rattle.gate.proofs.conditions.Conditions.{accepted-meets}
+use Rattle.gate.proofs.conditions.Conditions.{accepted-numbered, condition-2}
 use Rattle.rewriting.specs.Rewrites.{Outcome, Accepting}
 use Rattle.rewriting.specs.Collisions.{clashOf, outset, collisionFrom, newByte}
 use Rattle.rewriting.proofs.Spelling.{texts, spelt, used-length, used-taken}
@@ -39,8 +39,9 @@ module _ (how : How) (s : Bytes) (before : Tables) (a l b : ℕ) (tables : Table
 
   pub kept : Kept
   kept =
-      let m = accepted-meets how s before a l b tables reads in
-      record { gs = m .0; rows = m .1; numbering = m .2; bytes-are = ap bytesOf (m .4 .answer) }
+      let m = accepted-numbered how s before a l b tables reads in
+      let shown = condition-2 .shown how s before (Accepted a l b) tables reads tt (m .gs) (m .rows) (m .numbering) in
+      record { gs = m .gs; rows = m .rows; numbering = m .numbering; bytes-are = ap bytesOf (shown .answer) }
 
   abbrev n : Numbering how s (kept .gs) (kept .rows)
   n = kept .numbering

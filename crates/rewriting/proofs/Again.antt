@@ -8,11 +8,12 @@ use lib.Dec.{T}
 use lib.ListN.{length, length-map}
 use Rattle.text.specs.Bytes.{Bytes}
 use Rattle.text.specs.Pieces.{Clean}
-use Rattle.text.specs.View.{View, viewOf, written, unseparated, empty}
+use Rattle.text.specs.View.{View, viewOf, written, empty}
 use Rattle.text.specs.Cut.{Placed, Leads, Whole}
 use Rattle.text.specs.declared.separators.Separators.{Separators}
-use Rattle.text.proofs.Cuts.{cut-whole}
-use Rattle.text.proofs.View.{Fitted, view-written, written-free, view-well-formed}
+use Rattle.text.proofs.DocumentCut.{cut-whole}
+use Rattle.text.proofs.View.{view-written, written-free, view-well-formed, unseparated}
+use Rattle.text.specs.Separators.{Fitted}
 use Rattle.elements.specs.Checks.{firstBroken}
 use Rattle.elements.specs.declared.verdict.Verdict.{Verdict}
 use Rattle.elements.specs.declared.verdict.Verdict.the-variants.{Holds, Broken}

@@ -11,7 +11,8 @@ use Rattle.text.specs.Bytes.{Bytes}
 use Rattle.text.specs.Pieces.{closed}
 use Rattle.text.specs.Cut.{Placed, Leads}
 use Rattle.text.specs.declared.separators.Separators.{Separators}
-use Rattle.text.proofs.View.{Fitted, fitted, written-view}
+use Rattle.text.proofs.View.{fitted, written-view}
+use Rattle.text.specs.Separators.{Fitted}
 use Rattle.gate.specs.Profile.{nonconformance}
 use Rattle.gate.specs.Segments.{seen, onto, levelsIn}
 use Rattle.gate.specs.Records.{Tables, recorded}
@@ -19,7 +20,7 @@ use Rattle.gate.specs.Reads.{limit, cutBy, skipBy, Reads}
 use Rattle.gate.specs.Conditions.{Numbering, usedBy, Shows, HasRoom}
 use Rattle.gate.specs.declared.answer.Answer.the-variants.{Accepted}
 use Rattle.gate.specs.declared.how.How.{How}
-use Rattle.gate.proofs.conditions.Conditions.{accepted-meets, accepted-proper, meets-accepted, numbering-once}
+use Rattle.gate.proofs.conditions.Conditions.{accepted-numbered, accepted-proper, meets-accepted, numbering-once}
 use Rattle.rewriting.specs.Rewrites.{rewritten, Rewrites}
 use Rattle.rewriting.specs.Laws.{separatedBy, SameReport, ReadsTo}
 use Rattle.rewriting.proofs.Spelling.{texts, spelt, used-length, used-taken}
@@ -50,8 +51,8 @@ module _ (how : How) (new : Separators) (s : Bytes) (before : Tables) (output : 
 
   room : HasRoom how before (x .gs)
   room =
-      let m = accepted-meets how s before a l b tables (x .reads) in
-      rw (numbering-once how s (x .gs) (m .0) (x .rows) (m .1) n (m .2) .0) (m .3)
+      let m = accepted-numbered how s before a l b tables (x .reads) in
+      rw (numbering-once how s (x .gs) (m .gs) (x .rows) (m .rows) n (m .numbering) .0) (m .room)
 
   shows : Shows how before (x .gs) (x .rows) (Accepted a l b) tables
   shows = meets-accepted how s before (x .gs) (x .rows) (x .old-fit) short n room (Accepted a l b) tables (x .reads)

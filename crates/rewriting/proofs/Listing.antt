@@ -17,7 +17,7 @@ use Rattle.gate.specs.declared.answer.Answer.{Answer}
 use Rattle.gate.specs.declared.answer.Answer.the-variants.{Accepted, Refused}
 use Rattle.gate.specs.declared.how.How.{How}
 use Rattle.gate.proofs.reading.Numbers.{refusal-of}
-use Rattle.gate.proofs.conditions.Conditions.{accepted-meets, answered}
+use Rattle.gate.proofs.conditions.Conditions.{accepted-numbered, answered}
 use Rattle.gate.proofs.reading.Listing.{listed}
 use Rattle.rewriting.specs.Rewrites.{rewritten, Clash, NoClash, ClashAt, collision, Outcome, Following, Unfit, RewritesFit, Rewrites}
 use Rattle.rewriting.specs.Laws.{Listed}
@@ -33,9 +33,9 @@ module _ (how : How) (new : Separators) (s : Bytes) (before : Tables) (output : 
   following-some : (answer : Answer) (tables : Tables) → Reads how s before answer tables
       → (r : Answer) × (after : Bytes) × Following how new s answer output r after
   following-some (Accepted a l b) tables x =
-      let m = accepted-meets how s before a l b tables x in
-      let o = outcome-some (collision how new 1 (m .0)) (leb b (length output)) (Accepted a l b) (rewritten how new (m .0)) output in
-      (o .0, o .1, record { gs = m .0; rows = m .1; numbering = m .2; outcome = o .2 })
+      let m = accepted-numbered how s before a l b tables x in
+      let o = outcome-some (collision how new 1 (m .gs)) (leb b (length output)) (Accepted a l b) (rewritten how new (m .gs)) output in
+      (o .0, o .1, record { gs = m .gs; rows = m .rows; numbering = m .numbering; outcome = o .2 })
   following-some (Refused n k b e) tables x = (Refused n k b e, output, (refl, refl))
 
   -- every input, both sets of separators, every tables and every output have an answer that the promise allows

@@ -9,7 +9,7 @@ use lib.Seq.{take-at}
 use Rattle.text.specs.Bytes.{Bytes}
 use Rattle.text.specs.Pieces.{closed, Clean}
 use Rattle.text.specs.Cut.{Placed, Leads, Whole}
-use Rattle.text.proofs.Cuts.{Says, cut-says}
+use Rattle.text.proofs.DocumentCut.{Says, cut-says}
 use Rattle.gate.specs.Reads.{cutBy, skipBy}
 use Rattle.gate.specs.Conditions.{usedBy}
 use Rattle.gate.specs.declared.how.How.{How}

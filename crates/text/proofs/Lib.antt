@@ -8,6 +8,7 @@ pub mod Pieces
 pub mod Searching
 pub mod Spans
 pub mod View
-pub mod Cutting
-pub mod Cuts
+pub mod CutLaws
+pub mod DocumentCut
+pub mod Writable
 pub mod Once

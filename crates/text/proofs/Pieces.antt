@@ -1,4 +1,4 @@
--- The laws of pieces: joining gives the bytes back, no piece holds the separator, and no other list of pieces has both properties.
+-- The laws of pieces: joining gives the bytes back, no piece holds the separator, and pieces without it are cut again as they were.
 -- Assumes nothing.
 use Prim.Native.Nat.{ℕ, suc, _<_}
 use mathlib.Core.Path.{_≡_, refl, sym, ap, _∙_}
@@ -74,10 +74,6 @@ pub pieces-joined : (sep : ℕ) (ps : List Bytes) → 0 < length ps → Clean se
 pieces-joined sep [] h c = absurd (omega arith)
 pieces-joined sep (p ∷ []) h c = pieces-free sep p (c .0)
 pieces-joined sep (p ∷ (q ∷ ps)) h c = rw (pieces-cut sep p (joined sep (q ∷ ps)) (c .0), pieces-joined sep (q ∷ ps) (omega arith) (c .1))
-
--- the cut is the only list of pieces that joins to the bytes and holds no separator
-pub pieces-once : (sep : ℕ) (s : Bytes) (ps : List Bytes) → 0 < length ps → Clean sep ps → joined sep ps ≡ s → ps ≡ pieces sep s
-pieces-once sep s ps h c e = rw (← e) (sym (pieces-joined sep ps h c))
 
 -- one piece more
 pub closed-snoc : (sep : ℕ) (ps : List Bytes) (p : Bytes) → closed sep (ps ++ (p ∷ [])) ≡ closed sep ps ++ (p ++ sep ∷ [])

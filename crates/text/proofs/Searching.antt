@@ -9,7 +9,7 @@ use lib.ListN.{length, drop, getD, length-append, drop-of-length-le}
 use lib.Seq.{drop-cons}
 use Rattle.text.specs.Bytes.{Bytes}
 use Rattle.text.specs.Pieces.{Free}
-use Rattle.text.specs.Post.{Meets}
+use Rattle.text.specs.internal.Search.{FirstAt}
 use Rattle.text.proofs.Pieces.{free-snoc}
 
 pub record Passed (s : Bytes) (from byte i : ℕ) : Type 0 where
@@ -30,7 +30,7 @@ module _ {s : Bytes} {from byte i : ℕ} (p : Passed s from byte i) where
     place = simp length-append (omega (arith, p .place));
   }
 
-  pub met : i < length s → getD s i 0 ≡ byte → Meets s from byte i
+  pub met : i < length s → getD s i 0 ≡ byte → FirstAt s from byte i
   met l h = record {
     gap = p .gap;
     rest = drop (suc i) s;

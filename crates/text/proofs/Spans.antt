@@ -12,7 +12,7 @@ use borrow.Author.Tests.{lt-ltb, le-ltb}
 use Rattle.text.specs.Bytes.{Bytes}
 use Rattle.text.specs.Pieces.{Free, Clean, pieces, joined, closed}
 use Rattle.text.specs.Lookup.{span, pieceSpan, componentSpan, partOf}
-use Rattle.text.specs.Post.{Meets}
+use Rattle.text.specs.internal.Search.{FirstAt}
 use Rattle.text.specs.declared.lookup.Span.{Span}
 use Rattle.text.proofs.Pieces.{pieces-free, pieces-cut, pieces-closed, joined-pieces, closed-snoc, clean-snoc}
 
@@ -58,7 +58,7 @@ module _ {sep : ℕ} {s : Bytes} {k at : ℕ} (b : Begun sep s k at) where
       let f : length (closed sep (take k (pieces sep s))) ≡ at = rw (w, take-at (b .gone) (p ∷ ps) k (b .count)) (b .place) in
       sym (span-there sep s k h ∙ rw (e, f))
 
-  module _ {j : ℕ} (f : Meets s at sep j) where
+  module _ {j : ℕ} (f : FirstAt s at sep j) where
     rest-is : b .rest ≡ f .gap ++ sep ∷ f .rest
     rest-is = sym left ∙ f .whole
 

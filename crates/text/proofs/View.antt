@@ -1,4 +1,4 @@
--- The laws of views: writing gives the segment back, no separator is left, and no other view has both properties.
+-- The laws of views: writing gives the segment back, no separator is left, and a view without separators is seen again as it was.
 -- Assumes nothing.
 use Prim.Native.Nat.{ℕ}
 use mathlib.Core.Path.{_≡_, refl, sym, ap, _∙_}
@@ -8,12 +8,20 @@ use lib.Dec.{T, eqb, ltb, ltb→lt, lt→ltb, T-not, eqb-refl}
 use lib.ListN.{length, length-map}
 use borrow.Author.Tests.{ne-eqb}
 use Rattle.text.specs.Bytes.{Bytes, every}
-use Rattle.text.specs.Separators.{fitSeparators, isSeparator, printable, isData, mayServe}
+use Rattle.text.specs.Separators.{mayServe, fitSeparators, Fitted, isSeparator}
 use Rattle.text.specs.Pieces.{before, pieces, joined, Free, Clean}
-use Rattle.text.specs.View.{Piece, View, viewOf, written, unseparated, wellFormed}
+use Rattle.text.specs.View.{Piece, View, viewOf, written}
 use Rattle.text.specs.declared.separators.Separators.{Separators}
 use Rattle.text.proofs.Bools.{both, first-of, second-of, or-left, or-right, apart}
 use Rattle.text.proofs.Pieces.{pieces-some, joined-pieces, pieces-clean, pieces-joined}
+
+-- no separator is left in the view
+abbrev pub unseparated : Separators → View → Bool
+unseparated q v = every (every (every (λ (b : ℕ). not (isSeparator q b)))) v
+
+-- a view that segments can have: it has a tag, and every piece has a component, be it empty
+abbrev pub wellFormed : View → Bool
+wellFormed v = ltb 0 (length v) && every (λ (p : Piece). ltb 0 (length p)) v
 
 -- the byte stands in no component of the view
 abbrev pub CleanView : ℕ → View → Type 0
@@ -141,15 +149,6 @@ module _ (q : Separators) where
       (lt→ltb 0 (length (viewOf q segment)) (rw (length-map (pieces (q .element) segment) (pieces (q .component))) (pieces-some (q .element) segment)))
       (pieces-each (pieces (q .element) segment))
 
--- what fitness says, part by part
-pub record Fitted (q : Separators) : Type 0 where
-  pub element-serves : T (mayServe (q .element))
-  pub component-serves : T (mayServe (q .component))
-  pub terminator-serves : T (mayServe (q .terminator))
-  pub element-component : q .element ≡ q .component → ⊥
-  pub element-terminator : q .element ≡ q .terminator → ⊥
-  pub component-terminator : q .component ≡ q .terminator → ⊥
-
 pub fitted : (q : Separators) → T (fitSeparators q) → Fitted q
 fitted q h =
     let a = mayServe (q .element) in
@@ -198,16 +197,3 @@ module _ (q : Separators) (fit : Fitted q) where
   written-free v u =
       free-joined (q .element) (q .terminator) (map (joined (q .component)) v) (fit .element-terminator)
       (joined-clean (q .terminator) (fit .component-terminator) v (unseparated-clean q (q .terminator) (terminator-separates q) v u))
-
-  -- the view is the only one that writes to the segment and holds no separator
-  pub view-once : (segment : Bytes) (v : View) → T (wellFormed v) → T (unseparated q v) → written q v ≡ segment → v ≡ viewOf q segment
-  view-once segment v w u e = sym (view-written v w u) ∙ ap (viewOf q) e
-
--- a byte that a view holds is no separator, so it is data exactly if it is printable
-pub data-in-view : (q : Separators) (b : ℕ) → T (not (isSeparator q b)) → isData q b ≡ printable b
-data-in-view q b h = go (printable b) (isSeparator q b) h
-  where
-    go : (p s : Bool) → T (not s) → p && not s ≡ p
-    go true true h = absurd h
-    go true false h = refl
-    go false s h = refl

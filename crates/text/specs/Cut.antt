@@ -1,5 +1,5 @@
--- Cutting the next segment off the bytes. Everything above knows a cut by its shape and its two laws alone, so another way of cutting
--- changes `cutOf` and `skipOf` and nothing else.
+-- Cutting the next segment off the bytes. Laws above know a cut by its shape and by two laws alone, `CutLaw` and `SkipLaw` of proofs/CutLaws, and
+-- a view that is written and cut again by those of proofs/Writable; another way of cutting changes `cutOf`, `skipOf` and the proofs of these.
 -- Assumes nothing.
 use Prim.Native.Nat.{ℕ, _+_}
 use mathlib.Core.Path.{_≡_}

@@ -4,4 +4,4 @@ pub mod Pieces
 pub mod View
 pub mod Lookup
 pub mod Cut
-pub mod Post
+pub mod internal

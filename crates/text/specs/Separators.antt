@@ -2,7 +2,8 @@
 -- Assumes nothing.
 use Prim.Native.Nat.{ℕ}
 use mathlib.Core.Bool.{Bool, not, _&&_, _||_}
-use lib.Dec.{eqb}
+use mathlib.Core.Path.{_≡_}
+use lib.Dec.{T, eqb}
 use Rattle.text.specs.Bytes.{bytes, between, among}
 use Rattle.text.specs.declared.separators.Separators.{Separators}
 
@@ -25,6 +26,15 @@ fitSeparators q =
     mayServe (q .element) && mayServe (q .component) && mayServe (q .terminator)
     && not (eqb (q .element) (q .component)) && not (eqb (q .element) (q .terminator)) && not (eqb (q .component) (q .terminator))
 
+-- the same, part by part
+pub record Fitted (q : Separators) : Type 0 where
+  pub element-serves : T (mayServe (q .element))
+  pub component-serves : T (mayServe (q .component))
+  pub terminator-serves : T (mayServe (q .terminator))
+  pub element-component : q .element ≡ q .component → ⊥
+  pub element-terminator : q .element ≡ q .terminator → ⊥
+  pub component-terminator : q .component ≡ q .terminator → ⊥
+
 -- the standard set
 abbrev pub standard : Separators
 standard = record { element = 42; component = 58; terminator = 126 }
@@ -32,10 +42,7 @@ standard = record { element = 42; component = 58; terminator = 126 }
 abbrev pub isSeparator : Separators → ℕ → Bool
 isSeparator q b = eqb b (q .element) || eqb b (q .component) || eqb b (q .terminator)
 
--- a byte that can be data: 32 to 126
+-- a byte that can be data: 32 to 126. Data bytes are those of them that are no separator; where the separators are cut away, as in a view, the
+-- data bytes are just these
 abbrev pub printable : ℕ → Bool
 printable b = between 32 126 b
-
--- data: a printable byte that is no separator
-abbrev pub isData : Separators → ℕ → Bool
-isData q b = printable b && not (isSeparator q b)

@@ -2,12 +2,10 @@
 -- The first piece is the tag; the others are its elements, from 1 on.
 -- Assumes nothing.
 use Prim.Native.Nat.{ℕ, _-_}
-use mathlib.Core.Bool.{Bool, true, false, not, _&&_}
+use mathlib.Core.Bool.{Bool, true, false}
 use mathlib.Core.List.{List, [], _∷_, map}
-use lib.Dec.{ltb}
 use lib.ListN.{length, getD}
-use Rattle.text.specs.Bytes.{Bytes, every}
-use Rattle.text.specs.Separators.{isSeparator}
+use Rattle.text.specs.Bytes.{Bytes}
 use Rattle.text.specs.Pieces.{pieces, joined}
 use Rattle.text.specs.declared.separators.Separators.{Separators}
 
@@ -26,14 +24,6 @@ viewOf q segment = map (pieces (q .component)) (pieces (q .element) segment)
 -- the view written with separators
 abbrev pub written : Separators → View → Bytes
 written q v = joined (q .element) (map (joined (q .component)) v)
-
--- no separator is left in the view
-abbrev pub unseparated : Separators → View → Bool
-unseparated q v = every (every (every (λ (b : ℕ). not (isSeparator q b)))) v
-
--- a view that segments can have: it has a tag, and every piece has a component, be it empty
-abbrev pub wellFormed : View → Bool
-wellFormed v = ltb 0 (length v) && every (λ (p : Piece). ltb 0 (length p)) v
 
 -- an empty piece: one component without bytes
 abbrev pub empty : Piece

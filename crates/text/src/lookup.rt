@@ -3,7 +3,7 @@ ghost use mathlib.Core.Path.{_≡_};
 ghost use Prim.Native.Nat.{_+_, _≤_};
 ghost use lib.ListN.{length};
 ghost use Rattle.text.specs.Lookup.{pieceSpan, elementSpan, componentSpan, PartAt};
-ghost use Rattle.text.specs.Post.{Finds};
+ghost use Rattle.text.specs.internal.Search.{Finds};
 
 pub struct Span {
     pub start: usize,

@@ -84,15 +84,6 @@ module _ (profile : Profile) (how : How) (t : Tables) (s : Bytes) where
         room = rw (vs, onto-append) (x .room);
       }
 
-  -- and its numbers are the transaction's
-  pub accepted-numbers : (a b c : ℕ) (kept : List Placed) (w : List ℕ) → Run profile how t s (Accepted a b c) kept w
-      → Accepted a b c ≡ Accepted (length kept) (length (levelsIn profile (onto [] (seen how kept)))) (usedBy kept)
-  accepted-numbers a b c kept w r =
-      let x = r .ends in
-      let last : usedBy kept ≡ r .end + length (x .segment) + 1 =
-      ap usedBy (x .kept-is) ∙ used-snoc (r .gs) (record { at = r .end; segment = x .segment }) in
-      cc (x .counts, last)
-
   -- a transaction whose last row is 79 is read and accepted
   closing-run : (gs : List Placed) (g : Placed) (w : List ℕ) → Transaction profile how t s (gs ++ (g ∷ [])) (w ++ (79 ∷ []))
       → Run profile how t s (Accepted (length (gs ++ (g ∷ []))) (length (levelsIn profile (onto [] (seen how (gs ++ (g ∷ [])))))) (usedBy (gs ++ (g ∷ []))))

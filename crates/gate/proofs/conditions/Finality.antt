@@ -11,14 +11,14 @@ use lib.Seq.{take-at, drop-at}
 use Rattle.text.specs.Bytes.{Bytes}
 use Rattle.text.specs.View.{View, viewOf}
 use Rattle.text.specs.Cut.{Cut, Whole, Stop, Placed}
-use Rattle.text.proofs.Cutting.{Keeps, Front, leads-front}
-use Rattle.text.proofs.Cuts.{cut-keeps, skip-keeps}
+use Rattle.text.proofs.CutLaws.{Faulty, CutLaw, Front, leads-front}
+use Rattle.text.proofs.DocumentCut.{cut-law, skip-law}
 use Rattle.gate.specs.Answers.{Fault}
 use Rattle.gate.specs.Profile.{Profile}
 use Rattle.gate.specs.Segments.{seen, onto}
 use Rattle.gate.specs.Records.{Tables, Room}
 use Rattle.gate.specs.Reads.{cutBy, skipBy, Passed, Run}
-use Rattle.gate.specs.Conditions.{Larger, lookedAt, upToSegment}
+use Rattle.gate.specs.Conditions.{Larger, lookedAt, upToSegment, BeginsWith}
 use Rattle.gate.specs.declared.answer.Answer.the-variants.{Accepted, Refused}
 use Rattle.gate.specs.declared.how.How.{How}
 use Rattle.gate.proofs.reading.Once.{Fails, refused-fails, refused-byte}
@@ -30,7 +30,7 @@ room-larger profile t u h l r = record { segments-fit = omega (arith, r .segment
 -- what was passed is passed again where the first byte of the rest stays, in larger tables
 module _ (profile : Profile) (how : How) (t u : Tables) (larger : Larger t u) where
   passed-again : (s : Bytes) (gs : List Placed) (rows : List ℕ) (end b : ℕ) (y z : Bytes) → Passed profile how t s gs rows end (b ∷ y)
-      → (f : Front (how .separators .terminator) (cutBy how) (skipBy how) (cut-keeps (how .separators)) (skip-keeps (how .separators)) 0 s gs end b y)
+      → (f : Front (how .separators .terminator) (cutBy how) (skipBy how) (cut-law (how .separators)) (skip-law (how .separators)) 0 s gs end b y)
       → Passed profile how u (f .front ++ b ∷ z) gs rows end (b ∷ z)
   passed-again s gs rows end b y z p f = record {
     leads = f .still b z (inl refl);
@@ -42,8 +42,8 @@ module _ (profile : Profile) (how : How) (t u : Tables) (larger : Larger t u) wh
   }
 
   -- the whole part of a cut, and what it keeps
-  whole-keeps : (rest g m : Bytes) → cutBy how rest ≡ Whole g m → Keeps (how .separators .terminator) (cutBy how) rest (Whole g m)
-  whole-keeps rest g m e = subst (λ (c : Cut). Keeps (how .separators .terminator) (cutBy how) rest c) e (cut-keeps (how .separators) rest)
+  whole-keeps : (rest g m : Bytes) → cutBy how rest ≡ Whole g m → CutLaw (how .separators .terminator) (cutBy how) rest (Whole g m)
+  whole-keeps rest g m e = subst (λ (c : Cut). CutLaw (how .separators .terminator) (cutBy how) rest c) e (cut-law (how .separators) rest)
 
   -- bytes whose rest begins with what was looked at, which is not empty
   record Looked (s : Bytes) (gs : List Placed) (rows : List ℕ) (end : ℕ) (x old : Bytes) : Type 0 where
@@ -57,7 +57,7 @@ module _ (profile : Profile) (how : How) (t u : Tables) (larger : Larger t u) wh
   looked s gs rows end [] old p l = absurd (omega arith)
   looked s gs rows end (b ∷ x) old p l =
       let f =
-      leads-front (how .separators .terminator) (cutBy how) (skipBy how) (cut-keeps (how .separators)) (skip-keeps (how .separators)) 0 s gs end b
+      leads-front (how .separators .terminator) (cutBy how) (skipBy how) (cut-law (how .separators)) (skip-law (how .separators)) 0 s gs end b
       (x ++ old) (p .leads) in
       record {
         front = f .front;
@@ -74,55 +74,81 @@ module _ (profile : Profile) (how : How) (t u : Tables) (larger : Larger t u) wh
       let a : take b s ≡ front = ap (take b) e ∙ take-at front (x ++ old) b (sym l) in
       rw (a, d, k)
 
-  -- the same fault, where the rest begins with what was looked at
-  stands : (s : Bytes) (n k b e : ℕ) (kept : List Placed) (w : List ℕ) (r : Run profile how t s (Refused n k b e) kept w) (x old more : Bytes)
-      → 0 < length x → r .rest ≡ x ++ old → lookedAt how (cutBy how (x ++ old)) ≡ x → Fails profile how u (r .gs) (r .rows) (r .end) (x ++ more) n e
-      → Run profile how u (upToSegment how s b ++ more) (Refused n k b e) kept w
-  stands s n k b e kept w r x old more l i j f =
-      let z = looked s (r .gs) (r .rows) (r .end) x old (rw i at (r .passed)) l in
-      let up : upToSegment how s b ≡ z .front ++ x = upto-is s (z .front) x old b (z .whole) (refused-byte profile how t (r .gs) (r .rows) (r .end) (r .rest) n k b e kept w (r .ends) ∙ z .place) j in
-      rw (up, append-assoc)
-      (record {
-        gs = r .gs;
-        rows = r .rows;
-        end = r .end;
-        rest = x ++ more;
-        passed = z .again more;
-        ends = record {
-          number = n;
-          element = e;
-          cause = f;
-          kept-is = r .ends .kept-is;
-          numbers-is = r .ends .numbers-is;
-          place = cc (r .ends .place);
-        };
-      })
+  -- what a fault rests on: bytes at the start of the rest, not none, that the cut has looked at; and the same fault whatever follows them
+  record Rests (gs : List Placed) (rows : List ℕ) (end : ℕ) (rest : Bytes) (n e : ℕ) : Type 0 where
+    pub x : Bytes
+    pub old : Bytes
+    pub some : 0 < length x
+    pub rest-is : rest ≡ x ++ old
+    pub looked-is : lookedAt how (cutBy how (x ++ old)) ≡ x
+    pub still : (more : Bytes) → Fails profile how u gs rows end (x ++ more) n e
 
-  -- a fault stands
-  pub refusal-stands : (s : Bytes) (n k b e : ℕ) (kept : List Placed) (w : List ℕ) → Fault n → Run profile how t s (Refused n k b e) kept w
-      → (more : Bytes) → Run profile how u (upToSegment how s b ++ more) (Refused n k b e) kept w
-  refusal-stands s n k b e kept w fault r more = by (refused-fails profile how t (r .gs) (r .rows) (r .end) (r .rest) n k b e kept w (r .ends))
+  rests : (gs : List Placed) (rows : List ℕ) (end : ℕ) (rest : Bytes) (n e : ℕ) → Fault n → Fails profile how t gs rows end rest n e
+      → Rests gs rows end rest n e
+  rests gs rows end rest n e fault (inl x) =
+      stop (x .upto) (x .more) (subst (λ (c : Cut). CutLaw (how .separators .terminator) (cutBy how) rest c) (x .stops) (cut-law (how .separators) rest))
     where
-      stop : (upto old : Bytes) → cutBy how (r .rest) ≡ Stop n e upto old
-          → (n ≡ 3) ⊎ ((r .rest ≡ upto ++ old) × (0 < length upto) × ((x : Bytes) → cutBy how (upto ++ x) ≡ Stop n e upto x))
-          → Run profile how u (upToSegment how s b ++ more) (Refused n k b e) kept w
-      stop upto old c (inl y) = absurd (omega (arith, y, fault .from))
-      stop upto old c (inr y) =
-          stands s n k b e kept w r upto old more (y .1) (y .0) (ap (lookedAt how) (y .2 old)) (inl (record { upto = upto; more = more; stops = y .2 more }))
+      stop : (upto old : Bytes) → (n ≡ 3) ⊎ Faulty (cutBy how) rest n e upto old → Rests gs rows end rest n e
+      stop upto old (inl y) = absurd (omega (arith, y, fault .from))
+      stop upto old (inr y) = record {
+        x = upto;
+        old = old;
+        some = y .some;
+        rest-is = y .whole;
+        looked-is = ap (lookedAt how) (y .still old);
+        still = λ more. inl (record { upto = upto; more = more; stops = y .still more });
+      }
+  rests gs rows end rest n e fault (inr (inl x)) =
+      let g = x .segment in
+      let end-mark = how .separators .terminator in
+      let y = whole-keeps rest g (x .more) (x .next) in
+      let cut : (z : Bytes) → cutBy how ((g ++ end-mark ∷ []) ++ z) ≡ Whole g z = λ z. ap (cutBy how) (append-assoc g (end-mark ∷ []) z) ∙ y .1 z in
+      record {
+        x = g ++ end-mark ∷ [];
+        old = x .more;
+        some = rw (length-append g (end-mark ∷ [])) (omega arith);
+        rest-is = y .0 ∙ sym (append-assoc g (end-mark ∷ []) (x .more));
+        looked-is = ap (lookedAt how) (cut (x .more));
+        still = λ more. inr (inl (record { segment = g; more = more; next = cut more; first = x .first }));
+      }
+  rests gs rows end rest n e fault (inr (inr x)) = absurd (omega (arith, x .number-is, fault .upto))
 
-      by : Fails profile how t (r .gs) (r .rows) (r .end) (r .rest) n e → Run profile how u (upToSegment how s b ++ more) (Refused n k b e) kept w
-      by (inl x) =
-          stop (x .upto) (x .more) (x .stops)
-          (subst (λ (c : Cut). Keeps (how .separators .terminator) (cutBy how) (r .rest) c) (x .stops) (cut-keeps (how .separators) (r .rest)))
-      by (inr (inl x)) =
-          let g = x .segment in
-          let end-mark = how .separators .terminator in
-          let y = whole-keeps (r .rest) g (x .more) (x .next) in
-          let cut : (z : Bytes) → cutBy how ((g ++ end-mark ∷ []) ++ z) ≡ Whole g z = λ z. ap (cutBy how) (append-assoc g (end-mark ∷ []) z) ∙ y .1 z in
-          stands s n k b e kept w r (g ++ end-mark ∷ []) (x .more) more (rw (length-append g (end-mark ∷ [])) (omega arith))
-          (y .0 ∙ sym (append-assoc g (end-mark ∷ []) (x .more))) (ap (lookedAt how) (cut (x .more)))
-          (inr (inl (record { segment = g; more = more; next = cut more; first = x .first })))
-      by (inr (inr x)) = absurd (omega (arith, x .number-is, fault .upto))
+  -- a fault, in the bytes
+  module _ (s : Bytes) (n k b e : ℕ) (kept : List Placed) (w : List ℕ) (fault : Fault n) (r : Run profile how t s (Refused n k b e) kept w) where
+    on : Rests (r .gs) (r .rows) (r .end) (r .rest) n e
+    on = rests (r .gs) (r .rows) (r .end) (r .rest) n e fault (refused-fails profile how t (r .gs) (r .rows) (r .end) (r .rest) n k b e kept w (r .ends))
+
+    there : Looked s (r .gs) (r .rows) (r .end) (on .x) (on .old)
+    there = looked s (r .gs) (r .rows) (r .end) (on .x) (on .old) (rw (on .rest-is) at (r .passed)) (on .some)
+
+    front-is : upToSegment how s b ≡ there .front ++ on .x
+    front-is =
+        upto-is s (there .front) (on .x) (on .old) b (there .whole)
+        (refused-byte profile how t (r .gs) (r .rows) (r .end) (r .rest) n k b e kept w (r .ends) ∙ there .place) (on .looked-is)
+
+    -- the bytes up to the end of its segment begin the input
+    pub refusal-begun : BeginsWith (upToSegment how s b) s
+    refusal-begun = (on .old, there .whole ∙ rw (front-is, append-assoc))
+
+    -- it stands whatever follows them
+    pub refusal-stands : (more : Bytes) → Run profile how u (upToSegment how s b ++ more) (Refused n k b e) kept w
+    refusal-stands more =
+        rw (front-is, append-assoc)
+        (record {
+          gs = r .gs;
+          rows = r .rows;
+          end = r .end;
+          rest = on .x ++ more;
+          passed = there .again more;
+          ends = record {
+            number = n;
+            element = e;
+            cause = on .still more;
+            kept-is = r .ends .kept-is;
+            numbers-is = r .ends .numbers-is;
+            place = cc (r .ends .place);
+          };
+        })
 
   -- an acceptance stands
   pub acceptance-stands : (s : Bytes) (a l c : ℕ) (kept : List Placed) (w : List ℕ) → Run profile how t s (Accepted a l c) kept w

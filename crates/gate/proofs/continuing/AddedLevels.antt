@@ -10,13 +10,12 @@ use borrow.Author.Tests.{ne-eqb}
 use lib.Dec.{T, eqb, eqb→eq, leb, le→leb}
 use lib.ListN.{length, length-map}
 use Rattle.text.specs.Bytes.{Bytes, bytes, every, any, same}
-use Rattle.text.specs.Separators.{isDigit, isCapital}
+use Rattle.text.specs.Separators.{isDigit, isCapital, Fitted}
 use Rattle.text.specs.View.{View}
 use Rattle.text.specs.declared.separators.Separators.{Separators}
 use Rattle.text.proofs.Bools.{both, first-of, second-of, or-left, or-right, or-cases, not-passes}
 use Rattle.text.proofs.Sames.{same-equal}
 use Rattle.text.proofs.Everys.{every-weaker}
-use Rattle.text.proofs.View.{Fitted}
 use Rattle.rows.specs.Tags.{tagNumber}
 use Rattle.elements.specs.Types.{isId}
 use Rattle.elements.specs.Checks.{Keeps}

@@ -9,12 +9,12 @@ use native.Mathlib.Omega.{arith}
 use lib.Dec.{T, not-T, eqb, eqb→eq, leb, leb→le, le→leb}
 use lib.ListN.{length}
 use Rattle.text.specs.Bytes.{Bytes, bytes, between, every, among}
-use Rattle.text.specs.Separators.{isDigit, isCapital, isSmall, mayServe, isSeparator, printable}
-use Rattle.text.specs.View.{View, empty, present, elementOf, unseparated, wellFormed}
+use Rattle.text.specs.Separators.{isDigit, isCapital, isSmall, mayServe, isSeparator, printable, Fitted}
+use Rattle.text.specs.View.{View, empty, present, elementOf}
 use Rattle.text.specs.declared.separators.Separators.{Separators}
 use Rattle.text.proofs.Bools.{both, first-of, second-of, or-right, or-cases}
 use Rattle.text.proofs.Everys.{every-weaker, every-anywhere}
-use Rattle.text.proofs.View.{Fitted}
+use Rattle.text.proofs.View.{unseparated, wellFormed}
 use Rattle.rows.specs.Tags.{tag, tagNumber}
 use Rattle.elements.specs.Types.{isId, isNumber, fits}
 use Rattle.elements.specs.Data.{Rules, rulesHL, rulesSE}

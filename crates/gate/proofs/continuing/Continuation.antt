@@ -12,12 +12,13 @@ use borrow.Author.Tests.{ne-eqb}
 use lib.Dec.{T, eqb, eqb→eq, eqb-refl, ltb, lt→ltb, lit<}
 use lib.ListN.{length}
 use Rattle.text.specs.Bytes.{Bytes, bytes, every, any, among, same}
-use Rattle.text.specs.View.{View, elementOf, unseparated, wellFormed}
+use Rattle.text.specs.View.{View, elementOf}
 use Rattle.text.specs.declared.separators.Separators.{Separators}
 use Rattle.text.proofs.Bools.{both, first-of, second-of, or-left, or-right, apart}
 use Rattle.text.proofs.Sames.{same-self}
 use Rattle.text.proofs.Lists.{map-append}
-use Rattle.text.proofs.View.{Fitted}
+use Rattle.text.proofs.View.{unseparated, wellFormed}
+use Rattle.text.specs.Separators.{Fitted}
 use Rattle.rows.specs.Tags.{tag, tagNumber}
 use Rattle.rows.specs.Rows.{Word, Viable, list842}
 use Rattle.rows.specs.RowList.{tagOf, maxOf}

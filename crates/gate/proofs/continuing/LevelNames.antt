@@ -12,11 +12,12 @@ use lib.Dec.{T, eqb, eqb→eq, leb, leb→le}
 use lib.ListN.{length, List·getD-eq-default}
 use Rattle.text.specs.Bytes.{Bytes, bytes, between, every, any, same}
 use Rattle.text.specs.Separators.{printable}
-use Rattle.text.specs.View.{Piece, View, empty, present, elementOf, unseparated}
+use Rattle.text.specs.View.{Piece, View, empty, present, elementOf}
 use Rattle.text.specs.declared.separators.Separators.{Separators}
 use Rattle.text.proofs.Bools.{both, first-of, second-of, passes, fails}
 use Rattle.text.proofs.Sames.{same-equal, same-self}
 use Rattle.text.proofs.Everys.{every-anywhere}
+use Rattle.text.proofs.View.{unseparated}
 use Rattle.rows.specs.Tags.{tag}
 use Rattle.elements.specs.Types.{fits}
 use Rattle.elements.specs.Data.{Rules, value, rulesST, rulesHL}

@@ -10,17 +10,18 @@ use lib.Dec.{T, ltb, ltb→lt}
 use lib.ListN.{length, take, drop, getD, length-append, length-map}
 use lib.Seq.{take-at, drop-at}
 use Rattle.text.specs.Bytes.{Bytes, every}
-use Rattle.text.specs.Separators.{fitSeparators, isCapital}
-use Rattle.text.specs.Pieces.{joined, Free}
-use Rattle.text.specs.View.{View, viewOf, written, unseparated, wellFormed}
+use Rattle.text.specs.Separators.{fitSeparators, isCapital, Fitted}
+use Rattle.text.specs.Pieces.{joined}
+use Rattle.text.specs.View.{View, viewOf, written}
 use Rattle.text.specs.Cut.{Cut, Whole, Stop, Placed, Leads}
 use Rattle.text.specs.declared.separators.Separators.{Separators}
 use Rattle.text.proofs.Bools.{both, first-of, second-of}
 use Rattle.text.proofs.Lists.{map-append}
 use Rattle.text.proofs.Tables.{tab, tab-at}
-use Rattle.text.proofs.View.{Fitted, fitted, view-unseparated, view-written, written-free}
-use Rattle.text.proofs.Cutting.{Keeps, Made, AllMade, ended, places, past, leads-front, leads-on}
-use Rattle.text.proofs.Cuts.{Says, cut-says, cut-whole, cut-keeps, skip-keeps}
+use Rattle.text.proofs.View.{unseparated, wellFormed, fitted}
+use Rattle.text.proofs.CutLaws.{Faulty, CutLaw, Addable, AllAddable, ended, places, past, leads-front, leads-on}
+use Rattle.text.proofs.DocumentCut.{cut-law, skip-law}
+use Rattle.text.proofs.Writable.{Writable, cut-unseparated, writable-cut, writable-seen}
 use Rattle.rows.specs.Tags.{tags, tagNumber}
 use Rattle.rows.proofs.TagList.{tag-of-number}
 use Rattle.gate.specs.Answers.{Fault}
@@ -81,15 +82,12 @@ module _ (how : How) where
   abbrev q : Separators
   q = how .separators
 
-  cut-free : (s g m : Bytes) → cutBy how s ≡ Whole g m → Free (q .terminator) g
-  cut-free s g m e = (subst (λ (c : Cut). Says q s c) e (cut-says q s)) .1
-
   leads-unseparated : (at : ℕ) (s : Bytes) (gs : List Placed) (end : ℕ) (rest : Bytes) → Leads (cutBy how) (skipBy how) at s gs end rest
       → T (every (unseparated q) (seen how gs))
   leads-unseparated at s [] end rest l = tt
   leads-unseparated at s (g ∷ gs) end rest l =
       both (unseparated q (viewOf q (g .segment))) (every (unseparated q) (seen how gs))
-      (view-unseparated q (g .segment) (cut-free s (g .segment) (l .0) (l .1)))
+      (cut-unseparated q s (g .segment) (l .0) (l .1))
       (leads-unseparated (at + length (g .segment) + 1 + skipBy how (l .0)) (drop (skipBy how (l .0)) (l .0)) gs end rest (l .3))
 
   leads-few : (at : ℕ) (s : Bytes) (gs : List Placed) (end : ℕ) (rest : Bytes) → Leads (cutBy how) (skipBy how) at s gs end rest → at + length gs ≤ end
@@ -97,44 +95,46 @@ module _ (how : How) where
   leads-few at s (g ∷ gs) end rest l =
       omega (arith, leads-few (at + length (g .segment) + 1 + skipBy how (l .0)) (drop (skipBy how (l .0)) (l .0)) gs end rest (l .3))
 
-  -- views that can be written
+  -- views without separators can be written
   abbrev Writes : View → Bool
   Writes v = wellFormed v && unseparated q v
 
+  writes-writable : (v : View) → T (Writes v) → Writable q v
+  writes-writable v w = record { formed = first-of (wellFormed v) (unseparated q v) w; bare = second-of (wellFormed v) (unseparated q v) w }
+
   module _ (fit : Fitted q) where
-    abbrev MadeBy : Bytes → Type 0
-    MadeBy g = Made (q .terminator) (cutBy how) (skipBy how) (cut-keeps q) (skip-keeps q) g
+    abbrev AddableBy : Bytes → Type 0
+    AddableBy g = Addable (q .terminator) (cutBy how) (skipBy how) (cut-law q) (skip-law q) g
 
-    abbrev AllMadeBy : List Bytes → Type 0
-    AllMadeBy gs = AllMade (q .terminator) (cutBy how) (skipBy how) (cut-keeps q) (skip-keeps q) gs
+    abbrev AllAddableBy : List Bytes → Type 0
+    AllAddableBy gs = AllAddable (q .terminator) (cutBy how) (skipBy how) (cut-law q) (skip-law q) gs
 
-    made : (v : View) → T (Writes v) → tagIn v < 34 → MadeBy (written q v)
-    made v w h =
+    added : (v : View) → T (Writes v) → tagIn v < 34 → AddableBy (written q v)
+    added v w h =
         let b = begins-written q v h in
         record {
           first = b .first;
           tail = b .tail;
           is = b .is;
           capital = b .capital;
-          cut-is = λ x. cut-whole q (written q v) x (written-free q fit v (second-of (wellFormed v) (unseparated q v) w));
+          cut-is = writable-cut q fit v (writes-writable v w);
         }
 
-    all-made : (vs : List View) → T (every Writes vs) → T (every (λ (v : View). ltb (tagIn v) 34) vs) → AllMadeBy (map (written q) vs)
-    all-made [] w h = tt
-    all-made (v ∷ vs) w h = (
-      made v (first-of (Writes v) (every Writes vs) w) (ltb→lt (tagIn v) 34 (first-of (ltb (tagIn v) 34) (every (λ (v : View). ltb (tagIn v) 34) vs) h)),
-      all-made vs (second-of (Writes v) (every Writes vs) w) (second-of (ltb (tagIn v) 34) (every (λ (v : View). ltb (tagIn v) 34) vs) h),
+    all-added : (vs : List View) → T (every Writes vs) → T (every (λ (v : View). ltb (tagIn v) 34) vs) → AllAddableBy (map (written q) vs)
+    all-added [] w h = tt
+    all-added (v ∷ vs) w h = (
+      added v (first-of (Writes v) (every Writes vs) w) (ltb→lt (tagIn v) 34 (first-of (ltb (tagIn v) 34) (every (λ (v : View). ltb (tagIn v) 34) vs) h)),
+      all-added vs (second-of (Writes v) (every Writes vs) w) (second-of (ltb (tagIn v) 34) (every (λ (v : View). ltb (tagIn v) 34) vs) h),
     )
 
     -- they are seen again where they stand
     abbrev placed : ℕ → List Bytes → List Placed
-    placed at gs = places (q .terminator) (cutBy how) (skipBy how) (cut-keeps q) (skip-keeps q) at gs
+    placed at gs = places (q .terminator) (cutBy how) (skipBy how) (cut-law q) (skip-law q) at gs
 
     seen-placed : (at : ℕ) (vs : List View) → T (every Writes vs) → seen how (placed at (map (written q) vs)) ≡ vs
     seen-placed at [] w = refl
     seen-placed at (v ∷ vs) w =
-        let here = first-of (Writes v) (every Writes vs) w in
-        let e = view-written q fit v (first-of (wellFormed v) (unseparated q v) here) (second-of (wellFormed v) (unseparated q v) here) in
+        let e = writable-seen q fit v (writes-writable v (first-of (Writes v) (every Writes vs) w)) in
         let i = seen-placed (at + length (written q v) + 1) vs (second-of (Writes v) (every Writes vs) w) in
         λ k. e k ∷ i k
 
@@ -143,17 +143,17 @@ module _ (how : How) where
         (short : length s ≤ limit) where
       abbrev Going : List View → Type 0
       Going vs = (front : Bytes) × (s ≡ front ++ b ∷ y) × (end ≡ 0 + length front)
-          × Leads (cutBy how) (skipBy how) 0 (front ++ ended (q .terminator) (cutBy how) (skipBy how) (cut-keeps q) (skip-keeps q) (map (written q) vs))
-          (gs ++ placed end (map (written q) vs)) (past (q .terminator) (cutBy how) (skipBy how) (cut-keeps q) (skip-keeps q) end (map (written q) vs)) []
+          × Leads (cutBy how) (skipBy how) 0 (front ++ ended (q .terminator) (cutBy how) (skipBy how) (cut-law q) (skip-law q) (map (written q) vs))
+          (gs ++ placed end (map (written q) vs)) (past (q .terminator) (cutBy how) (skipBy how) (cut-law q) (skip-law q) end (map (written q) vs)) []
 
-      going : (vs : List View) → 0 < length vs → AllMadeBy (map (written q) vs) → Going vs
+      going : (vs : List View) → 0 < length vs → AllAddableBy (map (written q) vs) → Going vs
       going [] l a = absurd (omega arith)
       going (v ∷ vs) l a =
-          leads-on (q .terminator) (cutBy how) (skipBy how) (cut-keeps q) (skip-keeps q) 0 s gs end b y (p .leads) (written q v) (map (written q) vs) a
+          leads-on (q .terminator) (cutBy how) (skipBy how) (cut-law q) (skip-law q) 0 s gs end b y (p .leads) (written q v) (map (written q) vs) a
 
       goes-on : (k : ℕ) → length gs + 1 ≡ k → Continued q (seen how gs) rows → Continues how s k end
       goes-on k n c =
-          let a = all-made (c .more) (c .writable) (c .tagged) in
+          let a = all-added (c .more) (c .writable) (c .tagged) in
           let g = going (c .more) (c .some) a in
           let added = placed end (map (written q) (c .more)) in
           let all : seen how (gs ++ added) ≡ seen how gs ++ c .more =
@@ -165,10 +165,10 @@ module _ (how : How) where
             passed = gs;
             number = n;
             leads = rw d (p .leads);
-            more = ended (q .terminator) (cutBy how) (skipBy how) (cut-keeps q) (skip-keeps q) (map (written q) (c .more));
+            more = ended (q .terminator) (cutBy how) (skipBy how) (cut-law q) (skip-law q) (map (written q) (c .more));
             added = added;
             rows = rows ++ c .rows;
-            end = past (q .terminator) (cutBy how) (skipBy how) (cut-keeps q) (skip-keeps q) end (map (written q) (c .more));
+            end = past (q .terminator) (cutBy how) (skipBy how) (cut-law q) (skip-law q) end (map (written q) (c .more));
             whole = rw f (g .3);
             meets = rw all (from-meets nonconformance (seen how gs ++ c .more) (rows ++ c .rows) (c .meets));
           }
@@ -176,7 +176,7 @@ module _ (how : How) where
       -- so few segments stand in so few bytes
       end-within : end ≤ length s
       end-within =
-          let f = leads-front (q .terminator) (cutBy how) (skipBy how) (cut-keeps q) (skip-keeps q) 0 s gs end b y (p .leads) in
+          let f = leads-front (q .terminator) (cutBy how) (skipBy how) (cut-law q) (skip-law q) 0 s gs end b y (p .leads) in
           omega (arith, f .end-is, ap length (f .whole) ∙ length-append (f .front) (b ∷ y))
 
       pub continues : (k : ℕ) → length gs + 1 ≡ k → Continues how s k end
@@ -198,18 +198,17 @@ fault-byte : (how : How) (t : Tables) (s : Bytes) (n k b e : ℕ) (kept : List P
     → (r : Run nonconformance how t s (Refused n k b e) kept w) → (x : ℕ) × (y : Bytes) × (r .rest ≡ x ∷ y)
 fault-byte how t s n k b e kept w f r = by (refused-fails nonconformance how t (r .gs) (r .rows) (r .end) (r .rest) n k b e kept w (r .ends))
   where
-    stopped : (u m : Bytes) → (n ≡ 3) ⊎ ((r .rest ≡ u ++ m) × (0 < length u) × ((x : Bytes) → cutBy how (u ++ x) ≡ Stop n e u x))
-        → (x : ℕ) × (y : Bytes) × (r .rest ≡ x ∷ y)
+    stopped : (u m : Bytes) → (n ≡ 3) ⊎ Faulty (cutBy how) (r .rest) n e u m → (x : ℕ) × (y : Bytes) × (r .rest ≡ x ∷ y)
     stopped u m (inl z) = absurd (omega (arith, z, f .from))
-    stopped u m (inr z) = let i = first-byte u m (z .1) in (i .0, i .1, z .0 ∙ i .2)
+    stopped u m (inr z) = let i = first-byte u m (z .some) in (i .0, i .1, z .whole ∙ i .2)
 
     by : Fails nonconformance how t (r .gs) (r .rows) (r .end) (r .rest) n e → (x : ℕ) × (y : Bytes) × (r .rest ≡ x ∷ y)
     by (inl x) =
         stopped (x .upto) (x .more)
-        (subst (λ (c : Cut). Keeps (how .separators .terminator) (cutBy how) (r .rest) c) (x .stops) (cut-keeps (how .separators) (r .rest)))
+        (subst (λ (c : Cut). CutLaw (how .separators .terminator) (cutBy how) (r .rest) c) (x .stops) (cut-law (how .separators) (r .rest)))
     by (inr (inl x)) =
-        let z : Keeps (how .separators .terminator) (cutBy how) (r .rest) (Whole (x .segment) (x .more)) =
-        subst (λ (c : Cut). Keeps (how .separators .terminator) (cutBy how) (r .rest) c) (x .next) (cut-keeps (how .separators) (r .rest)) in
+        let z : CutLaw (how .separators .terminator) (cutBy how) (r .rest) (Whole (x .segment) (x .more)) =
+        subst (λ (c : Cut). CutLaw (how .separators .terminator) (cutBy how) (r .rest) c) (x .next) (cut-law (how .separators) (r .rest)) in
         let i = cut-behind (x .segment) (how .separators .terminator) (x .more) in
         (i .0, i .1, z .0 ∙ i .2)
     by (inr (inr x)) = absurd (omega (arith, x .number-is, f .upto))

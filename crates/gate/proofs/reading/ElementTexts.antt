@@ -10,14 +10,13 @@ use native.Mathlib.Decide.{decLt}
 use lib.Dec.{T}
 use lib.ListN.{length, getD, List·getD-map}
 use Rattle.text.specs.Bytes.{Bytes, bytes, every, among, same, between}
-use Rattle.text.specs.Separators.{isDigit, isCapital, isSmall, mayServe}
+use Rattle.text.specs.Separators.{isDigit, isCapital, isSmall, mayServe, Fitted}
 use Rattle.text.specs.Pieces.{pieces, joined, Free}
 use Rattle.text.specs.View.{Piece, View, viewOf, present, elementOf}
 use Rattle.text.specs.declared.separators.Separators.{Separators}
 use Rattle.text.proofs.Bools.{first-of, second-of}
 use Rattle.text.proofs.Sames.{same-equal}
 use Rattle.text.proofs.Pieces.{joined-pieces, pieces-free}
-use Rattle.text.proofs.View.{Fitted}
 use Rattle.rows.specs.Tags.{tag, tags, placeIn, tagNumber}
 use Rattle.elements.specs.Data.{Value, value, Simple, Rules, rulesHL, rulesSE, rulesST}
 use Rattle.elements.specs.declared.types.Kind.the-variants.{AN, ID, N0}

@@ -2,7 +2,7 @@
 -- Assumes nothing.
 use Prim.Native.Nat.{ℕ, zero, suc, _≤_}
 use mathlib.Core.Path.{_≡_, sym, subst}
-use mathlib.Core.Logic.{inl, inr}
+use mathlib.Core.Logic.{_⊎_, inl, inr}
 use mathlib.Core.Bool.{Bool, true, false, not, cond, _&&_, _||_}
 use mathlib.Core.List.{List, [], _∷_, _++_, append-assoc}
 use native.Mathlib.Omega.{arith}
@@ -12,7 +12,8 @@ use Rattle.text.specs.Bytes.{Bytes}
 use Rattle.text.specs.View.{View, viewOf, present, elementOf, elementCount}
 use Rattle.text.specs.Separators.{fitSeparators}
 use Rattle.text.specs.Cut.{Cut, Stop}
-use Rattle.text.proofs.Cuts.{Says, cut-says}
+use Rattle.text.proofs.CutLaws.{Faulty, CutLaw}
+use Rattle.text.proofs.DocumentCut.{cut-law}
 use Rattle.elements.specs.Data.{Note, Rules}
 use Rattle.elements.specs.Checks.{Check, each}
 use Rattle.elements.specs.Rules.{dataPiece, byteChecks, endsWell, endChecks, ruleOf, fewComponents, tooManyChecks, headed, missingChecks, fitsShape, unfitChecks, noteChecks, checksBy, checksAmong, ruledChecks}
@@ -120,16 +121,20 @@ module _ (profile : Profile) (w : List ℕ) (h : List View) (v : View) where
       first-numbered (early v) (rowRules w v ++ asRules (late profile h v)) n e early-numbered (row-numbered n e)
       (subst (λ (l : List Rule). FirstBroken l n e) (append-assoc (asRules (early v)) (rowRules w v) (asRules (late profile h v))) f)
 
--- a cut that finds no segment stops with 3
-stop-3 : (how : How) (rest upto more : Bytes) (n e : ℕ) → cutBy how rest ≡ Stop n e upto more → n ≡ 3
-stop-3 how rest upto more n e q = subst (λ (c : Cut). Says (how .separators) rest c) q (cut-says (how .separators) rest) .0
+-- a cut that finds no segment stops with 3, or blames a fault
+stop-listed : (how : How) (rest upto more : Bytes) (n e : ℕ) → cutBy how rest ≡ Stop n e upto more → (3 ≤ n) × (n ≤ 16)
+stop-listed how rest upto more n e q = by (subst (λ (c : Cut). CutLaw (how .separators .terminator) (cutBy how) rest c) q (cut-law (how .separators) rest))
+  where
+    by : (n ≡ 3) ⊎ Faulty (cutBy how) rest n e upto more → (3 ≤ n) × (n ≤ 16)
+    by (inl x) = (omega arith, omega arith)
+    by (inr x) = (omega (arith, x .from-4), x .to-16)
 
 read-listed : (how : How) (s : Bytes) (before : Tables) (r : Answer) (after : Tables) → Read nonconformance how s before r after → Listed r
 read-listed how s before (Accepted a l b) after x = tt
 read-listed how s before (Refused n k b e) after x = by (refused-fails nonconformance how before (x .run .gs) (x .run .rows) (x .run .end) (x .run .rest) n k b e (x .kept) (x .numbers) (x .run .ends))
   where
     by : Fails nonconformance how before (x .run .gs) (x .run .rows) (x .run .end) (x .run .rest) n e → Listed (Refused n k b e)
-    by (inl f) = let q = stop-3 how (x .run .rest) (f .upto) (f .more) n e (f .stops) in (omega (arith, q), omega (arith, q))
+    by (inl f) = let q = stop-listed how (x .run .rest) (f .upto) (f .more) n e (f .stops) in (omega (arith, q .0), omega (arith, q .1))
     by (inr (inl f)) = let q = broken-fault nonconformance (x .run .rows) (onto [] (seen how (x .run .gs))) (viewOf (how .separators) (f .segment)) n e (f .first) in (omega (arith, q .from), omega (arith, q .upto))
     by (inr (inr f)) = let q = f .number-is in (omega (arith, q), omega (arith, q))
 

@@ -14,13 +14,13 @@ use Rattle.text.specs.View.{View, viewOf}
 use Rattle.text.specs.Cut.{Cut, Whole, Stop, Placed}
 use Rattle.text.proofs.Bools.{both, first-of, second-of}
 use Rattle.text.proofs.Lists.{map-append}
-use Rattle.text.proofs.Cutting.{Keeps}
-use Rattle.text.proofs.Cuts.{cut-keeps}
+use Rattle.text.proofs.CutLaws.{CutLaw}
+use Rattle.text.proofs.DocumentCut.{cut-law}
 use Rattle.rows.specs.Rows.{Viable, list842}
 use Rattle.rows.specs.Following.{Fits, OneFits, lastOf, twice}
 use Rattle.rows.proofs.Follow.{viable-nil}
 use Rattle.rows.proofs.After.{stepOf, step-fits}
-use Rattle.elements.specs.Checks.{Check, Keeps as KeepsChecks}
+use Rattle.elements.specs.Checks.{Check, Keeps}
 use Rattle.elements.specs.Rules.{byteChecks, endChecks}
 use Rattle.gate.specs.Profile.{Profile}
 use Rattle.gate.specs.Segments.{tagIn, isSE, seen, onto, levelsIn}
@@ -110,7 +110,7 @@ module _ (profile : Profile) (w : List ℕ) (v : View) where
   right-more r rs (Bad n e) h j = inr (h, j)
   right-more r rs (Fine x) h j = ((h, j .0), j .1)
 
-  tested-right : (cs : List Check) (rest : List Rule) (d : Says) → (KeepsChecks cs → Right rest d) → Right (asRules cs ++ rest) (tested cs d)
+  tested-right : (cs : List Check) (rest : List Rule) (d : Says) → (Keeps cs → Right rest d) → Right (asRules cs ++ rest) (tested cs d)
   tested-right [] rest d k = k tt
   tested-right (c ∷ cs) rest d k = by (c .holds) (λ x. tested-right cs rest d (λ ks. k (x, ks)))
     where
@@ -234,8 +234,8 @@ module _ (profile : Profile) (how : How) (t : Tables) (s : Bytes) where
       let vw = viewOf (how .separators) g in
       let hs = onto [] (seen how gs) in
       let gm = gs ++ (record { at = end; segment = g } ∷ []) in
-      let k : Keeps (how .separators .terminator) (cutBy how) rest (Whole g more) =
-      subst (λ (c : Cut). Keeps (how .separators .terminator) (cutBy how) rest c) next (cut-keeps (how .separators) rest) in
+      let k : CutLaw (how .separators .terminator) (cutBy how) rest (Whole g more) =
+      subst (λ (c : Cut). CutLaw (how .separators .terminator) (cutBy how) rest c) next (cut-law (how .separators) rest) in
       let shorter : length (drop (skipBy how more) more) < fuel =
       rw length-drop (omega (arith, ap length (k .0) ∙ length-append g (how .separators .terminator ∷ more))) in
       chosen gs w end rest g more p next (says profile w hs vw) (hasRoom profile (segmentRoom t) (levelRoom t) (vw ∷ hs)) (isSE vw) _ (says-right profile w vw hs (p .viable)) refl refl

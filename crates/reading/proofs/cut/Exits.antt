@@ -14,7 +14,7 @@ use borrow.Author.Tests.{eq-eqb, ne-eqb, lt-ltb}
 use Rattle.text.specs.Bytes.{Bytes}
 use Rattle.text.specs.Pieces.{Free, pieces, closed}
 use Rattle.text.specs.Lookup.{pieceSpan}
-use Rattle.text.specs.Post.{Meets}
+use Rattle.text.specs.internal.Search.{FirstAt}
 use Rattle.text.specs.declared.separators.Separators.{Separators}
 use Rattle.text.proofs.Bools.{both, first-of, second-of, apart}
 use Rattle.text.proofs.Pieces.{pieces-free, pieces-closed}
@@ -156,7 +156,7 @@ module _ {q : Separators} {table : List Bool} {s : Bytes} {at : ℕ} {queue star
       bad = refused q (getD s here 0) (rw (← w .right .marks (getD s here 0)) (next w some .special)) no-e no-c no-t
 
       -- a terminator follows the bad byte
-      spoilt : (end : ℕ) → Meets s here (q .terminator) end → BadSegment q s at end
+      spoilt : (end : ℕ) → FirstAt s here (q .terminator) end → BadSegment q s at end
       spoilt end m =
           let b = begun-with (m .gap) (getD s here 0) (q .terminator) (drop (suc here) s) (m .rest)
           (sym (drop-cons s here 0 (inside w some)) ∙ m .whole) no-t in

@@ -10,8 +10,8 @@ use Rattle.text.specs.Bytes.{Bytes}
 use Rattle.text.specs.Pieces.{Free}
 use Rattle.text.specs.Cut.{Whole, Stop, cutOf}
 use Rattle.text.specs.declared.separators.Separators.{Separators}
-use Rattle.text.proofs.Cuts.{cut-whole, cut-none}
-use Rattle.text.proofs.View.{Fitted}
+use Rattle.text.proofs.DocumentCut.{cut-whole, cut-none}
+use Rattle.text.specs.Separators.{Fitted}
 use Rattle.reading.specs.internal.Queue.{left, Ready}
 use Rattle.reading.specs.internal.Cutting.{Apart, BadSegment, GoodSegment}
 use Rattle.reading.proofs.cut.Index.{listed-none}

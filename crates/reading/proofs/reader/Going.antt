@@ -12,7 +12,7 @@ use lib.Seq.{take-append-seam}
 use Rattle.text.specs.Bytes.{Bytes}
 use Rattle.text.specs.View.{viewOf}
 use Rattle.text.specs.Cut.{Placed}
-use Rattle.text.proofs.View.{Fitted}
+use Rattle.text.specs.Separators.{Fitted}
 use Rattle.elements.specs.Checks.{firstBroken}
 use Rattle.elements.specs.Rules.{byteChecks}
 use Rattle.elements.proofs.Verdicts.{keeps-holds}

@@ -13,7 +13,7 @@ use Rattle.text.specs.Pieces.{pieces}
 use Rattle.text.specs.View.{View, viewOf, present, elementOf}
 use Rattle.text.specs.declared.separators.Separators.{Separators}
 use Rattle.text.proofs.Bools.{first-of}
-use Rattle.text.proofs.View.{Fitted}
+use Rattle.text.specs.Separators.{Fitted}
 use Rattle.rows.specs.Tags.{tag, tags, tagNumber}
 use Rattle.rows.proofs.TagList.{tag-of-number}
 use Rattle.elements.specs.Data.{rulesHL}

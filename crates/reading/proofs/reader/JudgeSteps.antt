@@ -14,7 +14,7 @@ use Rattle.text.specs.Pieces.{pieces}
 use Rattle.text.specs.View.{View, viewOf, elementOf}
 use Rattle.text.specs.Cut.{Placed}
 use Rattle.text.proofs.Bools.{passes, not-passes}
-use Rattle.text.proofs.View.{Fitted}
+use Rattle.text.specs.Separators.{Fitted}
 use Rattle.rows.specs.Tags.{tag, tagNumber}
 use Rattle.rows.specs.Written.{writtenTable}
 use Rattle.rows.specs.Following.{Fits, OneFits}

@@ -15,7 +15,8 @@ use Rattle.text.specs.View.{View, viewOf, present, elementOf}
 use Rattle.text.specs.Cut.{Cut, Whole, Placed}
 use Rattle.text.specs.declared.separators.Separators.{Separators}
 use Rattle.text.proofs.Bools.{first-of, passes}
-use Rattle.text.proofs.Cuts.{Says, cut-says}
+use Rattle.text.proofs.CutLaws.{CutLaw}
+use Rattle.text.proofs.DocumentCut.{cut-law}
 use Rattle.rows.specs.Tags.{tag, tagNumber}
 use Rattle.rows.specs.Rows.{list842}
 use Rattle.rows.specs.RowList.{tagOf, rowAt}
@@ -29,6 +30,7 @@ use Rattle.levels.specs.Levels.{textOf}
 use Rattle.gate.specs.Profile.{nonconformance}
 use Rattle.gate.specs.Segments.{tagIn, seen, onto, opening}
 use Rattle.gate.specs.Records.{Tables}
+use Rattle.gate.specs.Reads.{cutBy}
 use Rattle.reading.specs.internal.Standing.{Standing}
 use Rattle.reading.specs.internal.Judgements.{openingControl}
 use Rattle.gate.specs.declared.how.How.{How}
@@ -50,7 +52,7 @@ control-of-first how before s segments levels at count row again known greatest 
 control-of-first how before s segments levels at count row again known greatest (g ∷ gs) (r ∷ rows) some st =
     let q = how .separators in
     let l = st .passed .leads in
-    let w : Says q s (Whole (g .segment) (l .0)) = subst (λ (c : Cut). Says q s c) (l .1) (cut-says q s) in
+    let w : CutLaw (q .terminator) (cutBy how) s (Whole (g .segment) (l .0)) = subst (λ (c : Cut). CutLaw (q .terminator) (cutBy how) s c) (l .1) (cut-law q s) in
     let long : getD segments 1 0 ≡ length (g .segment) = ap (λ (t : List ℕ). getD t 1 0) (st .segments-are) in
     let wide : 3 ≤ length segments = rw (st .segments-are) (omega arith) in
     let inside : length (g .segment) ≤ length s = omega (arith, ap length (w .0) ∙ length-append (g .segment) (q .terminator ∷ l .0)) in

@@ -12,7 +12,7 @@ use Rattle.text.specs.Bytes.{Bytes}
 use Rattle.text.specs.View.{View, viewOf}
 use Rattle.text.specs.Cut.{Whole, Placed}
 use Rattle.text.proofs.Lists.{map-append}
-use Rattle.text.proofs.View.{Fitted}
+use Rattle.text.specs.Separators.{Fitted}
 use Rattle.rows.specs.Tags.{tag}
 use Rattle.rows.specs.Following.{Fits, lastOf, twice}
 use Rattle.elements.specs.Checks.{Keeps}

@@ -10,7 +10,7 @@ use Rattle.text.specs.Bytes.{Bytes}
 use Rattle.text.specs.Pieces.{Free, pieces}
 use Rattle.text.specs.View.{viewOf}
 use Rattle.text.specs.Lookup.{pieceSpan}
-use Rattle.text.specs.Post.{Meets}
+use Rattle.text.specs.internal.Search.{FirstAt}
 use Rattle.text.specs.declared.separators.Separators.{Separators}
 use Rattle.elements.specs.Checks.{Keeps}
 use Rattle.elements.specs.Rules.{byteChecks, endChecks}
@@ -64,5 +64,5 @@ Cuts q table s at queue starts (Segment end count plain ended head tail seen) =
 -- what `stop` answers: the first terminator from `from` on, or that there is none
 abbrev pub Stops : Bytes → ℕ → ℕ → Next → Type 0
 Stops s from terminator Open = Free terminator (drop from s)
-Stops s from terminator (Bad end) = Meets s from terminator end
+Stops s from terminator (Bad end) = FirstAt s from terminator end
 Stops s from terminator (Segment end count plain ended head tail seen) = ⊥

@@ -11,7 +11,7 @@ use Rattle.text.specs.Pieces.{Free, pieces}
 use Rattle.text.specs.View.{View, viewOf}
 use Rattle.text.specs.Lookup.{pieceSpan}
 use Rattle.text.specs.Cut.{Placed}
-use Rattle.text.proofs.View.{Fitted}
+use Rattle.text.specs.Separators.{Fitted}
 use Rattle.rows.specs.Tags.{tagNumber}
 use Rattle.elements.specs.Types.{numberOf}
 use Rattle.elements.specs.Checks.{Check, check, firstBroken, Keeps}

@@ -8,7 +8,7 @@ use lib.ListN.{length, take, drop}
 use Rattle.text.specs.Bytes.{Bytes}
 use Rattle.text.specs.View.{viewOf}
 use Rattle.text.specs.Cut.{Placed, Whole}
-use Rattle.text.proofs.View.{Fitted}
+use Rattle.text.specs.Separators.{Fitted}
 use Rattle.elements.specs.declared.verdict.Verdict.{Verdict}
 use Rattle.elements.specs.declared.verdict.Verdict.the-variants.{Holds, Broken}
 use Rattle.gate.specs.Profile.{nonconformance}

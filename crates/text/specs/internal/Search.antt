@@ -10,7 +10,7 @@ use Rattle.text.specs.declared.lookup.Found.{Found}
 use Rattle.text.specs.declared.lookup.Found.the-variants.{At, Nowhere}
 
 -- from `from` on, s is a gap without the byte, then the byte at the place j, then the rest
-pub record Meets (s : Bytes) (from byte j : ℕ) : Type 0 where
+pub record FirstAt (s : Bytes) (from byte j : ℕ) : Type 0 where
   pub gap : Bytes
   pub rest : Bytes
   pub whole : drop from s ≡ gap ++ byte ∷ rest
@@ -18,5 +18,5 @@ pub record Meets (s : Bytes) (from byte j : ℕ) : Type 0 where
   pub place : j ≡ from + length gap
 
 abbrev pub Finds : Bytes → ℕ → ℕ → Found → Type 0
-Finds s from byte (At j) = Meets s from byte j
+Finds s from byte (At j) = FirstAt s from byte j
 Finds s from byte Nowhere = Free byte (drop from s)

@@ -15,7 +15,7 @@ use Rattle.text.specs.Separators.{isCapital}
 use Rattle.text.specs.Pieces.{Free}
 use Rattle.text.specs.Cut.{Cut, Whole, Stop, push, cutOf, skipOf}
 use Rattle.text.specs.declared.separators.Separators.{Separators}
-use Rattle.text.proofs.Cutting.{Keeps, Skips}
+use Rattle.text.proofs.CutLaws.{CutLaw, SkipLaw}
 
 module _ (q : Separators) where
   -- in plain words, one way: a segment without the terminator, and the terminator, are cut off whole
@@ -46,15 +46,15 @@ module _ (q : Separators) where
   cut-says (b ∷ s) = says-by b s (eqb b (q .terminator)) refl (cut-says s)
 
   -- the two laws
-  keeps-by : (s : Bytes) (c : Cut) → Says s c → Keeps (q .terminator) (cutOf q) s c
-  keeps-by s (Whole segment more) w = (w .0, λ x. cut-whole segment x (w .1))
-  keeps-by s (Stop number element upto more) w = inl (w .0)
+  law-by : (s : Bytes) (c : Cut) → Says s c → CutLaw (q .terminator) (cutOf q) s c
+  law-by s (Whole segment more) w = (w .0, λ x. cut-whole segment x (w .1))
+  law-by s (Stop number element upto more) w = inl (w .0)
 
-  pub cut-keeps : (s : Bytes) → Keeps (q .terminator) (cutOf q) s (cutOf q s)
-  cut-keeps s = keeps-by s (cutOf q s) (cut-says s)
+  pub cut-law : (s : Bytes) → CutLaw (q .terminator) (cutOf q) s (cutOf q s)
+  cut-law s = law-by s (cutOf q s) (cut-says s)
 
   near : (gap : Bytes) (b b′ : ℕ) (y z : Bytes) → (b′ ≡ b) ⊎ T (isCapital b′) → 0 ≡ length gap → 0 ≡ length gap
   near gap b b′ y z o e = e
 
-  pub skip-keeps : Skips (skipOf q)
-  skip-keeps = record { few = λ s. omega arith; near = near; none = λ b z h. refl }
+  pub skip-law : SkipLaw (skipOf q)
+  skip-law = record { few = λ s. omega arith; near = near; none = λ b z h. refl }

@@ -1,5 +1,5 @@
--- What any way of cutting promises, and what follows from that alone: of two ways to pass segments one begins the other; segments that were
--- passed stay so whatever follows them; segments written one after the other are cut again as they were.
+-- The two laws of any way of cutting, `CutLaw` and `SkipLaw`, and what follows from them alone: of two ways to pass segments one begins the
+-- other; segments that were passed stay so whatever follows them; segments added one after the other are cut again as they were.
 -- Assumes nothing.
 use Prim.Native.Nat.{ℕ, _+_, _≤_, _<_}
 use mathlib.Core.Path.{_≡_, refl, sym, ap, subst, _∙_}
@@ -13,15 +13,21 @@ use Rattle.text.specs.Bytes.{Bytes}
 use Rattle.text.specs.Separators.{isCapital}
 use Rattle.text.specs.Cut.{Cut, Whole, Stop, Placed, Leads}
 
--- a cut depends on nothing beyond its end: the same segment is cut off whatever follows its terminator, and the same stop, but for 3, is
--- made whatever follows the bytes that were looked at, of which there is one at least
-abbrev pub Keeps : (terminator : ℕ) → (Bytes → Cut) → Bytes → Cut → Type 0
-Keeps t cut s (Whole segment more) = (s ≡ segment ++ t ∷ more) × ((x : Bytes) → cut (segment ++ t ∷ x) ≡ Whole segment x)
-Keeps t cut s (Stop number element upto more) =
-    (number ≡ 3) ⊎ ((s ≡ upto ++ more) × (0 < length upto) × ((x : Bytes) → cut (upto ++ x) ≡ Stop number element upto x))
+-- a stop that blames a fault: it is numbered as one, and is made whatever follows the bytes that were looked at, of which there is one at least
+pub record Faulty (cut : Bytes → Cut) (s : Bytes) (number element : ℕ) (upto more : Bytes) : Type 0 where
+  pub from-4 : 4 ≤ number
+  pub to-16 : number ≤ 16
+  pub whole : s ≡ upto ++ more
+  pub some : 0 < length upto
+  pub still : (x : Bytes) → cut (upto ++ x) ≡ Stop number element upto x
+
+-- a cut depends on nothing beyond its end: the same segment is cut off whatever follows its terminator; and a stop is 3, or blames a fault
+abbrev pub CutLaw : (terminator : ℕ) → (Bytes → Cut) → Bytes → Cut → Type 0
+CutLaw t cut s (Whole segment more) = (s ≡ segment ++ t ∷ more) × ((x : Bytes) → cut (segment ++ t ∷ x) ≡ Whole segment x)
+CutLaw t cut s (Stop number element upto more) = (number ≡ 3) ⊎ Faulty cut s number element upto more
 
 -- a skip depends on no more than the byte after what is skipped, and passes over no capital letter
-pub record Skips (skip : Bytes → ℕ) : Type 0 where
+pub record SkipLaw (skip : Bytes → ℕ) : Type 0 where
   pub few : (s : Bytes) → skip s ≤ length s
   pub near : (gap : Bytes) (b b′ : ℕ) (y z : Bytes) → (b′ ≡ b) ⊎ T (isCapital b′)
       → skip (gap ++ b ∷ y) ≡ length gap → skip (gap ++ b′ ∷ z) ≡ length gap
@@ -102,7 +108,7 @@ module _ (t : ℕ) (cut : Bytes → Cut) (skip : Bytes → ℕ) where
     leads-behind (at + length (g .segment) + 1 + skip (a .0)) (drop (skip (a .0)) (a .0)) gs hs mid end rest last (a .3) b,
   )
 
-  module _ (laws : (s : Bytes) → Keeps t cut s (cut s)) (skips : Skips skip) where
+  module _ (laws : (s : Bytes) → CutLaw t cut s (cut s)) (skips : SkipLaw skip) where
     -- what stands before the rest, and that the same segments lead to it from the same front, as long as its first byte stays or is a capital
     pub record Front (at : ℕ) (s : Bytes) (gs : List Placed) (end b : ℕ) (y : Bytes) : Type 0 where
       pub front : Bytes
@@ -112,7 +118,7 @@ module _ (t : ℕ) (cut : Bytes → Cut) (skip : Bytes → ℕ) where
 
     whole-law : (s : Bytes) (r : Cut) → cut s ≡ r → (g m : Bytes) → r ≡ Whole g m
         → (s ≡ g ++ t ∷ m) × ((x : Bytes) → cut (g ++ t ∷ x) ≡ Whole g x)
-    whole-law s r e g m f = subst (λ (r : Cut). Keeps t cut s r) (e ∙ f) (laws s)
+    whole-law s r e g m f = subst (λ (r : Cut). CutLaw t cut s r) (e ∙ f) (laws s)
 
     near-front : (gap front : Bytes) (b b′ : ℕ) (y z : Bytes) → (b′ ≡ b) ⊎ T (isCapital b′)
         → skip (gap ++ (front ++ b ∷ y)) ≡ length gap → skip (gap ++ (front ++ b′ ∷ z)) ≡ length gap
@@ -151,17 +157,17 @@ module _ (t : ℕ) (cut : Bytes → Cut) (skip : Bytes → ℕ) where
         front-more at s p ps end b y m (whole-law s (Whole (p .segment) m) (c .1) (p .segment) m refl) (take (skip m) m)
         (length-take-le (skip m) m (skips .few m)) (sym (take-append-drop (skip m) m)) (c .2) (i .front) (i .whole) (i .end-is) (i .still)
 
-    -- a segment that can be written: it begins with a capital letter and is cut whole
-    pub record Made (g : Bytes) : Type 0 where
+    -- a segment that can be added behind others: it begins with a capital letter and is cut whole
+    pub record Addable (g : Bytes) : Type 0 where
       pub first : ℕ
       pub tail : Bytes
       pub is : g ≡ first ∷ tail
       pub capital : T (isCapital first)
       pub cut-is : (x : Bytes) → cut (g ++ t ∷ x) ≡ Whole g x
 
-    abbrev pub AllMade : List Bytes → Type 0
-    AllMade [] = Unit {0}
-    AllMade (g ∷ gs) = Made g × AllMade gs
+    abbrev pub AllAddable : List Bytes → Type 0
+    AllAddable [] = Unit {0}
+    AllAddable (g ∷ gs) = Addable g × AllAddable gs
 
     -- segments with a terminator after each, where they start, and where the last ends
     abbrev pub ended : List Bytes → Bytes
@@ -176,26 +182,26 @@ module _ (t : ℕ) (cut : Bytes → Cut) (skip : Bytes → ℕ) where
     past at [] = at
     past at (g ∷ gs) = past (at + length g + 1) gs
 
-    no-skip : (gs : List Bytes) → AllMade gs → skip (ended gs) ≡ 0
+    no-skip : (gs : List Bytes) → AllAddable gs → skip (ended gs) ≡ 0
     no-skip [] a = omega (arith, skips .few [])
     no-skip (g ∷ gs) a =
         ap (λ (x : Bytes). skip (x ++ t ∷ ended gs)) (a .0 .is) ∙ skips .none (a .0 .first) (a .0 .tail ++ t ∷ ended gs) (a .0 .capital)
 
-    pub leads-made : (at : ℕ) (gs : List Bytes) → AllMade gs → Cuts at (ended gs) (places at gs) (past at gs) []
-    leads-made at [] a = (refl, refl)
-    leads-made at (g ∷ gs) a = (
+    pub leads-added : (at : ℕ) (gs : List Bytes) → AllAddable gs → Cuts at (ended gs) (places at gs) (past at gs) []
+    leads-added at [] a = (refl, refl)
+    leads-added at (g ∷ gs) a = (
       ended gs,
       a .0 .cut-is (ended gs),
       refl,
-      rw (no-skip gs (a .1), add-zero (at + length g + 1)) (leads-made (at + length g + 1) gs (a .1)),
+      rw (no-skip gs (a .1), add-zero (at + length g + 1)) (leads-added (at + length g + 1) gs (a .1)),
     )
       where
         add-zero : (n : ℕ) → n + 0 ≡ n
         add-zero n = omega arith
 
-    -- what was passed, continued by segments that can be written
+    -- what was passed, continued by such segments
     pub leads-on : (at : ℕ) (s : Bytes) (gs : List Placed) (end b : ℕ) (y : Bytes) → Cuts at s gs end (b ∷ y) → (h : Bytes) (hs : List Bytes)
-        → AllMade (h ∷ hs)
+        → AllAddable (h ∷ hs)
         → (front : Bytes) × (s ≡ front ++ b ∷ y) × (end ≡ at + length front)
         × Cuts at (front ++ ended (h ∷ hs)) (gs ++ places end (h ∷ hs)) (past end (h ∷ hs)) []
     leads-on at s gs end b y c h hs a =
@@ -207,5 +213,5 @@ module _ (t : ℕ) (cut : Bytes → Cut) (skip : Bytes → ℕ) where
           f .whole,
           f .end-is,
           leads-behind at (f .front ++ ended (h ∷ hs)) gs (places end (h ∷ hs)) end (past end (h ∷ hs)) (ended (h ∷ hs)) []
-              (subst (λ (x : Bytes). Cuts at (f .front ++ x) gs end x) (sym i) z) (leads-made end (h ∷ hs) a),
+              (subst (λ (x : Bytes). Cuts at (f .front ++ x) gs end x) (sym i) z) (leads-added end (h ∷ hs) a),
         )
