@@ -69,9 +69,10 @@ extern "C" {
 #define STORMHLAW_INPUT_TOO_LONG 2
 /* No terminator from this byte on. The byte may be the input's length. */
 #define STORMHLAW_NO_TERMINATOR 3
-/* The tag is none of the 34. A line end behind the terminator before it counts as part of it. */
+/* The tag is none of the 34. */
 #define STORMHLAW_TAG_UNKNOWN 4
-/* A byte that is neither data (32 to 126) nor a separator, in the element named. */
+/* A byte that is neither data (32 to 126) nor a separator, in the element named; 0 is the tag. A line end behind a terminator is
+** such a byte, in the tag of the next segment. */
 #define STORMHLAW_BYTE_UNFIT 5
 /* Element 0: the segment has no element. Else the element named is the last and empty, or its last component is empty. */
 #define STORMHLAW_EMPTY_AT_THE_END 6

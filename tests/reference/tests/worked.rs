@@ -1,6 +1,6 @@
 //! The worked reports of document 01 with their tables, and the points where readers went astray.
 
-use reference::vectors::text::{after_bnr, in_fault, in_heading, joined, w1_with, W1};
+use reference::vectors::text::{after_bnr, in_fault, in_heading, joined, w1_with, EVERY_ROW, W1};
 use reference::{read, Answer, Separators};
 
 /// The tables before a reading.
@@ -147,18 +147,7 @@ fn rows_of_the_deepest_loops() {
 
 #[test]
 fn every_row_in_one_report() {
-    let heading = [
-        "REF*A", "DTM*002*20240301", "PID*A", "MEA*A", "DTM*002*20240301", "REF*A", "PWK*A", "REF*A",
-        "DTM*002*20240301", "N1*SU*A", "N2*A", "N3*A", "N4*A", "REF*A", "PER*A", "HL*1**I", "LIN**BP*A",
-        "PID*A", "PRS*A", "CID*A", "DTM*002*20240301", "REF*A", "CS*A", "QTY*A", "TMD*A", "PSD*A", "PWK*A",
-        "LM*A", "LQ*A", "MEA*A", "DTM*002*20240301", "REF*A", "FA1*A", "FA2*A", "SPS*A", "REF*A", "PSD*A",
-        "MEA*A", "DTM*002*20240301", "REF*A", "STA*A", "DTM*002*20240301", "REF*A", "NCD*1", "NTE*GEN*A",
-        "DTM*002*20240301", "REF*A", "QTY*1", "AMT*1", "MEA*1", "RC*1", "EFI*1", "BIN*1*A", "N1*SU*A",
-        "N2*A", "N3*A", "N4*A", "REF*A", "PER*A", "LM*A", "LQ*A", "NCA**R1", "NTE*GEN*B", "DTM*002*20240301",
-        "REF*B", "PWK*A", "REF*A", "DTM*002**0000", "N1*SU*A", "N2*A", "N3*A", "N4*A", "REF*A", "PER*A",
-        "LM*A", "LQ*A",
-    ];
-    let (answer, segments, _) = given(&after_bnr(&heading), (240, 4));
+    let (answer, segments, _) = given(&after_bnr(&EVERY_ROW), (240, 4));
     assert!(matches!(answer, Answer::Accepted { segments: 79, .. }), "{answer:?}");
     assert_eq!(segments.iter().map(|record| record[2]).collect::<Vec<u64>>(), (1..=79).collect::<Vec<u64>>());
 }

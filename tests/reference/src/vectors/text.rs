@@ -7,6 +7,18 @@ use crate::Separators;
 pub const W1: [&str; 7] =
     ["ST*842*0001", "BNR*11*NR7*20240301", "HL*1**RP*1", "HL*2*1*I*0", "NCD*1", "NCA**R1", "SE*7*0001"];
 
+/// With ST, BNR and SE around them, one segment for each of the 79 rows.
+pub const EVERY_ROW: [&str; 76] = [
+    "REF*A", "DTM*002*20240301", "PID*A", "MEA*A", "DTM*002*20240301", "REF*A", "PWK*A", "REF*A",
+    "DTM*002*20240301", "N1*SU*A", "N2*A", "N3*A", "N4*A", "REF*A", "PER*A", "HL*1**I", "LIN**BP*A", "PID*A",
+    "PRS*A", "CID*A", "DTM*002*20240301", "REF*A", "CS*A", "QTY*A", "TMD*A", "PSD*A", "PWK*A", "LM*A",
+    "LQ*A", "MEA*A", "DTM*002*20240301", "REF*A", "FA1*A", "FA2*A", "SPS*A", "REF*A", "PSD*A", "MEA*A",
+    "DTM*002*20240301", "REF*A", "STA*A", "DTM*002*20240301", "REF*A", "NCD*1", "NTE*GEN*A",
+    "DTM*002*20240301", "REF*A", "QTY*1", "AMT*1", "MEA*1", "RC*1", "EFI*1", "BIN*1*A", "N1*SU*A", "N2*A",
+    "N3*A", "N4*A", "REF*A", "PER*A", "LM*A", "LQ*A", "NCA**R1", "NTE*GEN*B", "DTM*002*20240301", "REF*B",
+    "PWK*A", "REF*A", "DTM*002**0000", "N1*SU*A", "N2*A", "N3*A", "N4*A", "REF*A", "PER*A", "LM*A", "LQ*A",
+];
+
 /// The segments with a terminator after each.
 pub fn joined<T: AsRef<str>>(segments: &[T]) -> String {
     segments.iter().map(|segment| format!("{}~", segment.as_ref())).collect()
