@@ -4,3 +4,4 @@ pub mod OneLevel
 pub mod AllLevels
 pub mod Closing
 pub mod AllRules
+pub mod LevelTable

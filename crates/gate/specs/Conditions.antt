@@ -1,7 +1,7 @@
 -- The three conditions of acceptance as statements, clause by clause in the tender's order, about the promise of reading and the rules of a whole
 -- transaction. Each is proved as one theorem. What condition 2 says of rewriting stands with rewriting.
 -- Assumes nothing.
-use Prim.Native.Nat.{ℕ, _+_, _≤_}
+use Prim.Native.Nat.{ℕ, suc, _+_, _≤_}
 use mathlib.Core.Path.{_≡_}
 use mathlib.Core.Logic.{_↔_}
 use mathlib.Core.List.{List, [], _∷_, _++_}
@@ -9,11 +9,13 @@ use lib.Dec.{T}
 use lib.ListN.{length, take, drop}
 use Rattle.text.specs.Bytes.{Bytes}
 use Rattle.text.specs.Separators.{fitSeparators}
+use Rattle.text.specs.View.{View}
 use Rattle.text.specs.Cut.{Cut, Whole, Stop, Placed, Leads}
-use Rattle.gate.specs.Profile.{profileOf}
+use Rattle.levels.specs.Levels.{levelAt}
+use Rattle.gate.specs.Profile.{Profile, profileOf}
 use Rattle.gate.specs.Segments.{seen, onto, levelsIn}
 use Rattle.gate.specs.Answers.{IsAccepted, Fault, Listed}
-use Rattle.gate.specs.Meets.{Meets}
+use Rattle.gate.specs.Meets.{hls, hlAt, Under, Meets}
 use Rattle.gate.specs.Records.{Tables, Room, recorded}
 use Rattle.gate.specs.Reads.{limit, cutBy, skipBy, Reads}
 use Rattle.gate.specs.declared.answer.Answer.{Answer}
@@ -72,6 +74,16 @@ pub record Condition2 : Type 0 where
   -- of which there is no other
   pub one-numbering : (how : How) (s : Bytes) (gs gs′ : List Placed) (rows rows′ : List ℕ) → Numbering how s gs rows → Numbering how s gs′ rows′
       → (gs ≡ gs′) × (rows ≡ rows′)
+
+-- Beside it: what the level table says of a transaction that meets every rule. The level with number j + 1 is that of HL number j
+pub record LevelShown (profile : Profile) (vs : List View) (j : ℕ) : Type 0 where
+  -- no level lies deeper than 4
+  pub shallow : levelAt (suc j) (levelsIn profile (onto [] vs)) .depth ≤ 4
+  -- without HL02 the parent's number is 0,
+  pub root : hlAt (hls vs) j .parent ≡ [] → levelAt (suc j) (levelsIn profile (onto [] vs)) .parent ≡ 0
+  -- and with HL02 it is the number of the earlier level that HL02 names, under which it may hang
+  pub child : (hlAt (hls vs) j .parent ≡ [] → ⊥)
+      → (i : ℕ) × Under (profile .levels) (hls vs) i j × (levelAt (suc j) (levelsIn profile (onto [] vs)) .parent ≡ suc i)
 
 -- Condition 3
 -- tables that are at least as large

@@ -24,7 +24,7 @@ use Rattle.gate.proofs.whole.AllLevels.{divided, levels-meet, meet-kept
 use Rattle.gate.proofs.whole.Closing.{Closes, word-closes, before, before-count, before-first, before-claims, Closed, from-closing, closing-from}
 
 -- there are as many claims as HL segments
-claims-count : (vs : List View) → length (claims (onto [] vs)) ≡ length (hls vs)
+pub claims-count : (vs : List View) → length (claims (onto [] vs)) ≡ length (hls vs)
 claims-count vs = omega (arith, divided vs .count)
 
 module _ (profile : Profile) where
