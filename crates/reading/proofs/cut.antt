@@ -1,6 +1,6 @@
 -- The cut of the next segment over the queue of special places.
 -- Assumes nothing.
-pub mod Marks
+pub mod SpecialBytes
 pub mod Index
 pub mod Queue
 pub mod Bytes

@@ -1,7 +1,7 @@
 -- Contracts among the functions of this crate. No rule is stated with anything here.
 -- Assumes nothing.
 pub mod Standing
-pub mod Marks
+pub mod SpecialBytes
 pub mod Queue
 pub mod Cutting
 pub mod Judgements

@@ -3,9 +3,10 @@
 ghost use mathlib.Core.Path.{_≡_};
 ghost use Prim.Native.Nat.{_+_, _≤_, _<_};
 ghost use lib.ListN.{length, set};
-ghost use Rattle.reading.specs.internal.Marks.{markIn, Table, Fills};
-ghost use Rattle.reading.specs.internal.Queue.{bit, Indexed, Reaches, Ready};
-ghost use Rattle.reading.specs.internal.Cutting.{Apart, Cuts, Stops};
+ghost use Rattle.reading.specs.internal.SpecialBytes.{isSpecialIn, SpecialTable, Fills};
+ghost use Rattle.reading.specs.internal.Queue.{bit, Indexed, Window, Ready};
+ghost use Rattle.reading.specs.internal.Cutting.{Cuts, Stops};
+ghost use Rattle.text.specs.Separators.{Fitted};
 use text::separators::Separators;
 
 // What the bytes hold next.
@@ -27,49 +28,49 @@ pub(crate) enum Next {
     },
 }
 
-// The bytes from `from` to `last` get this mark.
-fn fill(marks: &mut [bool; 256], from: usize, last: usize, mark: bool)
-    requires { ⌜ length (now marks) ≡ 256 ⌝ }
+// The bytes from `from` to `last` get this entry.
+fn fill(specials: &mut [bool; 256], from: usize, last: usize, entry: bool)
+    requires { ⌜ length (now specials) ≡ 256 ⌝ }
     requires { ⌜ from ≤ last ⌝ }
     requires { ⌜ last < 256 ⌝ }
-    ensures { λ _. ⌜ Fills (now (marks .entry)) from last mark (now (marks .exit)) ⌝ }
+    ensures { λ _. ⌜ Fills (now (specials .entry)) from last entry (now (specials .exit)) ⌝ }
 {
     let mut i = from;
     while i <= last {
-        marks[i] = mark;
+        specials[i] = entry;
         i += 1;
     }
 }
 
-// Marks the separators and every byte that is no data.
-pub(crate) fn set_marks(marks: &mut [bool; 256], separators: Separators)
-    requires { ⌜ length (now marks) ≡ 256 ⌝ }
-    ensures { λ _. ⌜ Table separators (now (marks .exit)) ⌝ }
+// Which bytes are special: the separators, and every byte that is no data.
+pub(crate) fn set_special(specials: &mut [bool; 256], separators: Separators)
+    requires { ⌜ length (now specials) ≡ 256 ⌝ }
+    ensures { λ _. ⌜ SpecialTable separators (now (specials .exit)) ⌝ }
 {
-    fill(marks, 0, 255, true);
-    fill(marks, 32, 126, false);
-    marks[separators.element as usize] = true;
-    marks[separators.component as usize] = true;
-    marks[separators.terminator as usize] = true;
+    fill(specials, 0, 255, true);
+    fill(specials, 32, 126, false);
+    specials[separators.element as usize] = true;
+    specials[separators.component as usize] = true;
+    specials[separators.terminator as usize] = true;
 }
 
-// 1 for a byte that is marked, else 0.
-fn mark(marks: &[bool; 256], byte: u8) -> usize
-    requires { ⌜ length (now marks) ≡ 256 ⌝ }
-    ensures { λ r. ⌜ r ≡ bit (markIn (now (marks .entry)) byte) ⌝ }
+// 1 for a special byte, else 0.
+fn special_bit(specials: &[bool; 256], byte: u8) -> usize
+    requires { ⌜ length (now specials) ≡ 256 ⌝ }
+    ensures { λ r. ⌜ r ≡ bit (isSpecialIn (now (specials .entry)) byte) ⌝ }
 {
-    marks[byte as usize] as usize
+    specials[byte as usize] as usize
 }
 
 // Puts the special places from `from` up to `to` into the queue and answers how many. Every place is stored, and the next one takes its
 // entry unless it is special: the loops neither branch nor end early.
-fn index(s: &[u8], marks: &[bool; 256], from: usize, to: usize, queue: &mut [usize; 72]) -> usize
+fn index(s: &[u8], specials: &[bool; 256], from: usize, to: usize, queue: &mut [usize; 72]) -> usize
     requires { ⌜ to ≤ length (now s) ⌝ }
     requires { ⌜ from ≤ to ⌝ }
     requires { ⌜ to ≤ from + 64 ⌝ }
-    requires { ⌜ length (now marks) ≡ 256 ⌝ }
+    requires { ⌜ length (now specials) ≡ 256 ⌝ }
     requires { ⌜ length (now queue) ≡ 72 ⌝ }
-    ensures { λ r. ⌜ Indexed (now (marks .entry)) (now (s .entry)) from to r (now (queue .exit)) ⌝ }
+    ensures { λ r. ⌜ Indexed (now (specials .entry)) (now (s .entry)) from to r (now (queue .exit)) ⌝ }
 {
     let mut number: usize = 0;
     let mut i = from;
@@ -77,14 +78,14 @@ fn index(s: &[u8], marks: &[bool; 256], from: usize, to: usize, queue: &mut [usi
         let mut j: usize = 0;
         while j < 8 {
             queue[number] = i + j;
-            number += mark(marks, s[i + j]);
+            number += special_bit(specials, s[i + j]);
             j += 1;
         }
         i += 8;
     }
     while i < to {
         queue[number] = i;
-        number += mark(marks, s[i]);
+        number += special_bit(specials, s[i]);
         i += 1;
     }
     number
@@ -93,13 +94,13 @@ fn index(s: &[u8], marks: &[bool; 256], from: usize, to: usize, queue: &mut [usi
 // How far the next index goes: 64 bytes, or up to the end.
 fn reach(seen: usize, len: usize) -> usize
     requires { ⌜ seen < len ⌝ }
-    ensures { λ r. ⌜ Reaches seen len r ⌝ }
+    ensures { λ r. ⌜ Window seen len r ⌝ }
 {
     if 64 < len - seen { seen + 64 } else { len }
 }
 
 // Keeps where an element starts: the tag, number 0, and the first 32 elements.
-fn note(starts: &mut [usize; 33], number: usize, place: usize)
+fn keep_start(starts: &mut [usize; 33], number: usize, place: usize)
     requires { ⌜ length (now starts) ≡ 33 ⌝ }
     ensures { λ _. ⌜ now (starts .exit) ≡ set (now (starts .entry)) number place ⌝ }
 {
@@ -127,7 +128,7 @@ fn stop(s: &[u8], from: usize, terminator: u8) -> Next
 // queue up, the outer one fills it anew.
 pub(crate) fn next_segment(
     s: &[u8],
-    marks: &[bool; 256],
+    specials: &[bool; 256],
     separators: Separators,
     at: usize,
     mut head: usize,
@@ -136,11 +137,11 @@ pub(crate) fn next_segment(
     queue: &mut [usize; 72],
     starts: &mut [usize; 33],
 ) -> Next
-    requires { ⌜ Table separators (now marks) ⌝ }
-    requires { ⌜ Apart separators ⌝ }
-    requires { ⌜ Ready (now marks) (now s) at (now queue) head tail seen ⌝ }
+    requires { ⌜ SpecialTable separators (now specials) ⌝ }
+    requires { ⌜ Fitted separators ⌝ }
+    requires { ⌜ Ready (now specials) (now s) at (now queue) head tail seen ⌝ }
     requires { ⌜ length (now starts) ≡ 33 ⌝ }
-    ensures { λ r. ⌜ Cuts separators (now (marks .entry)) (now (s .entry)) at (now (queue .exit)) (now (starts .exit)) r ⌝ }
+    ensures { λ r. ⌜ Cuts separators (now (specials .entry)) (now (s .entry)) at (now (queue .exit)) (now (starts .exit)) r ⌝ }
 {
     let mut count: usize = 0;
     let mut ended = true;
@@ -156,7 +157,7 @@ pub(crate) fn next_segment(
                 ended = ended & ((place != behind) | (count == 0));
                 count += 1;
                 start = place + 1;
-                note(starts, count, start);
+                keep_start(starts, count, start);
                 continue;
             }
             if byte == separators.terminator {
@@ -179,7 +180,7 @@ pub(crate) fn next_segment(
             return Next::Open;
         }
         let to = reach(seen, s.len());
-        tail = index(s, marks, seen, to, queue);
+        tail = index(s, specials, seen, to, queue);
         head = 0;
         seen = to;
     }

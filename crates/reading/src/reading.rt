@@ -9,7 +9,7 @@ ghost use Rattle.text.specs.Separators.{Fitted};
 ghost use Rattle.rows.specs.Written.{writtenTable};
 ghost use Rattle.elements.specs.Checks.{firstBroken};
 ghost use Rattle.elements.specs.Rules.{byteChecks};
-ghost use Rattle.reading.specs.internal.Marks.{Table};
+ghost use Rattle.reading.specs.internal.SpecialBytes.{SpecialTable};
 ghost use Rattle.gate.specs.Profile.{nonconformance};
 ghost use Rattle.gate.specs.Records.{Tables};
 ghost use Rattle.gate.specs.Reads.{limit, Read, Reads};
@@ -57,14 +57,14 @@ fn bad_bytes(s: &[u8], how: How, at: usize, end: usize, count: usize) -> Answer
 fn read_on(
     s: &[u8],
     how: How,
-    marks: &[bool; 256],
+    specials: &[bool; 256],
     table: &[u8; 2686],
     segments: &mut [u64],
     levels: &mut [u64],
 ) -> Answer
     requires { ⌜ Fitted (how .separators) ⌝ }
     requires { ⌜ length (now s) ≤ limit ⌝ }
-    requires { ⌜ Table (how .separators) (now marks) ⌝ }
+    requires { ⌜ SpecialTable (how .separators) (now specials) ⌝ }
     requires { ⌜ now table ≡ writtenTable ⌝ }
     ensures { λ r. ⌜ Read nonconformance how (now (s .entry)) (record { segments = now (segments .entry); levels = now (levels .entry) }) r
         (record { segments = now (segments .exit); levels = now (levels .exit) }) ⌝ }
@@ -85,7 +85,7 @@ fn read_on(
     loop {
         match cutting::next_segment(
             s,
-            marks,
+            specials,
             how.separators,
             at,
             head,
@@ -170,8 +170,8 @@ pub fn read(s: &[u8], how: How, segments: &mut [u64], levels: &mut [u64]) -> Ans
             element: 0,
         };
     }
-    let mut marks: [bool; 256] = [false; 256];
-    cutting::set_marks(&mut marks, how.separators);
+    let mut specials: [bool; 256] = [false; 256];
+    cutting::set_special(&mut specials, how.separators);
     let table = next::next_table();
-    read_on(s, how, &marks, &table, segments, levels)
+    read_on(s, how, &specials, &table, segments, levels)
 }

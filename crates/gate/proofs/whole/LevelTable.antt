@@ -69,8 +69,7 @@ level-shown vs rows m j h =
       root = λ e. b .parent-is ∙ rw e;
       child = λ p.
           let u = m .levels .parented j h p in
-          let before : Distinct cs (length (b .before)) = λ i k l q. m .levels .distinct i k l (omega (arith, b .count)) in
-          (
+          let before : Distinct cs (length (b .before)) = λ i k l q. m .levels .distinct i k l (omega (arith, b .count)) in (
             u .0,
             u .1,
             b .parent-is ∙ named-parent profile cs (b .before) (b .tells) before (hlAt cs j) (u .0) (omega (arith, b .count, u .1 .earlier)) p (u .1 .named),

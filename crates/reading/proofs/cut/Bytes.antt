@@ -17,7 +17,7 @@ use Rattle.text.proofs.Everys.{every-at}
 use Rattle.text.proofs.Pieces.{pieces-some}
 use Rattle.elements.specs.Checks.{each, Keeps}
 use Rattle.elements.specs.Rules.{dataPiece, byteChecks}
-use Rattle.reading.proofs.cut.Marks.{belongs}
+use Rattle.reading.proofs.cut.SpecialBytes.{belongs}
 use Rattle.reading.proofs.cut.Queue.{All}
 use Rattle.gate.proofs.reading.Laws.{keeps-at}
 

@@ -23,7 +23,7 @@ use Rattle.elements.proofs.Presence.{some as filled}
 use Rattle.reading.specs.internal.Cutting.{BadSegment, GoodSegment, Cuts, Stops}
 use Rattle.reading.specs.declared.cutting.Next.{Next}
 use Rattle.reading.specs.declared.cutting.Next.the-variants.{Open, Bad, Segment}
-use Rattle.reading.proofs.cut.Marks.{belongs, Allowed, refused}
+use Rattle.reading.proofs.cut.SpecialBytes.{belongs, Allowed, refused}
 use Rattle.reading.proofs.cut.Queue.{All, left-none, used-up}
 use Rattle.reading.proofs.cut.Bytes.{every-middle, all-every, data-kept, data-told}
 use Rattle.reading.proofs.cut.Ends.{Ended, ends-kept, ends-told}
@@ -153,7 +153,7 @@ module _ {q : Separators} {table : List Bool} {s : Bytes} {at : ℕ} {queue star
         (no-t : getD s here 0 ≡ q .terminator → ⊥) where
       -- the byte at the place may not stand in a segment
       bad : T (belongs q (getD s here 0)) → ⊥
-      bad = refused q (getD s here 0) (rw (← w .right .marks (getD s here 0)) (next w some .special)) no-e no-c no-t
+      bad = refused q (getD s here 0) (rw (← w .right .tells (getD s here 0)) (next w some .special)) no-e no-c no-t
 
       -- a terminator follows the bad byte
       spoilt : (end : ℕ) → FirstAt s here (q .terminator) end → BadSegment q s at end

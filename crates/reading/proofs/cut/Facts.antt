@@ -11,18 +11,9 @@ use Rattle.text.specs.Pieces.{Free}
 use Rattle.text.specs.Cut.{Whole, Stop, cutOf}
 use Rattle.text.specs.declared.separators.Separators.{Separators}
 use Rattle.text.proofs.DocumentCut.{cut-whole, cut-none}
-use Rattle.text.specs.Separators.{Fitted}
 use Rattle.reading.specs.internal.Queue.{left, Ready}
-use Rattle.reading.specs.internal.Cutting.{Apart, BadSegment, GoodSegment}
+use Rattle.reading.specs.internal.Cutting.{BadSegment, GoodSegment}
 use Rattle.reading.proofs.cut.Index.{listed-none}
-
--- separators that are fit differ
-pub fitted-apart : (q : Separators) → Fitted q → Apart q
-fitted-apart q f = record {
-  element-component = f .element-component;
-  element-terminator = f .element-terminator;
-  component-terminator = f .component-terminator;
-}
 
 -- before anything is seen, an empty queue is ready
 pub ready-first : (table : List Bool) (s : Bytes) (queue : List ℕ) → length queue ≡ 72 → Ready table s 0 queue 0 0 0

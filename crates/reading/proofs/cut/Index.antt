@@ -9,44 +9,44 @@ use native.Mathlib.Numerals.{add-one}
 use lib.ListN.{length, take, getD, set, length-append, length-set}
 use lib.Seq.{drop-cons, take-suc-set, take-set-le}
 use Rattle.text.specs.Bytes.{Bytes}
-use Rattle.reading.specs.internal.Marks.{markIn}
-use Rattle.reading.specs.internal.Queue.{bit, mark, specials, Listed, Indexed}
+use Rattle.reading.specs.internal.SpecialBytes.{isSpecialIn}
+use Rattle.reading.specs.internal.Queue.{bit, putWhere, placesOf, SpecialPlaces, Indexed}
 
 -- a place before others, and more behind them
-mark-append : (t : Bool) (place : ℕ) (l m : List ℕ) → mark t place l ++ m ≡ mark t place (l ++ m)
-mark-append true place l m = refl
-mark-append false place l m = refl
+put-append : (t : Bool) (place : ℕ) (l m : List ℕ) → putWhere t place l ++ m ≡ putWhere t place (l ++ m)
+put-append true place l m = refl
+put-append false place l m = refl
 
 -- the special places of bytes, and of bytes behind them
-pub specials-append : (table : List Bool) (at : ℕ) (x y : Bytes) → specials table at (x ++ y) ≡ specials table at x ++ specials table (at + length x) y
-specials-append table at [] y = ap (λ (n : ℕ). specials table n y) (omega arith)
-specials-append table at (b ∷ x) y =
-    ap (mark (markIn table b) at)
-    (specials-append table (suc at) x y ∙ ap (λ (n : ℕ). specials table (suc at) x ++ specials table n y) (omega arith))
-    ∙ sym (mark-append (markIn table b) at (specials table (suc at) x) (specials table (at + suc (length x)) y))
+pub places-append : (table : List Bool) (at : ℕ) (x y : Bytes) → placesOf table at (x ++ y) ≡ placesOf table at x ++ placesOf table (at + length x) y
+places-append table at [] y = ap (λ (n : ℕ). placesOf table n y) (omega arith)
+places-append table at (b ∷ x) y =
+    ap (putWhere (isSpecialIn table b) at)
+    (places-append table (suc at) x y ∙ ap (λ (n : ℕ). placesOf table (suc at) x ++ placesOf table n y) (omega arith))
+    ∙ sym (put-append (isSpecialIn table b) at (placesOf table (suc at) x) (placesOf table (at + suc (length x)) y))
 
 -- no place is listed of no bytes
-pub listed-none : (table : List Bool) (s : Bytes) (at : ℕ) (places : List ℕ) → at ≤ length s → places ≡ [] → Listed table s at at places
+pub listed-none : (table : List Bool) (s : Bytes) (at : ℕ) (places : List ℕ) → at ≤ length s → places ≡ [] → SpecialPlaces table s at at places
 listed-none table s at places h e = record { window = []; whole = refl; place = omega arith; within = h; special = e }
 
 -- the place that is stored behind the others counts where its byte is special
-stored : (t : Bool) (queue : List ℕ) (m i : ℕ) → m < length queue → take (m + bit t) (set queue m i) ≡ take m queue ++ mark t i []
+stored : (t : Bool) (queue : List ℕ) (m i : ℕ) → m < length queue → take (m + bit t) (set queue m i) ≡ take m queue ++ putWhere t i []
 unfolding bit
 stored true queue m i h = rw add-one (take-suc-set queue m i h)
 stored false queue m i h = let z : m + 0 ≡ m = omega arith in rw (append-nil, z) (take-set-le m queue m i (omega arith))
 
 -- one byte more
-listed-more : {table : List Bool} {s : Bytes} {from i : ℕ} (m : ℕ) (queue : List ℕ) (r : ℕ) → Listed table s from i (take m queue) → i < length s
-    → m < length queue → r ≡ bit (markIn table (getD s i 0)) → Listed table s from (i + 1) (take (m + r) (set queue m i))
+listed-more : {table : List Bool} {s : Bytes} {from i : ℕ} (m : ℕ) (queue : List ℕ) (r : ℕ) → SpecialPlaces table s from i (take m queue) → i < length s
+    → m < length queue → r ≡ bit (isSpecialIn table (getD s i 0)) → SpecialPlaces table s from (i + 1) (take (m + r) (set queue m i))
 listed-more {table} {s} {from} {i} m queue r l h g e = record {
   window = l .window ++ (getD s i 0 ∷ []);
   whole = rw (append-assoc, add-one, ← drop-cons s i 0 h) (l .whole);
   place = simp length-append (omega (arith, l .place));
   within = omega arith;
-  special = rw e (stored (markIn table (getD s i 0)) queue m i g
-      ∙ ap (λ (x : List ℕ). x ++ mark (markIn table (getD s i 0)) i []) (l .special)
-      ∙ ap (λ (n : ℕ). specials table from (l .window) ++ mark (markIn table (getD s i 0)) n []) (l .place)
-      ∙ sym (specials-append table from (l .window) (getD s i 0 ∷ [])));
+  special = rw e (stored (isSpecialIn table (getD s i 0)) queue m i g
+      ∙ ap (λ (x : List ℕ). x ++ putWhere (isSpecialIn table (getD s i 0)) i []) (l .special)
+      ∙ ap (λ (n : ℕ). placesOf table from (l .window) ++ putWhere (isSpecialIn table (getD s i 0)) n []) (l .place)
+      ∙ sym (places-append table from (l .window) (getD s i 0 ∷ [])));
 }
 
 -- a test counts at most 1
@@ -61,7 +61,7 @@ at-most-one t e = omega (arith, e, bit-small t)
 
 -- an index that has passed the bytes from `from` up to i, and listed `number` places
 pub record Counted (table : List Bool) (s : Bytes) (from i number : ℕ) (queue : List ℕ) : Type 0 where
-  pub listed : Listed table s from i (take number queue)
+  pub listed : SpecialPlaces table s from i (take number queue)
   pub room : number + from ≤ i
   pub size : length queue ≡ 72
 
@@ -72,11 +72,11 @@ counted-none table s from queue h e = record { listed = listed-none table s from
 
 module _ {table : List Bool} {s : Bytes} {from i number : ℕ} {queue : List ℕ} (c : Counted table s from i number queue) where
   -- one byte more
-  pub counted-more : (r : ℕ) → i < length s → i < from + 64 → r ≡ bit (markIn table (getD s i 0))
+  pub counted-more : (r : ℕ) → i < length s → i < from + 64 → r ≡ bit (isSpecialIn table (getD s i 0))
       → Counted table s from (i + 1) (number + r) (set queue number i)
   counted-more r h g e = record {
     listed = listed-more number queue r (c .listed) h (omega (arith, c .room, c .size)) e;
-    room = omega (arith, c .room, e, bit-small (markIn table (getD s i 0)));
+    room = omega (arith, c .room, e, bit-small (isSpecialIn table (getD s i 0)));
     size = simp length-set (c .size);
   }
 

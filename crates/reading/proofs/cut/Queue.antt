@@ -9,18 +9,18 @@ use native.Mathlib.Numerals.{add-one}
 use lib.ListN.{length, drop, getD, length-append, length-drop}
 use lib.Seq.{drop-cons, drop-drop, drop-at}
 use Rattle.text.specs.Bytes.{Bytes}
-use Rattle.reading.specs.internal.Marks.{markIn}
-use Rattle.reading.specs.internal.Queue.{mark, specials, Listed, left}
-use Rattle.reading.proofs.cut.Index.{specials-append}
+use Rattle.reading.specs.internal.SpecialBytes.{isSpecialIn}
+use Rattle.reading.specs.internal.Queue.{putWhere, placesOf, SpecialPlaces, left}
+use Rattle.reading.proofs.cut.Index.{places-append}
 
 -- each of the bytes has the property
 abbrev pub All : (ℕ → Type 0) → Bytes → Type 0
 All P [] = Unit {0}
 All P (b ∷ s) = P b × All P s
 
--- the table does not mark the byte
+-- the table does not putWhere the byte
 abbrev pub Data : List Bool → ℕ → Type 0
-Data table b = markIn table b ≡ false
+Data table b = isSpecialIn table b ≡ false
 
 -- the first special byte of a window, and the gap before it
 record Opens (table : List Bool) (at : ℕ) (window : Bytes) (p : ℕ) (places : List ℕ) : Type 0 where
@@ -29,13 +29,13 @@ record Opens (table : List Bool) (at : ℕ) (window : Bytes) (p : ℕ) (places :
   rest : Bytes
   whole : window ≡ gap ++ byte ∷ rest
   data-only : All (Data table) gap
-  special : markIn table byte ≡ true
+  special : isSpecialIn table byte ≡ true
   place : p ≡ at + length gap
-  others : places ≡ specials table (suc p) rest
+  others : places ≡ placesOf table (suc p) rest
 
 -- by whether the window's first byte is special
-opens-by : (table : List Bool) (at b : ℕ) (w : Bytes) (p : ℕ) (places : List ℕ) (t : Bool) → markIn table b ≡ t
-    → p ∷ places ≡ mark t at (specials table (suc at) w) → (p ∷ places ≡ specials table (suc at) w → Opens table (suc at) w p places)
+opens-by : (table : List Bool) (at b : ℕ) (w : Bytes) (p : ℕ) (places : List ℕ) (t : Bool) → isSpecialIn table b ≡ t
+    → p ∷ places ≡ putWhere t at (placesOf table (suc at) w) → (p ∷ places ≡ placesOf table (suc at) w → Opens table (suc at) w p places)
     → Opens table at (b ∷ w) p places
 opens-by table at b w p places true h e f = record {
   gap = [];
@@ -45,7 +45,7 @@ opens-by table at b w p places true h e f = record {
   data-only = tt;
   special = h;
   place = omega (arith, head-eq-of-cons-eq e);
-  others = tail-eq-of-cons-eq e ∙ ap (λ (n : ℕ). specials table (suc n) w) (sym (head-eq-of-cons-eq e));
+  others = tail-eq-of-cons-eq e ∙ ap (λ (n : ℕ). placesOf table (suc n) w) (sym (head-eq-of-cons-eq e));
 }
 opens-by table at b w p places false h e f =
     let r = f e in
@@ -61,20 +61,20 @@ opens-by table at b w p places false h e f =
     }
 
 -- a window with a special place opens so
-opens : (table : List Bool) (at : ℕ) (w : Bytes) (p : ℕ) (places : List ℕ) → p ∷ places ≡ specials table at w → Opens table at w p places
+opens : (table : List Bool) (at : ℕ) (w : Bytes) (p : ℕ) (places : List ℕ) → p ∷ places ≡ placesOf table at w → Opens table at w p places
 opens table at [] p places e = absurd (omega (arith, ap length e))
-opens table at (b ∷ w) p places e = opens-by table at b w p places (markIn table b) refl e (opens table (suc at) w p places)
+opens table at (b ∷ w) p places e = opens-by table at b w p places (isSpecialIn table b) refl e (opens table (suc at) w p places)
 
 -- without special places a window is data: by its first byte, which is not special
-data-by : (table : List Bool) (at b : ℕ) (w : Bytes) (t : Bool) → markIn table b ≡ t → [] ≡ mark t at (specials table (suc at) w)
-    → ([] ≡ specials table (suc at) w → All (Data table) w) → All (Data table) (b ∷ w)
+data-by : (table : List Bool) (at b : ℕ) (w : Bytes) (t : Bool) → isSpecialIn table b ≡ t → [] ≡ putWhere t at (placesOf table (suc at) w)
+    → ([] ≡ placesOf table (suc at) w → All (Data table) w) → All (Data table) (b ∷ w)
 data-by table at b w true h e f = absurd (omega (arith, ap length e))
 data-by table at b w false h e f = (h, f e)
 
 -- and byte by byte
-data-of : (table : List Bool) (at : ℕ) (w : Bytes) → [] ≡ specials table at w → All (Data table) w
+data-of : (table : List Bool) (at : ℕ) (w : Bytes) → [] ≡ placesOf table at w → All (Data table) w
 data-of table at [] e = tt
-data-of table at (b ∷ w) e = data-by table at b w (markIn table b) refl e (data-of table (suc at) w)
+data-of table at (b ∷ w) e = data-by table at b w (isSpecialIn table b) refl e (data-of table (suc at) w)
 
 -- what the first place of the queue says of the bytes: data up to it, and a special byte at it
 pub record Front (table : List Bool) (s : Bytes) (here p seen : ℕ) (places : List ℕ) : Type 0 where
@@ -83,11 +83,11 @@ pub record Front (table : List Bool) (s : Bytes) (here p seen : ℕ) (places : L
   pub place : p ≡ here + length gap
   pub data-only : All (Data table) gap
   pub inside : p < length s
-  pub special : markIn table (getD s p 0) ≡ true
-  pub others : Listed table s (p + 1) seen places
+  pub special : isSpecialIn table (getD s p 0) ≡ true
+  pub others : SpecialPlaces table s (p + 1) seen places
 
 -- from the window to the bytes
-front-by : {table : List Bool} {s : Bytes} {here p seen : ℕ} {places : List ℕ} (l : Listed table s here seen (p ∷ places))
+front-by : {table : List Bool} {s : Bytes} {here p seen : ℕ} {places : List ℕ} (l : SpecialPlaces table s here seen (p ∷ places))
     (f : Opens table here (l .window) p places) → drop p s ≡ f .byte ∷ (f .rest ++ drop seen s)
     → drop here s ≡ f .gap ++ (f .byte ∷ (f .rest ++ drop seen s)) → Front table s here p seen places
 front-by {table} {s} {here} {p} {seen} {places} l f d w =
@@ -110,7 +110,7 @@ front-by {table} {s} {here} {p} {seen} {places} l f d w =
     }
 
 -- what the first of the listed places says
-pub front : {table : List Bool} {s : Bytes} {here p seen : ℕ} {places : List ℕ} → Listed table s here seen (p ∷ places) → Front table s here p seen places
+pub front : {table : List Bool} {s : Bytes} {here p seen : ℕ} {places : List ℕ} → SpecialPlaces table s here seen (p ∷ places) → Front table s here p seen places
 front {table} {s} {here} {p} {seen} {places} l =
     let f = opens table here (l .window) p places (l .special) in
     let rest = f .byte ∷ (f .rest ++ drop seen s) in
@@ -132,19 +132,19 @@ left-cons queue head tail h g =
 pub left-none : (queue : List ℕ) (head tail : ℕ) → tail ≤ head → left queue head tail ≡ []
 left-none queue head tail h = let z : tail - head ≡ 0 = omega arith in rw z
 
-module _ {table : List Bool} {s : Bytes} {at seen : ℕ} {places : List ℕ} (l : Listed table s at seen places) (none : places ≡ []) where
+module _ {table : List Bool} {s : Bytes} {at seen : ℕ} {places : List ℕ} (l : SpecialPlaces table s at seen places) (none : places ≡ []) where
   -- used up: only data stands up to `seen`
   pub used-up : All (Data table) (l .window)
   used-up = data-of table at (l .window) (sym none ∙ l .special)
 
   -- and filled anew from there
-  pub refilled : {to : ℕ} {next : List ℕ} → Listed table s seen to next → Listed table s at to next
+  pub refilled : {to : ℕ} {next : List ℕ} → SpecialPlaces table s seen to next → SpecialPlaces table s at to next
   refilled {to} {next} m = record {
     window = l .window ++ m .window;
     whole = rw (append-assoc, ← m .whole) (l .whole);
     place = simp length-append (omega (arith, l .place, m .place));
     within = m .within;
-    special = m .special ∙ ap (λ (n : ℕ). specials table n (m .window)) (l .place)
-        ∙ ap (λ (x : List ℕ). x ++ specials table (at + length (l .window)) (m .window)) (sym none ∙ l .special)
-        ∙ sym (specials-append table at (l .window) (m .window));
+    special = m .special ∙ ap (λ (n : ℕ). placesOf table n (m .window)) (l .place)
+        ∙ ap (λ (x : List ℕ). x ++ placesOf table (at + length (l .window)) (m .window)) (sym none ∙ l .special)
+        ∙ sym (places-append table at (l .window) (m .window));
   }

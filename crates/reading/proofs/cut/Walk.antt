@@ -14,13 +14,13 @@ use lib.Seq.{drop-cons, getD-set-same, getD-set-other, take-append-le, take-all}
 use borrow.Author.Tests.{eq-eqb, ne-eqb}
 use Rattle.text.specs.Bytes.{Bytes, every}
 use Rattle.text.specs.Pieces.{Free, Clean, closed}
+use Rattle.text.specs.Separators.{Fitted}
 use Rattle.text.specs.declared.separators.Separators.{Separators}
 use Rattle.text.proofs.Pieces.{closed-snoc, clean-snoc, free-snoc}
 use Rattle.text.proofs.View.{free-append}
-use Rattle.reading.specs.internal.Marks.{Table}
+use Rattle.reading.specs.internal.SpecialBytes.{SpecialTable}
 use Rattle.reading.specs.internal.Queue.{Indexed, left, Ready}
-use Rattle.reading.specs.internal.Cutting.{Apart}
-use Rattle.reading.proofs.cut.Marks.{Allowed, no-component, no-element, data-allowed, component-allowed, element-allowed}
+use Rattle.reading.proofs.cut.SpecialBytes.{Allowed, no-component, no-element, data-allowed, component-allowed, element-allowed}
 use Rattle.reading.proofs.cut.Queue.{All, Data, Front, front, left-cons, left-none, refilled}
 use Rattle.reading.proofs.cut.Ends.{endsIn, well, ends-snoc, ends-gap, ended-more}
 
@@ -67,8 +67,8 @@ last-with c piece (b ∷ gap) here behind place e h p f = ne-eqb place behind (�
 -- after some turns: the pieces that are gone, the bytes of the one that is begun, and where the walk stands
 pub record Walk (q : Separators) (table : List Bool) (s : Bytes) (at : ℕ) (queue starts : List ℕ) (head tail seen count : ℕ) (ended : Bool)
     (start behind : ℕ) : Type 0 where
-  pub right : Table q table
-  pub differ : Apart q
+  pub right : SpecialTable q table
+  pub differ : Fitted q
   pub gone : List Bytes
   pub begun : Bytes
   pub here : ℕ
@@ -92,7 +92,7 @@ pub record Walk (q : Separators) (table : List Bool) (s : Bytes) (at : ℕ) (que
   pub ready : Ready table s here queue head tail seen
 
 -- before the first turn
-pub walk-none : {q : Separators} {table : List Bool} {s : Bytes} {at : ℕ} {queue : List ℕ} (starts : List ℕ) {head tail seen : ℕ} → Table q table → Apart q
+pub walk-none : {q : Separators} {table : List Bool} {s : Bytes} {at : ℕ} {queue : List ℕ} (starts : List ℕ) {head tail seen : ℕ} → SpecialTable q table → Fitted q
     → Ready table s at queue head tail seen → length starts ≡ 33 → Walk q table s at queue (set starts 0 at) head tail seen 0 true at at
 walk-none {at = at} starts right differ r h = record {
   right = right;
@@ -122,18 +122,18 @@ walk-none {at = at} starts right differ r h = record {
 pub good-free : (q : Separators) (x : Bytes) → All (Allowed q) x → Free (q .terminator) x
 good-free q x u = all-free (Allowed q) (q .terminator) x (λ b h. h .0) u
 
-module _ {q : Separators} {table : List Bool} (right : Table q table) where
+module _ {q : Separators} {table : List Bool} (right : SpecialTable q table) where
   -- data may stand in a segment
   pub data-good : (x : Bytes) → All (Data table) x → All (Allowed q) x
-  data-good x u = all-map (Data table) (Allowed q) x (λ b h. data-allowed q b (rw (right .marks b) at h)) u
+  data-good x u = all-map (Data table) (Allowed q) x (λ b h. data-allowed q b (rw (right .tells b) at h)) u
 
   -- it is free of the element separator
   data-element : (x : Bytes) → All (Data table) x → Free (q .element) x
-  data-element x u = all-free (Data table) (q .element) x (λ b h. no-element q b (rw (right .marks b) at h)) u
+  data-element x u = all-free (Data table) (q .element) x (λ b h. no-element q b (rw (right .tells b) at h)) u
 
   -- and of the component separator
   data-component : (x : Bytes) → All (Data table) x → Free (q .component) x
-  data-component x u = all-free (Data table) (q .component) x (λ b h. no-component q b (rw (right .marks b) at h)) u
+  data-component x u = all-free (Data table) (q .component) x (λ b h. no-component q b (rw (right .tells b) at h)) u
 
 module _ {q : Separators} {table : List Bool} {s : Bytes} {at : ℕ} {queue starts : List ℕ} {head tail seen count : ℕ} {ended : Bool}
     {start behind : ℕ} (w : Walk q table s at queue starts head tail seen count ended start behind) where

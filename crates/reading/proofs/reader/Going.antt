@@ -41,11 +41,11 @@ use Rattle.reading.proofs.reader.JudgeSteps.{verdict-cases}
 use Rattle.reading.proofs.reader.Standings.{standing-start, standing-refuses, segments-long, levels-long, history-long}
 
 -- at the start
-pub going-start : (how : How) (s : Bytes) (marks : List Bool) (before : Tables) (queue starts : List ℕ) → length queue ≡ 72 → length starts ≡ 33
-    → Going how s marks before (before .segments) (before .levels) queue starts 0 0 0 0 (record { count = 0; row = 0; again = false; known = 0; greatest = 0 })
-going-start how s marks before queue starts q r = record {
+pub going-start : (how : How) (s : Bytes) (specials : List Bool) (before : Tables) (queue starts : List ℕ) → length queue ≡ 72 → length starts ≡ 33
+    → Going how s specials before (before .segments) (before .levels) queue starts 0 0 0 0 (record { count = 0; row = 0; again = false; known = 0; greatest = 0 })
+going-start how s specials before queue starts q r = record {
   stands = record { gs = []; rows = []; standing = standing-start how before s };
-  ready = ready-first marks s queue q;
+  ready = ready-first specials s queue q;
   room = r;
 }
 
@@ -70,10 +70,10 @@ module _ {how : How} {s : Bytes} {before : Tables} {segments levels : List ℕ} 
   levels-same = levels-long (stands .standing)
 
   -- 3
-  pub open-refuses : (next : Next) (queue starts : List ℕ) (marks : List Bool) → Cuts (how .separators) marks s at queue starts next → next ≡ Open
+  pub open-refuses : (next : Next) (queue starts : List ℕ) (specials : List Bool) → Cuts (how .separators) specials s at queue starts next → next ≡ Open
       → Read nonconformance how s before (Refused 3 (state .count + 1) at 0) (record { segments = segments; levels = levels })
-  open-refuses next queue starts marks cuts is =
-      let free = subst (λ (n : Next). Cuts (how .separators) marks s at queue starts n) is cuts in
+  open-refuses next queue starts specials cuts is =
+      let free = subst (λ (n : Next). Cuts (how .separators) specials s at queue starts n) is cuts in
       standing-refuses (stands .standing) 3 0 (inl (record { upto = drop at s; more = []; stops = open-stops (how .separators) s at free }))
 
   -- 5
@@ -82,17 +82,17 @@ module _ {how : How} {s : Bytes} {before : Tables} {segments levels : List ℕ} 
       let e : end - at ≡ length (b .segment) = ap (λ (x : ℕ). x - at) (b .place) ∙ add-sub-cancel-left at (length (b .segment)) in
       rw e (ap (take (length (b .segment))) (b .whole) ∙ take-append-seam (b .segment) (how .separators .terminator ∷ b .more))
 
-  pub bad-within : (next : Next) (queue starts : List ℕ) (marks : List Bool) → Cuts (how .separators) marks s at queue starts next → (end : ℕ) → next ≡ Bad end
+  pub bad-within : (next : Next) (queue starts : List ℕ) (specials : List Bool) → Cuts (how .separators) specials s at queue starts next → (end : ℕ) → next ≡ Bad end
       → (at ≤ end) × (end ≤ length s)
-  bad-within next queue starts marks cuts end is =
-      let b = subst (λ (n : Next). Cuts (how .separators) marks s at queue starts n) is cuts in
+  bad-within next queue starts specials cuts end is =
+      let b = subst (λ (n : Next). Cuts (how .separators) specials s at queue starts n) is cuts in
       (omega (arith, b .place), omega (arith, b .place, length-drop at s, ap length (b .whole) ∙ length-append (b .segment) (how .separators .terminator ∷ b .more)))
 
-  pub bad-refuses : (next : Next) (queue starts : List ℕ) (marks : List Bool) → Cuts (how .separators) marks s at queue starts next → (end : ℕ) → next ≡ Bad end
+  pub bad-refuses : (next : Next) (queue starts : List ℕ) (specials : List Bool) → Cuts (how .separators) specials s at queue starts next → (end : ℕ) → next ≡ Bad end
       → (r : Answer) → r ≡ refusedBy (firstBroken (byteChecks (viewOf (how .separators) (between s at end)))) (state .count) at
       → Read nonconformance how s before r (record { segments = segments; levels = levels })
-  bad-refuses next queue starts marks cuts end is r says =
-      let b = subst (λ (n : Next). Cuts (how .separators) marks s at queue starts n) is cuts in
+  bad-refuses next queue starts specials cuts end is r says =
+      let b = subst (λ (n : Next). Cuts (how .separators) specials s at queue starts n) is cuts in
       let v = viewOf (how .separators) (b .segment) in
       rw (says, bad-place b)
       (verdict-cases (firstBroken (byteChecks v))
@@ -107,13 +107,13 @@ module _ {how : How} {s : Bytes} {before : Tables} {segments levels : List ℕ} 
       }))))))
 
 -- a segment that was cut and has data bytes
-pub cut-good : {how : How} {s : Bytes} {marks : List Bool} {queue starts : List ℕ} {at : ℕ} (next : Next) → Cuts (how .separators) marks s at queue starts next
+pub cut-good : {how : How} {s : Bytes} {specials : List Bool} {queue starts : List ℕ} {at : ℕ} (next : Next) → Cuts (how .separators) specials s at queue starts next
     → {end count : ℕ} {plain ended : Bool} {head tail ahead : ℕ} → next ≡ Segment end count plain ended head tail ahead
-    → GoodSegment (how .separators) marks s at queue starts end count plain ended head tail ahead
-cut-good {how} {s} {marks} {queue} {starts} {at} next cuts is = subst (λ (n : Next). Cuts (how .separators) marks s at queue starts n) is cuts
+    → GoodSegment (how .separators) specials s at queue starts end count plain ended head tail ahead
+cut-good {how} {s} {specials} {queue} {starts} {at} next cuts is = subst (λ (n : Next). Cuts (how .separators) specials s at queue starts n) is cuts
 
-module _ {how : How} {s : Bytes} {marks : List Bool} {queue starts : List ℕ} {at end count : ℕ} {plain ended : Bool} {head tail ahead : ℕ}
-    (good : GoodSegment (how .separators) marks s at queue starts end count plain ended head tail ahead) where
+module _ {how : How} {s : Bytes} {specials : List Bool} {queue starts : List ℕ} {at end count : ℕ} {plain ended : Bool} {head tail ahead : ℕ}
+    (good : GoodSegment (how .separators) specials s at queue starts end count plain ended head tail ahead) where
   abbrev notes : Notes
   notes = record { at = at; end = end; count = count; plain = plain; ended = ended }
 

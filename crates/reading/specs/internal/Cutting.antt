@@ -18,12 +18,6 @@ use Rattle.reading.specs.internal.Queue.{Ready}
 use Rattle.reading.specs.declared.cutting.Next.{Next}
 use Rattle.reading.specs.declared.cutting.Next.the-variants.{Open, Bad, Segment}
 
--- the three separators differ
-pub record Apart (q : Separators) : Type 0 where
-  pub element-component : q .element ≡ q .component → ⊥
-  pub element-terminator : q .element ≡ q .terminator → ⊥
-  pub component-terminator : q .component ≡ q .terminator → ⊥
-
 -- from `at` on stands a segment with its terminator at `end`, and a byte of it is neither data nor separator
 pub record BadSegment (q : Separators) (s : Bytes) (at end : ℕ) : Type 0 where
   pub segment : Bytes

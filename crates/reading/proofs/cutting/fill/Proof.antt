@@ -3,21 +3,21 @@
 use Prim.Native.Nat.{_+_, _-_, _≤_}
 use native.Mathlib.Omega.{arith}
 use borrow.Author.Needs.{needs}
-use Rattle.reading.proofs.cut.Marks.{Filled, filled-none, filled-more, filled-all}
+use Rattle.reading.proofs.cut.SpecialBytes.{Filled, filled-none, filled-more, filled-all}
 use Rattle.reading.proofs.cutting.fill.Statement.{statement}
 use Rattle.reading.proofs.cutting.fill.Tie as tie
 
 abbrev Inv-loop : tie.InvT-loop
-Inv-loop marks₀ from last mark i₀ marks i = (i ≤ last + 1) × Filled marks₀ from mark marks i
+Inv-loop specials₀ from last entry i₀ specials i = (i ≤ last + 1) × Filled specials₀ from entry specials i
 
 abbrev μ-loop : tie.MeasureT-loop
-μ-loop marks₀ from last mark i₀ marks i = (last + 1) - i
+μ-loop specials₀ from last entry i₀ specials i = (last + 1) - i
 
 loop-holds : tie.Need-loop-holds Inv-loop μ-loop
 loop-holds c = (omega arith, filled-none _ _ _ (c .pre .0))
 
-element-write-marks : tie.Need-element-write-marks Inv-loop μ-loop
-element-write-marks c = search needs
+element-write-specials : tie.Need-element-write-specials Inv-loop μ-loop
+element-write-specials c = search needs
 
 add-i : tie.Need-add-i Inv-loop μ-loop
 add-i c = search needs
@@ -34,4 +34,4 @@ returns c = filled-all (c .before .loop .inv .1) _ (omega arith)
 pub fill-spec : {M : Type 1} → statement M
 fill-spec =
     tie.close
-    (tie.spec Inv-loop μ-loop loop-holds element-write-marks add-i loop-less loop-again returns)
+    (tie.spec Inv-loop μ-loop loop-holds element-write-specials add-i loop-less loop-again returns)

@@ -8,22 +8,22 @@ use Rattle.reading.proofs.cutting.index.Statement.{statement}
 use Rattle.reading.proofs.cutting.index.Tie as tie
 
 abbrev Inv-loop2 : tie.InvT-loop2
-Inv-loop2 s marks from to queue₀ number₀ i j₀ queue number j = (j ≤ 8) × Counted marks s from (i + j) number queue
+Inv-loop2 s specials from to queue₀ number₀ i j₀ queue number j = (j ≤ 8) × Counted specials s from (i + j) number queue
 
 abbrev μ-loop2 : tie.MeasureT-loop2
-μ-loop2 s marks from to queue₀ number₀ i j₀ queue number j = 8 - j
+μ-loop2 s specials from to queue₀ number₀ i j₀ queue number j = 8 - j
 
 abbrev Inv-loop : tie.InvT-loop
-Inv-loop s marks from to queue₀ number₀ i₀ queue number i = (i ≤ to) × Counted marks s from i number queue
+Inv-loop s specials from to queue₀ number₀ i₀ queue number i = (i ≤ to) × Counted specials s from i number queue
 
 abbrev μ-loop : tie.MeasureT-loop
-μ-loop s marks from to queue₀ number₀ i₀ queue number i = to - i
+μ-loop s specials from to queue₀ number₀ i₀ queue number i = to - i
 
 abbrev Inv-loop3 : tie.InvT-loop3
-Inv-loop3 s marks from to queue₀ number₀ i₀ queue number i = (i ≤ to) × Counted marks s from i number queue
+Inv-loop3 s specials from to queue₀ number₀ i₀ queue number i = (i ≤ to) × Counted specials s from i number queue
 
 abbrev μ-loop3 : tie.MeasureT-loop3
-μ-loop3 s marks from to queue₀ number₀ i₀ queue number i = to - i
+μ-loop3 s specials from to queue₀ number₀ i₀ queue number i = to - i
 
 loop-holds : tie.Need-loop-holds Inv-loop2 μ-loop2 Inv-loop μ-loop Inv-loop3 μ-loop3
 loop-holds c = (omega arith, counted-none _ _ _ _ (omega arith) (c .before .pre .1 .1 .1 .1))
@@ -44,18 +44,18 @@ element-write-queue :
     tie.Need-element-write-queue Inv-loop2 μ-loop2 Inv-loop μ-loop Inv-loop3 μ-loop3
 element-write-queue c = search needs
 
-add-mark : tie.Need-add-mark Inv-loop2 μ-loop2 Inv-loop μ-loop Inv-loop3 μ-loop3
-add-mark c = search needs
+add-special-bit : tie.Need-add-special-bit Inv-loop2 μ-loop2 Inv-loop μ-loop Inv-loop3 μ-loop3
+add-special-bit c = search needs
 
-shared-slice-read-mark :
-    tie.Need-shared-slice-read-mark Inv-loop2 μ-loop2 Inv-loop μ-loop Inv-loop3 μ-loop3
-shared-slice-read-mark c = search needs
+shared-slice-read-special-bit :
+    tie.Need-shared-slice-read-special-bit Inv-loop2 μ-loop2 Inv-loop μ-loop Inv-loop3 μ-loop3
+shared-slice-read-special-bit c = search needs
 
-mark-requires : tie.Need-mark-requires Inv-loop2 μ-loop2 Inv-loop μ-loop Inv-loop3 μ-loop3
-mark-requires c κs = search needs
+special-bit-requires : tie.Need-special-bit-requires Inv-loop2 μ-loop2 Inv-loop μ-loop Inv-loop3 μ-loop3
+special-bit-requires c κs = search needs
 
 add-number : tie.Need-add-number Inv-loop2 μ-loop2 Inv-loop μ-loop Inv-loop3 μ-loop3
-add-number c = record { fits = omega (arith, at-most-one _ (c .mark .ensures)) }
+add-number c = record { fits = omega (arith, at-most-one _ (c .special-bit .ensures)) }
 
 add-j : tie.Need-add-j Inv-loop2 μ-loop2 Inv-loop μ-loop Inv-loop3 μ-loop3
 add-j c = search needs
@@ -68,7 +68,7 @@ loop2-again c = (
   omega arith,
   counted-at
       (counted-more (c .before .before .before .loop2 .inv .1) _ (omega arith) (omega arith)
-      (c .mark .ensures))
+      (c .special-bit .ensures))
       _ (omega arith),
 )
 
@@ -91,15 +91,15 @@ element-write-queue-2 :
     tie.Need-element-write-queue-2 Inv-loop2 μ-loop2 Inv-loop μ-loop Inv-loop3 μ-loop3
 element-write-queue-2 c = search needs
 
-shared-slice-read-mark-2 :
-    tie.Need-shared-slice-read-mark-2 Inv-loop2 μ-loop2 Inv-loop μ-loop Inv-loop3 μ-loop3
-shared-slice-read-mark-2 c = search needs
+shared-slice-read-special-bit-2 :
+    tie.Need-shared-slice-read-special-bit-2 Inv-loop2 μ-loop2 Inv-loop μ-loop Inv-loop3 μ-loop3
+shared-slice-read-special-bit-2 c = search needs
 
-mark-requires-2 : tie.Need-mark-requires-2 Inv-loop2 μ-loop2 Inv-loop μ-loop Inv-loop3 μ-loop3
-mark-requires-2 c κs = search needs
+special-bit-requires-2 : tie.Need-special-bit-requires-2 Inv-loop2 μ-loop2 Inv-loop μ-loop Inv-loop3 μ-loop3
+special-bit-requires-2 c κs = search needs
 
 add-number-2 : tie.Need-add-number-2 Inv-loop2 μ-loop2 Inv-loop μ-loop Inv-loop3 μ-loop3
-add-number-2 c = record { fits = omega (arith, at-most-one _ (c .mark2 .ensures)) }
+add-number-2 c = record { fits = omega (arith, at-most-one _ (c .special-bit2 .ensures)) }
 
 add-i-2 : tie.Need-add-i-2 Inv-loop2 μ-loop2 Inv-loop μ-loop Inv-loop3 μ-loop3
 add-i-2 c = search needs
@@ -111,7 +111,7 @@ loop3-again : tie.Need-loop3-again Inv-loop2 μ-loop2 Inv-loop μ-loop Inv-loop3
 loop3-again c = (
   omega arith,
   counted-more (c .before .before .before .loop3 .inv .1) _ (omega arith) (omega arith)
-      (c .mark2 .ensures),
+      (c .special-bit2 .ensures),
 )
 
 returns : tie.Need-returns Inv-loop2 μ-loop2 Inv-loop μ-loop Inv-loop3 μ-loop3
@@ -133,9 +133,9 @@ index-spec =
     add-queue
     mul-queue
     element-write-queue
-    add-mark
-    shared-slice-read-mark
-    mark-requires
+    add-special-bit
+    shared-slice-read-special-bit
+    special-bit-requires
     add-number
     add-j
     loop2-less
@@ -146,8 +146,8 @@ index-spec =
     loop3-holds
     mul-queue-2
     element-write-queue-2
-    shared-slice-read-mark-2
-    mark-requires-2
+    shared-slice-read-special-bit-2
+    special-bit-requires-2
     add-number-2
     add-i-2
     loop3-less

@@ -11,19 +11,19 @@ use Rattle.reading.proofs.cutting.next_segment.Statement.{statement}
 use Rattle.reading.proofs.cutting.next_segment.Tie as tie
 
 abbrev Inv-loop2 : tie.InvT-loop2
-Inv-loop2 s marks separators at head₀ tail seen queue starts₀ count₀ ended₀ start₀ behind₀ head starts count ended start behind =
-    Walk separators marks s at queue starts head tail seen count ended start behind
+Inv-loop2 s specials separators at head₀ tail seen queue starts₀ count₀ ended₀ start₀ behind₀ head starts count ended start behind =
+    Walk separators specials s at queue starts head tail seen count ended start behind
 
 abbrev μ-loop2 : tie.MeasureT-loop2
-μ-loop2 s marks separators at head₀ tail seen queue starts₀ count₀ ended₀ start₀ behind₀ head starts count ended start behind =
+μ-loop2 s specials separators at head₀ tail seen queue starts₀ count₀ ended₀ start₀ behind₀ head starts count ended start behind =
     tail - head
 
 abbrev Inv-loop : tie.InvT-loop
-Inv-loop s marks separators at head₀ tail₀ seen₀ queue₀ starts₀ count₀ ended₀ start₀ behind₀ head tail seen queue starts count ended start behind =
-    Walk separators marks s at queue starts head tail seen count ended start behind
+Inv-loop s specials separators at head₀ tail₀ seen₀ queue₀ starts₀ count₀ ended₀ start₀ behind₀ head tail seen queue starts count ended start behind =
+    Walk separators specials s at queue starts head tail seen count ended start behind
 
 abbrev μ-loop : tie.MeasureT-loop
-μ-loop s marks separators at head₀ tail₀ seen₀ queue₀ starts₀ count₀ ended₀ start₀ behind₀ head tail seen queue starts count ended start behind =
+μ-loop s specials separators at head₀ tail₀ seen₀ queue₀ starts₀ count₀ ended₀ start₀ behind₀ head tail seen queue starts count ended start behind =
     length s - seen
 
 element-write-starts : tie.Need-element-write-starts Inv-loop2 μ-loop2 Inv-loop μ-loop
@@ -56,15 +56,15 @@ add-start c = record {
   fits = omega (arith, inside (c .before .before .before .before .before .loop2 .inv) (c .before .before .before .before .loop2-test .taken));
 }
 
-note-requires : tie.Need-note-requires Inv-loop2 μ-loop2 Inv-loop μ-loop
-note-requires c κs = search needs
+keep-start-requires : tie.Need-keep-start-requires Inv-loop2 μ-loop2 Inv-loop μ-loop
+keep-start-requires c κs = search needs
 
 loop2-less : tie.Need-loop2-less Inv-loop2 μ-loop2 Inv-loop μ-loop
 loop2-less c = search needs
 
 loop2-again : tie.Need-loop2-again Inv-loop2 μ-loop2 Inv-loop μ-loop
 loop2-again c =
-    rw (c .note .ensures)
+    rw (c .keep-start .ensures)
     (on-element (c .before .before .before .before .before .before .before .loop2 .inv) (c .before .before .before .before .before .before .loop2-test .taken)
     (c .before .before .if1 .taken))
 
@@ -132,7 +132,7 @@ next-segment-spec =
     add-head
     add-count
     add-start
-    note-requires
+    keep-start-requires
     loop2-less
     loop2-again
     returns

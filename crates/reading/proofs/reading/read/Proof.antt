@@ -15,15 +15,15 @@ returns c = unfit-refuses _ _ _ (c .before .fit .result) (c .before .fit .ensure
 returns-2 : tie.Need-returns-2
 returns-2 c = long-refuses _ _ _ (c .before .before .fit .result) (c .before .before .fit .ensures) (c .before .if1 .left) (c .if2 .taken)
 
-set-marks-requires : tie.Need-set-marks-requires
-set-marks-requires c κs = search needs
+set-special-requires : tie.Need-set-special-requires
+set-special-requires c κs = search needs
 
 next-table-requires : tie.Need-next-table-requires
 next-table-requires c κs = search needs
 
 read-on-requires : tie.Need-read-on-requires
 read-on-requires c κs =
-    (fitted _ (rw (← c .before .before .before .before .before .before .before .before .before .fit .ensures, passed-test (c .before .before .before .before .before .before .before .before .before .fit .result) (c .before .before .before .before .before .before .before .before .if1 .left)) tt), (c .before .before .before .before .before .before .before .if2 .left, (c .before .before .before .before .before .set-marks .ensures, c .before .before .before .before .next-table .ensures)))
+    (fitted _ (rw (← c .before .before .before .before .before .before .before .before .before .fit .ensures, passed-test (c .before .before .before .before .before .before .before .before .before .fit .result) (c .before .before .before .before .before .before .before .before .if1 .left)) tt), (c .before .before .before .before .before .before .before .if2 .left, (c .before .before .before .before .before .set-special .ensures, c .before .before .before .before .next-table .ensures)))
 
 same-length : tie.Need-same-length
 same-length c = search needs
@@ -41,7 +41,7 @@ read-spec =
     fit-requires
     returns
     returns-2
-    set-marks-requires
+    set-special-requires
     next-table-requires
     read-on-requires
     same-length

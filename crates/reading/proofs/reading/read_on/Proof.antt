@@ -6,17 +6,16 @@ use native.Mathlib.Omega.{arith}
 use lib.ListN.{length}
 use Rattle.reading.specs.internal.Loop.{Going}
 use borrow.Author.Needs.{needs}
-use Rattle.reading.proofs.cut.Facts.{fitted-apart}
 use Rattle.reading.proofs.reader.Going.{going-start, segments-few, segments-same, levels-same, open-refuses, bad-within, bad-refuses, cut-good, good-forward, good-within, good-inside, in-room, settled-done, settled-passed}
 use Rattle.reading.proofs.reading.read_on.Statement.{statement}
 use Rattle.reading.proofs.reading.read_on.Tie as tie
 
 abbrev Inv-loop : tie.InvT-loop
-Inv-loop s how marks table segments₀ levels₀ queue₀ starts₀ at₀ head₀ tail₀ seen₀ state₀ segments levels queue starts at head tail seen state =
-    Going how s marks (record { segments = segments₀; levels = levels₀ }) segments levels queue starts at head tail seen state
+Inv-loop s how specials table segments₀ levels₀ queue₀ starts₀ at₀ head₀ tail₀ seen₀ state₀ segments levels queue starts at head tail seen state =
+    Going how s specials (record { segments = segments₀; levels = levels₀ }) segments levels queue starts at head tail seen state
 
 abbrev μ-loop : tie.MeasureT-loop
-μ-loop s how marks table segments₀ levels₀ queue₀ starts₀ at₀ head₀ tail₀ seen₀ state₀ segments levels queue starts at head tail seen state =
+μ-loop s how specials table segments₀ levels₀ queue₀ starts₀ at₀ head₀ tail₀ seen₀ state₀ segments levels queue starts at head tail seen state =
     length s - at
 
 loop-holds : tie.Need-loop-holds Inv-loop μ-loop
@@ -26,7 +25,7 @@ next-segment-requires : tie.Need-next-segment-requires Inv-loop μ-loop
 next-segment-requires c κs =
     let start = c .before .before .before .before .before .before in
     let inv = c .before .before .loop .inv in
-    (start .pre .1 .1 .0, (fitted-apart _ (start .pre .0), (inv .ready, inv .room)))
+    (start .pre .1 .1 .0, (start .pre .0, (inv .ready, inv .room)))
 
 enum-told : tie.Need-enum-told Inv-loop μ-loop
 enum-told c = search needs

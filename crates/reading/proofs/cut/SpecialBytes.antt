@@ -1,4 +1,4 @@
--- The table is filled right, and what a mark says of its byte.
+-- The table is filled right, and what an entry says of its byte.
 -- Assumes nothing.
 use Prim.Native.Nat.{ℕ, _+_, _≤_, _<_}
 use mathlib.Core.Path.{_≡_, refl, _∙_}
@@ -11,23 +11,22 @@ use lib.Dec.{T, eqb}
 use lib.ListN.{length, set, length-set, List·getD-eq-default}
 use lib.Seq.{getD-set-same, getD-set-other}
 use borrow.Author.Tests.{eq-eqb, ne-eqb, eqb-true, eqb-false, lt-leb, le-leb}
-use Rattle.text.specs.Separators.{printable}
+use Rattle.text.specs.Separators.{Fitted, printable}
 use Rattle.text.specs.declared.separators.Separators.{Separators}
 use Rattle.text.proofs.Bools.{or-left, or-right}
-use Rattle.reading.specs.internal.Marks.{special, markIn, Table, Fills}
-use Rattle.reading.specs.internal.Cutting.{Apart}
+use Rattle.reading.specs.internal.SpecialBytes.{special, isSpecialIn, SpecialTable, Fills}
 
 -- a fill that has passed the bytes from `from` up to i
-pub record Filled (old : List Bool) (from : ℕ) (mark : Bool) (table : List Bool) (i : ℕ) : Type 0 where
+pub record Filled (old : List Bool) (from : ℕ) (entry : Bool) (table : List Bool) (i : ℕ) : Type 0 where
   pub size : length table ≡ 256
   pub low : from ≤ i
-  pub inside : (b : ℕ) → from ≤ b → b < i → markIn table b ≡ mark
-  pub under : (b : ℕ) → b < from → markIn table b ≡ markIn old b
-  pub above : (b : ℕ) → i ≤ b → markIn table b ≡ markIn old b
+  pub inside : (b : ℕ) → from ≤ b → b < i → isSpecialIn table b ≡ entry
+  pub under : (b : ℕ) → b < from → isSpecialIn table b ≡ isSpecialIn old b
+  pub above : (b : ℕ) → i ≤ b → isSpecialIn table b ≡ isSpecialIn old b
 
 -- none is passed yet
-pub filled-none : (old : List Bool) (from : ℕ) (mark : Bool) → length old ≡ 256 → Filled old from mark old from
-filled-none old from mark h = record {
+pub filled-none : (old : List Bool) (from : ℕ) (entry : Bool) → length old ≡ 256 → Filled old from entry old from
+filled-none old from entry h = record {
   size = h;
   low = omega arith;
   inside = λ b l u. absurd (omega arith);
@@ -35,25 +34,25 @@ filled-none old from mark h = record {
   above = λ b l. refl;
 }
 
-module _ {old : List Bool} {from : ℕ} {mark : Bool} {table : List Bool} {i : ℕ} (f : Filled old from mark table i) where
+module _ {old : List Bool} {from : ℕ} {entry : Bool} {table : List Bool} {i : ℕ} (f : Filled old from entry table i) where
   -- one byte more
-  pub filled-more : i < 256 → Filled old from mark (set table i mark) (i + 1)
+  pub filled-more : i < 256 → Filled old from entry (set table i entry) (i + 1)
   filled-more h = record {
     size = simp length-set (f .size);
     low = omega (arith, f .low);
     inside = λ b l u.
         by-cases (decLt b i)
-        (λ w. getD-set-other table i b mark true (λ z. omega arith) ∙ f .inside b l w)
-        (λ w. let z : b ≡ i = omega arith in rw z (getD-set-same table i mark true (omega (arith, f .size))));
-    under = λ b l. getD-set-other table i b mark true (λ z. omega (arith, f .low)) ∙ f .under b l;
-    above = λ b l. getD-set-other table i b mark true (λ z. omega arith) ∙ f .above b (omega arith);
+        (λ w. getD-set-other table i b entry true (λ z. omega arith) ∙ f .inside b l w)
+        (λ w. let z : b ≡ i = omega arith in rw z (getD-set-same table i entry true (omega (arith, f .size))));
+    under = λ b l. getD-set-other table i b entry true (λ z. omega (arith, f .low)) ∙ f .under b l;
+    above = λ b l. getD-set-other table i b entry true (λ z. omega arith) ∙ f .above b (omega arith);
   }
 
   -- all are passed
-  pub filled-all : (last : ℕ) → i ≡ last + 1 → Fills old from last mark table
+  pub filled-all : (last : ℕ) → i ≡ last + 1 → Fills old from last entry table
   filled-all last e = record {
     size = f .size;
-    marks = λ b.
+    tells = λ b.
         by-cases (decLt b from)
         (λ w. rw (lt-leb from b w) (f .under b w))
         (λ w. rw (le-leb from b (omega arith))
@@ -62,42 +61,42 @@ module _ {old : List Bool} {from : ℕ} {mark : Bool} {table : List Bool} {i : �
         (λ u. rw (lt-leb b last (omega arith)) (f .above b (omega arith)))));
   }
 
--- the first fill marks all
-all-marked : (old table : List Bool) → Fills old 0 255 true table → (b : ℕ) → markIn table b ≡ true
-all-marked old table f b =
+-- by the first fill all are special
+all-special : (old table : List Bool) → Fills old 0 255 true table → (b : ℕ) → isSpecialIn table b ≡ true
+all-special old table f b =
     by-cases (decLt b 256)
-    (λ w. f .marks b ∙ rw (le-leb 0 b (omega arith), le-leb b 255 (omega arith)))
+    (λ w. f .tells b ∙ rw (le-leb 0 b (omega arith), le-leb b 255 (omega arith)))
     (λ w. List·getD-eq-default table true {n = b} (omega (arith, f .size)))
 
--- one mark, by whether it is of this byte
-stored-by : (table : List Bool) (i b : ℕ) (r : Bool) → eqb b i ≡ r → i < length table → markIn (set table i true) b ≡ r || markIn table b
+-- one store, by whether it is of this byte
+stored-by : (table : List Bool) (i b : ℕ) (r : Bool) → eqb b i ≡ r → i < length table → isSpecialIn (set table i true) b ≡ r || isSpecialIn table b
 stored-by table i b true e h = rw (eqb-true b i e) (getD-set-same table i true true h)
 stored-by table i b false e h = getD-set-other table i b true true (eqb-false b i e)
 
--- one mark
-stored : (table : List Bool) (i b : ℕ) → i < length table → markIn (set table i true) b ≡ eqb b i || markIn table b
+-- one store
+stored : (table : List Bool) (i b : ℕ) → i < length table → isSpecialIn (set table i true) b ≡ eqb b i || isSpecialIn table b
 stored table i b h = stored-by table i b (eqb b i) refl h
 
--- the mark that the second fill takes away
-unmarked : (p : Bool) → cond p false true ≡ not p
-unmarked true = refl
-unmarked false = refl
+-- the entry that the second fill takes away
+not-special : (p : Bool) → cond p false true ≡ not p
+not-special true = refl
+not-special false = refl
 
--- the two fills and the three marks make the table
+-- the two fills and the three stores make the table
 pub table-right : {k k1 k2 : List Bool} (q : Separators) → Fills k 0 255 true k1 → Fills k1 32 126 false k2
     → q .element < 256 → q .component < 256 → q .terminator < 256
-    → Table q (set (set (set k2 (q .element) true) (q .component) true) (q .terminator) true)
+    → SpecialTable q (set (set (set k2 (q .element) true) (q .component) true) (q .terminator) true)
 unfolding special
 table-right {k} {k1} {k2} q f1 f2 he hc ht = record {
   size = simp length-set (f2 .size);
-  marks = λ b.
+  tells = λ b.
       stored (set (set k2 (q .element) true) (q .component) true) (q .terminator) b (simp length-set (omega (arith, f2 .size)))
       ∙ rw (
         stored (set k2 (q .element) true) (q .component) b (simp length-set (omega (arith, f2 .size))),
         stored k2 (q .element) b (omega (arith, f2 .size)),
-        f2 .marks b,
-        all-marked k k1 f1 b,
-        unmarked (printable b),
+        f2 .tells b,
+        all-special k k1 f1 b,
+        not-special (printable b),
       );
 }
 
@@ -144,7 +143,7 @@ module _ (q : Separators) (b : ℕ) (h : special q b ≡ false) where
     or-left (printable b || eqb b (q .component)) (eqb b (q .element)) (or-left (printable b) (eqb b (q .component)) (rw (plain .printed) tt)),
   )
 
-module _ (q : Separators) (a : Apart q) where
+module _ (q : Separators) (a : Fitted q) where
   -- the component separator may stand in a segment
   pub component-allowed : Allowed q (q .component)
   component-allowed = (
