@@ -21,7 +21,7 @@ use Rattle.rows.specs.Following.{Fits, OneFits}
 use Rattle.rows.specs.Lookup.{RowAfter}
 use Rattle.rows.specs.Rows.{Viable, list842}
 use Rattle.rows.specs.RowList.{tagOf, rowAt}
-use Rattle.rows.proofs.Follow.{viable-iff}
+use Rattle.rows.proofs.Viability.{viable-iff}
 use Rattle.elements.specs.Types.{valueOf, numberOf}
 use Rattle.elements.specs.Checks.{Check, Keeps, firstBroken}
 use Rattle.elements.specs.Rules.{endChecks, ruledChecks}

@@ -14,7 +14,7 @@ use Rattle.text.specs.View.{viewOf}
 use Rattle.text.specs.Cut.{Cut, Whole, Stop, Placed}
 use Rattle.text.proofs.Lists.{map-append}
 use Rattle.text.proofs.Cutting.{whole-once, leads-longer, leads-once}
-use Rattle.rows.proofs.Fit.{fits-once}
+use Rattle.rows.proofs.FittingRow.{fits-once}
 use Rattle.reading.specs.Profile.{Profile}
 use Rattle.reading.specs.Segments.{tagIn, isSE, seen, onto}
 use Rattle.reading.specs.Rules.{Rule, Sound}

@@ -18,8 +18,8 @@ use Rattle.text.proofs.Cutting.{Keeps}
 use Rattle.text.proofs.Cuts.{cut-keeps}
 use Rattle.rows.specs.Rows.{Viable, list842}
 use Rattle.rows.specs.Following.{Fits, OneFits, lastOf, twice}
-use Rattle.rows.proofs.Follow.{viable-nil}
-use Rattle.rows.proofs.After.{stepOf, step-fits}
+use Rattle.rows.proofs.Viability.{viable-nil}
+use Rattle.rows.proofs.RowStep.{stepOf, step-fits}
 use Rattle.elements.specs.Checks.{Check, Keeps as KeepsChecks}
 use Rattle.elements.specs.Rules.{byteChecks, endChecks}
 use Rattle.reading.specs.Profile.{Profile}

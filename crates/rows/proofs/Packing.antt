@@ -12,7 +12,7 @@ use Rattle.text.specs.Bytes.{Bytes, every, same}
 use Rattle.text.proofs.Bools.{both, first-of, second-of, or-cases, fails}
 use Rattle.text.proofs.Lists.{just-two}
 use Rattle.rows.specs.Tags.{tags, tagNumber, placeIn}
-use Rattle.rows.specs.Packed.{packed, placeOf, packedNumber}
+use Rattle.rows.specs.internal.Packed.{packed, placeOf, packedNumber}
 
 -- what the last arm of a match knows: the number is none of the keys, of which the last comes first
 abbrev pub NoneOf : List ℕ → ℕ → Type 0

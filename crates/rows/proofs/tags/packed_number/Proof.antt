@@ -1,6 +1,6 @@
 -- `rows::tags::packed_number` meets its contract: each arm by computation, and the rest because no key is left.
 -- Assumes nothing.
-use Rattle.rows.specs.Packed.{packedNumber}
+use Rattle.rows.specs.internal.Packed.{packedNumber}
 use Rattle.rows.proofs.Packing.{none-34}
 use Rattle.rows.proofs.tags.packed_number.Statement.{statement}
 use Rattle.rows.proofs.tags.packed_number.Tie as tie
