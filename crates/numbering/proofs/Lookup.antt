@@ -26,7 +26,7 @@ use Rattle.rows.proofs.RowStep.{stepOf, step-fits}
 use Rattle.numbering.specs.RowAfter.{RowAfter, rowMeant, rowAfterIn, entryAt}
 
 -- the lookup at a row and a tag of the list, in any table
-pub after-entry : (table : List ℕ) (r : ℕ) (again : Bool) (t : ℕ) → 1 ≤ r → r ≤ 79 → t < 34
+after-entry : (table : List ℕ) (r : ℕ) (again : Bool) (t : ℕ) → 1 ≤ r → r ≤ 79 → t < 34
     → rowAfterIn table r again t ≡ cond (again && (eqb (entryAt table r t) r && eqb (maxOf r) 2)) 0 (entryAt table r t)
 unfolding rowAfterIn
 after-entry table r again t lo hi ht = rw (ne-eqb r 0 (λ e. omega arith), le-leb r 79 hi, lt-ltb t 34 ht)

@@ -1,5 +1,6 @@
--- The states of 842's row list: what is left after a row that stands there for the first time in a row, and for the second. Five computed
--- checks over all rows, and what they say of each.
+-- The rows that may follow a row, computed from what is left after it: its state, where it stands for the first time in a row, and where
+-- it stands again. Five computed checks over all rows say that each next row leads to its own state, and that again all may follow but a
+-- third.
 -- Assumes nothing.
 use mathlib.Core.Path.{_≡_, refl, ap}
 use mathlib.Core.Bool.{Bool, true, false, cond, _&&_}
@@ -108,22 +109,12 @@ module _ (c : Bool) (r : ℕ) where
   pub idle-79 : r < 80 → idles (state r c) ≡ eqb r 79
   idle-79 h = tab-at 80 (λ r. idles (state r c)) (λ r. eqb r 79) (checked-idle c) r h
 
--- again, the third of a row of maximum 2 is struck
-pub again-struck : (r : ℕ) → numbers (nexts (state r true)) ≡ strike r (follow r)
-unfolding state follow
-again-struck r = go (decLt r 80)
-  where
-    go : Dec (r < 80) → numbers (nexts (state r true)) ≡ strike r (numbers (nexts (state r false)))
-    go (yes h) =
-        tab-at 80 (λ r. numbers (nexts (state r true))) (λ r. strike r (numbers (nexts (state r false)))) checked-again r h
-    go (no h) = rw (state-past r true (omega arith), state-past r false (omega arith), cond-same)
-
 -- the rows that may follow row r, which stands there for the first time in a row, or again
 unfoldable pub followers : ℕ → Bool → List ℕ
 followers r c = numbers (nexts (state r c))
 
 -- a number of such a list is 1 to 79
-pub among-range : (x : ℕ) (l : List ℕ) → T (every (between 1 79) l) → T (among l x) → (1 ≤ x) × (x ≤ 79)
+among-range : (x : ℕ) (l : List ℕ) → T (every (between 1 79) l) → T (among l x) → (1 ≤ x) × (x ≤ 79)
 among-range x [] h m = absurd m
 among-range x (y ∷ l) h m =
     or-cases (eqb x y) (among l x)
@@ -145,8 +136,13 @@ first-follow r = refl
 
 -- again all but a third
 pub again-follow : (r : ℕ) → followers r true ≡ strike r (follow r)
-unfolding followers
-again-follow r = again-struck r
+unfolding followers state follow
+again-follow r = go (decLt r 80)
+  where
+    go : Dec (r < 80) → numbers (nexts (state r true)) ≡ strike r (numbers (nexts (state r false)))
+    go (yes h) =
+        tab-at 80 (λ r. numbers (nexts (state r true))) (λ r. strike r (numbers (nexts (state r false)))) checked-again r h
+    go (no h) = rw (state-past r true (omega arith), state-past r false (omega arith), cond-same)
 
 -- the first row is row 1
 pub start-follow : follow 0 ≡ 1 ∷ []

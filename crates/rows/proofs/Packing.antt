@@ -74,7 +74,7 @@ place-packed (t ∷ ts) s hts hs =
     )
 
 -- the number of packed bytes is the number of the bytes
-pub number-packed : (s : Bytes) → T (small s) → tagNumber s ≡ packedNumber (packed s)
+number-packed : (s : Bytes) → T (small s) → tagNumber s ≡ packedNumber (packed s)
 unfolding tagNumber packedNumber
 number-packed s h = place-packed tags s tt h
 

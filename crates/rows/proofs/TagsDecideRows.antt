@@ -1,4 +1,4 @@
--- The tags decide the rows.
+-- The tags decide the rows: two runs with the same tags take the same step at each row, since a row and a tag have one next row.
 -- Assumes nothing.
 use mathlib.Core.Path.{_≡_, refl, ap, sym, _∙_}
 use mathlib.Core.Bool.{Bool, false}

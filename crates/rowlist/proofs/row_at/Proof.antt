@@ -19,12 +19,6 @@ returns c =
     (λ w. sym (row-past (c .before .args .number) (ltb-true 79 (c .before .args .number) (w .1 .taken))))
     (c .if1 .came)
 
-sub-result : tie.Need-sub-result
-sub-result c = search needs
-
-mul-result : tie.Need-mul-result
-mul-result c = search needs
-
 array-copy-out-result : tie.Need-array-copy-out-result
 array-copy-out-result c = omega (arith, ltb-false 79 (c .before .before .args .number) (c .if2 .left))
 
@@ -34,4 +28,4 @@ returns-2 c = row-list-agrees (c .before .before .before .args .number) (omega (
     (omega (arith, ltb-false 79 (c .before .before .before .args .number) (c .before .if2 .left)))
 
 pub row-at-spec : {M : Type 1} → statement M
-row-at-spec = tie.close (tie.spec returns sub-result mul-result array-copy-out-result returns-2)
+row-at-spec = tie.close (tie.spec returns (λ c. search needs) (λ c. search needs) array-copy-out-result returns-2)

@@ -8,12 +8,9 @@ use Rattle.rows.specs.declared.list.Row.{Row}
 use Rattle.numbering.proofs.next.at_most_two.Statement.{statement}
 use Rattle.numbering.proofs.next.at_most_two.Tie as tie
 
-row-at-requires : tie.Need-row-at-requires
-row-at-requires c κs = search needs
-
 returns : tie.Need-returns
 unfolding maxOf
 returns c = ap (λ (x : Row). eqb (x .1) 2) (c .before .row-at .ensures)
 
 pub at-most-two-spec : {M : Type 1} → statement M
-at-most-two-spec = tie.close (tie.spec row-at-requires returns)
+at-most-two-spec = tie.close (tie.spec (λ c κs. search needs) returns)

@@ -41,15 +41,6 @@ high c = omega (arith, c .before .if3 .left)
 tag-in : (c : tie.Else4) → c .before .before .before .args .tag < 34
 tag-in c = leb-false 34 (c .before .before .before .args .tag) (c .if4 .left)
 
-sub-next : tie.Need-sub-next
-sub-next c = search needs
-
-mul-next : tie.Need-mul-next
-mul-next c = search needs
-
-add-next : tie.Need-add-next
-add-next c = search needs
-
 element-copy-out-next : tie.Need-element-copy-out-next
 element-copy-out-next c = omega (arith, leb-false 34 (c .before .before .before .args .tag) (c .if4 .left))
 
@@ -59,9 +50,6 @@ returns-4 c =
     let a = k .before .before .before .args in
     answer-means _ _ _ _ _
     (no-row (a .table .now) (a .row) (a .again) (a .tag) (low k) (high k) (tag-in k) (c .if5 .taken))
-
-at-most-two-requires : tie.Need-at-most-two-requires
-at-most-two-requires c κs = search needs
 
 returns-5 : tie.Need-returns-5
 returns-5 c =
@@ -95,11 +83,11 @@ row-after-spec =
     returns
     returns-2
     returns-3
-    sub-next
-    mul-next
-    add-next
+    (λ c. search needs)
+    (λ c. search needs)
+    (λ c. search needs)
     element-copy-out-next
     returns-4
-    at-most-two-requires
+    (λ c κs. search needs)
     returns-5
     returns-6)
