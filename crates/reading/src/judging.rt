@@ -3,7 +3,7 @@ ghost use mathlib.Core.Path.{_≡_};
 ghost use Rattle.text.specs.Bytes.{same};
 ghost use Rattle.text.specs.View.{viewOf};
 ghost use Rattle.rows.specs.Tags.{tagNumber};
-ghost use Rattle.rows.specs.Written.{writtenTable};
+ghost use Rattle.rows.specs.NextTable.{NextTable};
 ghost use Rattle.elements.specs.Checks.{firstBroken};
 ghost use Rattle.elements.specs.Post.{notedElement};
 ghost use Rattle.elements.specs.Rules.{endChecks};
@@ -17,7 +17,7 @@ use gate::how::How;
 use levels::filling;
 use levels::judging::Judged;
 use levels::keys;
-use rows::next;
+use numbering::next;
 use rows::tags;
 use text::lookup;
 
@@ -220,7 +220,7 @@ fn judge_known(
     levels: &[u64],
     tag: u8,
 ) -> Judgement
-    requires { ⌜ now table ≡ writtenTable ⌝ }
+    requires { ⌜ NextTable (now table) ⌝ }
     requires { ⌜ Known (now s) (now starts) notes tag ⌝ }
     ensures { λ r. ⌜ JudgesNext how (now (s .entry)) (now (starts .entry)) notes state (now (segments .entry)) (now (levels .entry)) r ⌝ }
 {
@@ -253,7 +253,7 @@ pub(crate) fn judge(
     segments: &[u64],
     levels: &[u64],
 ) -> Judgement
-    requires { ⌜ now table ≡ writtenTable ⌝ }
+    requires { ⌜ NextTable (now table) ⌝ }
     requires { ⌜ Inside (now s) notes ⌝ }
     ensures { λ r. ⌜ JudgesNext how (now (s .entry)) (now (starts .entry)) notes state (now (segments .entry)) (now (levels .entry)) r ⌝ }
 {

@@ -6,7 +6,7 @@ ghost use lib.ListN.{length};
 ghost use Rattle.text.specs.Bytes.{Bytes};
 ghost use Rattle.text.specs.View.{viewOf};
 ghost use Rattle.text.specs.Separators.{Fitted};
-ghost use Rattle.rows.specs.Written.{writtenTable};
+ghost use Rattle.rows.specs.NextTable.{NextTable};
 ghost use Rattle.elements.specs.Checks.{firstBroken};
 ghost use Rattle.elements.specs.Rules.{byteChecks};
 ghost use Rattle.reading.specs.internal.SpecialBytes.{SpecialTable};
@@ -25,7 +25,7 @@ use elements::segment;
 use elements::verdict::Verdict;
 use gate::answer::Answer;
 use gate::how::How;
-use rows::next;
+use numbering::next;
 
 // The longest input.
 pub const LIMIT: usize = 1048576;
@@ -65,7 +65,7 @@ fn read_on(
     requires { ⌜ Fitted (how .separators) ⌝ }
     requires { ⌜ length (now s) ≤ limit ⌝ }
     requires { ⌜ SpecialTable (how .separators) (now specials) ⌝ }
-    requires { ⌜ now table ≡ writtenTable ⌝ }
+    requires { ⌜ NextTable (now table) ⌝ }
     ensures { λ r. ⌜ Read nonconformance how (now (s .entry)) (record { segments = now (segments .entry); levels = now (levels .entry) }) r
         (record { segments = now (segments .exit); levels = now (levels .exit) }) ⌝ }
 {

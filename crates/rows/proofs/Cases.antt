@@ -8,12 +8,12 @@ use native.Mathlib.Omega.{arith}
 use Rattle.rows.specs.Tags.{tag, tagNumber}
 use Rattle.rows.specs.Rows.{Word, list842}
 use Rattle.rows.specs.RowList.{rowAt, tagOf, maxOf}
-use Rattle.rows.specs.Next.{after, edges842, nextOf}
+use Rattle.rows.proofs.NextRows.{after, edges842, nextOf}
 use Rattle.rows.specs.Following.{Fits}
-use Rattle.rows.proofs.States.{state, followers}
+use Rattle.rows.proofs.Followers.{state, followers}
 use Rattle.rows.proofs.Local.{runs-viable, runs-word}
-use Rattle.rows.proofs.Follow.{test-runs}
-use Rattle.rows.proofs.Fit.{fits-once, fits-next}
+use Rattle.rows.proofs.Viability.{test-runs}
+use Rattle.rows.proofs.FittingRow.{fits-once, fits-next}
 
 -- ST BNR HL HL NCD NCA SE is a whole word
 whole : Word list842 (1 ∷ 2 ∷ 18 ∷ 18 ∷ 46 ∷ 64 ∷ 79 ∷ [])

@@ -1,5 +1,6 @@
 -- The language of 842's row list is local, the maximum of 2 counted apart: a list of rows is viable exactly if it starts at row 1, each row
--- is among those that may follow the one before, and no row of maximum 2 stands three times in a row. Here "may follow" is computed.
+-- is among those that may follow the one before, and no row of maximum 2 stands three times in a row. Here "may follow" is computed: what
+-- is left depends only on the last row and on whether it stands there again, so a word is read as a run from state to state.
 -- Assumes nothing.
 use mathlib.Core.Path.{_≡_, refl, ap, sym, subst, _∙_}
 use mathlib.Core.Logic.{inl, inr}
@@ -12,11 +13,15 @@ use Rattle.text.specs.Bytes.{among}
 use Rattle.text.proofs.Bools.{or-left, or-right, or-cases, apart}
 use Rattle.rows.specs.Rows.{Word, Viable, list842}
 use Rattle.rows.specs.RowList.{maxOf}
-use Rattle.rows.specs.Next.{Edge, nexts, after, edges842}
-use Rattle.rows.specs.Following.{NoThird, lastOf, twice}
-use Rattle.rows.proofs.Derive.{Reads, OneOf, Begins, reads-begins, begins-reads, nil-idles, idles-nil, reads-some}
-use Rattle.rows.proofs.States.{numbers, lefts, to, state, follow, followers, without}
-use Rattle.rows.proofs.States.{lefts-to, idle-79, follower-range, first-follow, again-follow, start-follow}
+use Rattle.rows.proofs.NextRows.{Edge, nexts, after, edges842}
+use Rattle.rows.specs.Following.{lastOf, twice}
+use Rattle.rows.proofs.Derivative.{Reads, OneOf, Begins, reads-begins, begins-reads, nil-idles, idles-nil, reads-some}
+use Rattle.rows.proofs.Followers.{numbers, lefts, to, state, follow, followers, without}
+use Rattle.rows.proofs.Followers.{lefts-to, idle-79, follower-range, first-follow, again-follow, start-follow}
+
+-- no row of maximum 2 stands three times in a row, which is a third time in one pass
+abbrev pub NoThird : List ℕ → Type 0
+NoThird w = (a b : List ℕ) (r : ℕ) → maxOf r ≡ 2 → w ≡ a ++ (r ∷ r ∷ r ∷ b) → ⊥
 
 -- one step, from a state to a state
 begins-state : (r x : ℕ) (w : List ℕ) (es : List Edge) → lefts es ≡ map (to r) es → OneOf (Begins x w) es

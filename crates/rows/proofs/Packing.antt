@@ -12,7 +12,7 @@ use Rattle.text.specs.Bytes.{Bytes, every, same}
 use Rattle.text.proofs.Bools.{both, first-of, second-of, or-cases, fails}
 use Rattle.text.proofs.Lists.{just-two}
 use Rattle.rows.specs.Tags.{tags, tagNumber, placeIn}
-use Rattle.rows.specs.Packed.{packed, placeOf, packedNumber}
+use Rattle.rows.specs.internal.Packed.{packed, placeOf, packedNumber}
 
 -- what the last arm of a match knows: the number is none of the keys, of which the last comes first
 abbrev pub NoneOf : List ℕ → ℕ → Type 0
@@ -74,7 +74,7 @@ place-packed (t ∷ ts) s hts hs =
     )
 
 -- the number of packed bytes is the number of the bytes
-pub number-packed : (s : Bytes) → T (small s) → tagNumber s ≡ packedNumber (packed s)
+number-packed : (s : Bytes) → T (small s) → tagNumber s ≡ packedNumber (packed s)
 unfolding tagNumber packedNumber
 number-packed s h = place-packed tags s tt h
 

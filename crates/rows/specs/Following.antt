@@ -7,7 +7,7 @@ use mathlib.Core.Bool.{Bool}
 use mathlib.Core.List.{List, [], _∷_, _++_}
 use lib.Dec.{eqb}
 use Rattle.rows.specs.Rows.{Viable, list842}
-use Rattle.rows.specs.RowList.{tagOf, maxOf}
+use Rattle.rows.specs.RowList.{tagOf}
 
 -- row x may follow row r: somewhere in some word it stands right behind it
 abbrev pub MayFollow : ℕ → ℕ → Type 0
@@ -27,16 +27,6 @@ pub record OneFits (w : List ℕ) (t x : ℕ) : Type 0 where
 pub record OneFollows (r t x : ℕ) : Type 0 where
   pub follows : x ≢ 0 → MayFollow r x × (tagOf x ≡ t)
   pub alone : (y : ℕ) → MayFollow r y → tagOf y ≡ t → (y ≡ x) × (x ≢ 0)
-
--- each row may follow the one before it
-abbrev pub Chain : List ℕ → Type 0
-Chain [] = Unit {0}
-Chain (x ∷ []) = Unit {0}
-Chain (x ∷ y ∷ w) = MayFollow x y × Chain (y ∷ w)
-
--- no row of maximum 2 stands three times in a row, which is a third time in one pass
-abbrev pub NoThird : List ℕ → Type 0
-NoThird w = (a b : List ℕ) (r : ℕ) → maxOf r ≡ 2 → w ≡ a ++ (r ∷ r ∷ r ∷ b) → ⊥
 
 -- the last row of w, or r where w is empty
 abbrev pub lastOf : ℕ → List ℕ → ℕ

@@ -1,9 +1,7 @@
 pub mod Tags
-pub mod Packed
 pub mod Rows
 pub mod RowList
 pub mod Following
-pub mod Next
-pub mod Written
-pub mod Lookup
+pub mod NextTable
 pub mod Profile
+pub mod internal

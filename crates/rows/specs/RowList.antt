@@ -37,11 +37,3 @@ tagOf number = rowAt number .0
 -- a row's maximum, 0 where it repeats freely
 unfoldable pub maxOf : ℕ → ℕ
 maxOf number = rowAt number .1
-
--- whether a row, or the loop that it opens, is mandatory
-unfoldable pub mandatoryOf : ℕ → Bool
-mandatoryOf number = rowAt number .2
-
--- the row that opens the loop around a row, 0 for none
-unfoldable pub enclosingOf : ℕ → ℕ
-enclosingOf number = rowAt number .3

@@ -1,4 +1,3 @@
-// The 34 tags, the 79 rows, and which row may follow which.
+// The 34 tags, and what a row of the list is.
 pub mod list;
-pub mod next;
 pub mod tags;

@@ -2,7 +2,7 @@
 ghost use mathlib.Core.Path.{_≡_};
 ghost use Prim.Native.Nat.{_+_, _*_, _<_};
 ghost use Rattle.rows.specs.Tags.{tagNumber};
-ghost use Rattle.rows.specs.Packed.{packedNumber};
+ghost use Rattle.rows.specs.internal.Packed.{packedNumber};
 
 // The numbers of the tags that rules name.
 pub const ST: u8 = 0;
@@ -21,10 +21,13 @@ pub const NCA: u8 = 32;
 
 pub const SE: u8 = 33;
 
-// The number that no tag has.
+// The number that no tag has, above those of all tags.
 pub const NO_TAG: u8 = 34;
 
-// The number of a tag, 0 to 33 in the order of the tags' first rows; 34 for bytes that are no tag.
+// How many tags there are.
+pub const TAG_COUNT: usize = 34;
+
+// The number of a tag, 0 to 33 in the order of the tags' first rows; `NO_TAG` for bytes that are no tag.
 pub fn tag_number(tag: &[u8]) -> u8
     ensures { λ r. ⌜ r ≡ tagNumber (now (tag .entry)) ⌝ }
 {
@@ -37,7 +40,7 @@ pub fn tag_number(tag: &[u8]) -> u8
             packed_before(tag[1], packed_before(tag[2], 1)),
         ));
     }
-    34
+    NO_TAG
 }
 
 // Packed bytes with one byte more in front. Bytes are packed into one number, the first byte lowest and a 1 above the last.
@@ -87,6 +90,6 @@ fn packed_number(packed: u32) -> u8
         0x14e4942 => 31, // BIN
         0x141434e => 32, // NCA
         0x14553 => 33, // SE
-        _ => 34,
+        _ => NO_TAG,
     }
 }

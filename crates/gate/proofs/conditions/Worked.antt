@@ -13,8 +13,8 @@ use Rattle.text.specs.Separators.{standard, fitSeparators, mayServe}
 use Rattle.rows.specs.Tags.{tagNumber}
 use Rattle.rows.specs.Rows.{list842}
 use Rattle.rows.specs.RowList.{rowAt, maxOf}
-use Rattle.rows.specs.Next.{nextOf, after, edges842}
-use Rattle.rows.proofs.After.{stepOf}
+use Rattle.rows.proofs.NextRows.{nextOf, after, edges842}
+use Rattle.rows.proofs.RowStep.{stepOf}
 use Rattle.elements.specs.Types.{isReal, daysIn, isDate, isTime, fits}
 use Rattle.elements.specs.Rules.{byteChecks, endChecks, ruledChecks}
 use Rattle.levels.specs.Profile.{codeOf, mayStandAlone, mayBeMarked, mayHang}

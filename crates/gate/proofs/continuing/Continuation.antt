@@ -22,10 +22,10 @@ use Rattle.text.specs.Separators.{Fitted}
 use Rattle.rows.specs.Tags.{tag, tagNumber}
 use Rattle.rows.specs.Rows.{Word, Viable, list842}
 use Rattle.rows.specs.RowList.{tagOf, maxOf}
-use Rattle.rows.specs.Next.{nextOf}
+use Rattle.rows.proofs.NextRows.{nextOf}
 use Rattle.rows.specs.Following.{Fits, lastOf}
-use Rattle.rows.proofs.Fit.{fits-tag}
-use Rattle.rows.proofs.Follow.{viable-range, last-range, viable-iff, viable-nil, viable-word}
+use Rattle.rows.proofs.FittingRow.{fits-tag}
+use Rattle.rows.proofs.Viability.{viable-range, last-range, viable-iff, viable-nil, viable-word}
 use Rattle.elements.specs.Types.{isId}
 use Rattle.elements.specs.Checks.{Keeps}
 use Rattle.levels.specs.Levels.{textOf, claimOf, Level, called, levelAt}

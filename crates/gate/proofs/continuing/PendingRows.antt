@@ -13,9 +13,9 @@ use Rattle.text.proofs.Tables.{tab, tab-at}
 use Rattle.rows.specs.Tags.{tag, tagNumber}
 use Rattle.rows.specs.Rows.{Viable, list842}
 use Rattle.rows.specs.RowList.{rowAt, tagOf, maxOf}
-use Rattle.rows.specs.Next.{after, edges842, nextOf}
+use Rattle.rows.proofs.NextRows.{after, edges842, nextOf}
 use Rattle.rows.specs.Following.{Fits, lastOf}
-use Rattle.rows.proofs.Fit.{next-fits}
+use Rattle.rows.proofs.FittingRow.{next-fits}
 use Rattle.gate.proofs.continuing.AddedSegments.{Plain, plain-bnr, plain-lq, plain-fa2, plain-bin}
 
 -- the row that comes next goes on from viable rows, where its maximum is not 2

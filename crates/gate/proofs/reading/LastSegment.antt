@@ -13,8 +13,8 @@ use Rattle.rows.specs.Tags.{tag}
 use Rattle.rows.specs.Rows.{Word, Viable, list842}
 use Rattle.rows.specs.RowList.{tagOf}
 use Rattle.rows.specs.Following.{Fits, lastOf}
-use Rattle.rows.proofs.Follow.{viable-word, word-last, ends-at-79, nil-no-word}
-use Rattle.rows.proofs.Fit.{viable-before}
+use Rattle.rows.proofs.Viability.{viable-word, word-last, ends-at-79, nil-no-word}
+use Rattle.rows.proofs.FittingRow.{viable-before}
 use Rattle.gate.specs.Profile.{Profile}
 use Rattle.gate.specs.Segments.{tagIn, isSE, onto}
 use Rattle.gate.specs.Rules.{Kept, From}

@@ -13,8 +13,8 @@ use Rattle.text.specs.View.{View}
 use Rattle.rows.specs.Rows.{Word, Viable, list842}
 use Rattle.rows.specs.RowList.{tagOf}
 use Rattle.rows.specs.Following.{Fits}
-use Rattle.rows.proofs.Fit.{fits-tag}
-use Rattle.rows.proofs.Unique.{rows-once}
+use Rattle.rows.proofs.FittingRow.{fits-tag}
+use Rattle.rows.proofs.TagsDecideRows.{rows-once}
 use Rattle.elements.specs.Checks.{Check, each, Keeps}
 use Rattle.elements.specs.Rules.{byteChecks, endChecks, ruledChecks}
 use Rattle.gate.specs.Profile.{Profile}

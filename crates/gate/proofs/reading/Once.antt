@@ -14,7 +14,7 @@ use Rattle.text.specs.View.{viewOf}
 use Rattle.text.specs.Cut.{Cut, Whole, Stop, Placed}
 use Rattle.text.proofs.Lists.{map-append}
 use Rattle.text.proofs.CutLaws.{whole-once, leads-longer, leads-once}
-use Rattle.rows.proofs.Fit.{fits-once}
+use Rattle.rows.proofs.FittingRow.{fits-once}
 use Rattle.gate.specs.Profile.{Profile}
 use Rattle.gate.specs.Segments.{tagIn, isSE, seen, onto}
 use Rattle.gate.specs.Rules.{Sound}

@@ -14,7 +14,7 @@ use Rattle.text.proofs.Lists.{map-append, splits}
 use Rattle.rows.specs.Rows.{Viable, list842}
 use Rattle.rows.specs.RowList.{tagOf}
 use Rattle.rows.specs.Following.{Fits}
-use Rattle.rows.proofs.Fit.{viable-before}
+use Rattle.rows.proofs.FittingRow.{viable-before}
 use Rattle.levels.specs.Levels.{Claim, levelsOf}
 use Rattle.gate.specs.Profile.{Profile}
 use Rattle.gate.specs.Segments.{tagIn, isHL, isSE, seen, onto, addClaim, claims, levelsIn}

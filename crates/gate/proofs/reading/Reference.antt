@@ -18,8 +18,8 @@ use Rattle.text.proofs.CutLaws.{CutLaw}
 use Rattle.text.proofs.DocumentCut.{cut-law}
 use Rattle.rows.specs.Rows.{Viable, list842}
 use Rattle.rows.specs.Following.{Fits, OneFits, lastOf, twice}
-use Rattle.rows.proofs.Follow.{viable-nil}
-use Rattle.rows.proofs.After.{stepOf, step-fits}
+use Rattle.rows.proofs.Viability.{viable-nil}
+use Rattle.rows.proofs.RowStep.{stepOf, step-fits}
 use Rattle.elements.specs.Checks.{Check, Keeps}
 use Rattle.elements.specs.Rules.{byteChecks, endChecks}
 use Rattle.gate.specs.Profile.{Profile}

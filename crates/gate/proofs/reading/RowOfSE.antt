@@ -14,7 +14,7 @@ use Rattle.rows.specs.Rows.{list842}
 use Rattle.rows.specs.RowList.{rowAt, tagOf}
 use Rattle.rows.specs.Following.{lastOf}
 use Rattle.rows.specs.declared.list.Row.{Row}
-use Rattle.rows.proofs.Agree.{row-past}
+use Rattle.rows.proofs.ListedRows.{row-past}
 
 -- of the rows 0 to 79 only row 79 has SE's tag
 checked-se : tab 80 (λ r. eqb (tagOf r) (tag "SE")) ≡ tab 80 (λ r. eqb r 79)

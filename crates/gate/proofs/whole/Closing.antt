@@ -13,8 +13,8 @@ use Rattle.text.proofs.Bools.{equal-eqb, cond-cases}
 use Rattle.rows.specs.Tags.{tag, tagNumber}
 use Rattle.rows.specs.Rows.{Word, list842}
 use Rattle.rows.specs.RowList.{tagOf}
-use Rattle.rows.specs.Following.{MayFollow, Chain, lastOf}
-use Rattle.rows.proofs.Follow.{word-iff, nil-no-word, ends-at-79}
+use Rattle.rows.specs.Following.{MayFollow, lastOf}
+use Rattle.rows.proofs.Viability.{Chain, word-iff, nil-no-word, ends-at-79}
 use Rattle.elements.specs.Checks.{Check, Keeps}
 use Rattle.gate.specs.Profile.{Profile}
 use Rattle.gate.specs.Segments.{tagIn, isHL, isSE, onto, claims, opening}

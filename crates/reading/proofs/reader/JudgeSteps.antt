@@ -16,12 +16,12 @@ use Rattle.text.specs.Cut.{Placed}
 use Rattle.text.proofs.Bools.{passes, not-passes}
 use Rattle.text.specs.Separators.{Fitted}
 use Rattle.rows.specs.Tags.{tag, tagNumber}
-use Rattle.rows.specs.Written.{writtenTable}
+use Rattle.rows.specs.NextTable.{NextTable}
 use Rattle.rows.specs.Following.{Fits, OneFits}
-use Rattle.rows.specs.Lookup.{RowAfter}
+use Rattle.numbering.specs.RowAfter.{RowAfter}
 use Rattle.rows.specs.Rows.{Viable, list842}
 use Rattle.rows.specs.RowList.{tagOf, rowAt}
-use Rattle.rows.proofs.Follow.{viable-iff}
+use Rattle.rows.proofs.Viability.{viable-iff}
 use Rattle.elements.specs.Types.{valueOf, numberOf}
 use Rattle.elements.specs.Checks.{Check, Keeps, firstBroken}
 use Rattle.elements.specs.Rules.{endChecks, ruledChecks}
@@ -122,12 +122,12 @@ module _ {how : How} {before : Tables} {s : Bytes} {segments levels : List ℕ} 
         (λ e. absurd (nt .unkept open-end (keeps-holds (endChecks v) .0 e)))
         (λ n k e. rw e (bad-end nonconformance rows h v (nt .data-only) known-tag n k e)))
 
-    module _ (ended : T (notes .ended)) (x : ℕ) (after : RowAfter writtenTable row again t x) where
+    module _ (ended : T (notes .ended)) (x : ℕ) {table : List ℕ} (kept : NextTable table) (after : RowAfter table row again t x) where
       ends : Keeps (endChecks v)
       ends = nt .kept ended
 
       one-fits : OneFits rows (tagIn v) x
-      one-fits = rw tag-known at (after .meaning refl rows (st .passed .viable) (st .row-is) (st .again-is))
+      one-fits = rw tag-known at (after .meaning kept rows (st .passed .viable) (st .row-is) (st .again-is))
 
       -- 7
       pub judges-row : x ≡ 0 → Judges rows h v (Broken 7 0)

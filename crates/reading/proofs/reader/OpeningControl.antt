@@ -20,7 +20,7 @@ use Rattle.text.proofs.DocumentCut.{cut-law}
 use Rattle.rows.specs.Tags.{tag, tagNumber}
 use Rattle.rows.specs.Rows.{list842}
 use Rattle.rows.specs.RowList.{tagOf, rowAt}
-use Rattle.rows.proofs.Follow.{viable-iff}
+use Rattle.rows.proofs.Viability.{viable-iff}
 use Rattle.elements.specs.Types.{valueOf, numberOf, fits}
 use Rattle.elements.specs.Data.{value, rulesSE}
 use Rattle.elements.specs.Checks.{Keeps}

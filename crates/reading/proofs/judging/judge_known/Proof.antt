@@ -12,7 +12,7 @@ row-after-requires c κs = search needs
 returns : tie.Need-returns
 returns c =
     let start = c .before .before .before .before .before in
-    λ before gs rows g more fit nt st. judges-row fit nt st _ (start .pre .1 .tagged) (start .pre .1 .listed) (start .pre .1 .ended) _ (rw (start .pre .0) at (c .before .row-after .ensures)) (c .if1 .taken)
+    λ before gs rows g more fit nt st. judges-row fit nt st _ (start .pre .1 .tagged) (start .pre .1 .listed) (start .pre .1 .ended) _ (start .pre .0) (c .before .row-after .ensures) (c .if1 .taken)
 
 ruled-verdict-requires : tie.Need-ruled-verdict-requires
 ruled-verdict-requires c κs = search needs
@@ -29,12 +29,12 @@ judge-late-requires c κs = search needs
 returns-2 : tie.Need-returns-2
 returns-2 c =
     let start = c .before .before .before .before .before .before .before .before .before in
-    λ before gs rows g more fit nt st. judges-element fit nt st _ (start .pre .1 .tagged) (start .pre .1 .listed) (start .pre .1 .ended) _ (rw (start .pre .0) at (c .before .before .before .before .before .row-after .ensures)) (c .before .before .before .before .if1 .left) _ (c .before .before .before .ruled-verdict .ensures) _ _ (c .before .number .given .1)
+    λ before gs rows g more fit nt st. judges-element fit nt st _ (start .pre .1 .tagged) (start .pre .1 .listed) (start .pre .1 .ended) _ (start .pre .0) (c .before .before .before .before .before .row-after .ensures) (c .before .before .before .before .if1 .left) _ (c .before .before .before .ruled-verdict .ensures) _ _ (c .before .number .given .1)
 
 returns-3 : tie.Need-returns-3
 returns-3 c =
     let start = c .before .before .before .before .before .before .before .before .before in
-    λ before gs rows g more fit nt st. judges-rest fit nt st _ (start .pre .1 .tagged) (start .pre .1 .listed) (start .pre .1 .ended) _ (rw (start .pre .0) at (c .before .before .before .before .before .row-after .ensures)) (c .before .before .before .before .if1 .left) _ (c .before .before .before .ruled-verdict .ensures) (c .before .enum-told .given .1) (start .args .state) refl refl refl _ (c .judge-late .ensures)
+    λ before gs rows g more fit nt st. judges-rest fit nt st _ (start .pre .1 .tagged) (start .pre .1 .listed) (start .pre .1 .ended) _ (start .pre .0) (c .before .before .before .before .before .row-after .ensures) (c .before .before .before .before .if1 .left) _ (c .before .before .before .ruled-verdict .ensures) (c .before .enum-told .given .1) (start .args .state) refl refl refl _ (c .judge-late .ensures)
 
 pub judge-known-spec : {M : Type 1} → statement M
 judge-known-spec =

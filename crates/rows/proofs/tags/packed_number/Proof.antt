@@ -1,185 +1,47 @@
 -- `rows::tags::packed_number` meets its contract: each arm by computation, and the rest because no key is left.
 -- Assumes nothing.
-use Rattle.rows.specs.Packed.{packedNumber}
+use Rattle.rows.specs.internal.Packed.{packedNumber}
 use Rattle.rows.proofs.Packing.{none-34}
 use Rattle.rows.proofs.tags.packed_number.Statement.{statement}
 use Rattle.rows.proofs.tags.packed_number.Tie as tie
 
-returns : tie.Need-returns
-unfolding packedNumber
-returns c = rw (c .match .keys1)
-
-returns-2 : tie.Need-returns-2
-unfolding packedNumber
-returns-2 c = rw (c .match .keys2)
-
-returns-3 : tie.Need-returns-3
-unfolding packedNumber
-returns-3 c = rw (c .match .keys3)
-
-returns-4 : tie.Need-returns-4
-unfolding packedNumber
-returns-4 c = rw (c .match .keys4)
-
-returns-5 : tie.Need-returns-5
-unfolding packedNumber
-returns-5 c = rw (c .match .keys5)
-
-returns-6 : tie.Need-returns-6
-unfolding packedNumber
-returns-6 c = rw (c .match .keys6)
-
-returns-7 : tie.Need-returns-7
-unfolding packedNumber
-returns-7 c = rw (c .match .keys7)
-
-returns-8 : tie.Need-returns-8
-unfolding packedNumber
-returns-8 c = rw (c .match .keys8)
-
-returns-9 : tie.Need-returns-9
-unfolding packedNumber
-returns-9 c = rw (c .match .keys9)
-
-returns-10 : tie.Need-returns-10
-unfolding packedNumber
-returns-10 c = rw (c .match .keys10)
-
-returns-11 : tie.Need-returns-11
-unfolding packedNumber
-returns-11 c = rw (c .match .keys11)
-
-returns-12 : tie.Need-returns-12
-unfolding packedNumber
-returns-12 c = rw (c .match .keys12)
-
-returns-13 : tie.Need-returns-13
-unfolding packedNumber
-returns-13 c = rw (c .match .keys13)
-
-returns-14 : tie.Need-returns-14
-unfolding packedNumber
-returns-14 c = rw (c .match .keys14)
-
-returns-15 : tie.Need-returns-15
-unfolding packedNumber
-returns-15 c = rw (c .match .keys15)
-
-returns-16 : tie.Need-returns-16
-unfolding packedNumber
-returns-16 c = rw (c .match .keys16)
-
-returns-17 : tie.Need-returns-17
-unfolding packedNumber
-returns-17 c = rw (c .match .keys17)
-
-returns-18 : tie.Need-returns-18
-unfolding packedNumber
-returns-18 c = rw (c .match .keys18)
-
-returns-19 : tie.Need-returns-19
-unfolding packedNumber
-returns-19 c = rw (c .match .keys19)
-
-returns-20 : tie.Need-returns-20
-unfolding packedNumber
-returns-20 c = rw (c .match .keys20)
-
-returns-21 : tie.Need-returns-21
-unfolding packedNumber
-returns-21 c = rw (c .match .keys21)
-
-returns-22 : tie.Need-returns-22
-unfolding packedNumber
-returns-22 c = rw (c .match .keys22)
-
-returns-23 : tie.Need-returns-23
-unfolding packedNumber
-returns-23 c = rw (c .match .keys23)
-
-returns-24 : tie.Need-returns-24
-unfolding packedNumber
-returns-24 c = rw (c .match .keys24)
-
-returns-25 : tie.Need-returns-25
-unfolding packedNumber
-returns-25 c = rw (c .match .keys25)
-
-returns-26 : tie.Need-returns-26
-unfolding packedNumber
-returns-26 c = rw (c .match .keys26)
-
-returns-27 : tie.Need-returns-27
-unfolding packedNumber
-returns-27 c = rw (c .match .keys27)
-
-returns-28 : tie.Need-returns-28
-unfolding packedNumber
-returns-28 c = rw (c .match .keys28)
-
-returns-29 : tie.Need-returns-29
-unfolding packedNumber
-returns-29 c = rw (c .match .keys29)
-
-returns-30 : tie.Need-returns-30
-unfolding packedNumber
-returns-30 c = rw (c .match .keys30)
-
-returns-31 : tie.Need-returns-31
-unfolding packedNumber
-returns-31 c = rw (c .match .keys31)
-
-returns-32 : tie.Need-returns-32
-unfolding packedNumber
-returns-32 c = rw (c .match .keys32)
-
-returns-33 : tie.Need-returns-33
-unfolding packedNumber
-returns-33 c = rw (c .match .keys33)
-
-returns-34 : tie.Need-returns-34
-unfolding packedNumber
-returns-34 c = rw (c .match .keys34)
-
-returns-35 : tie.Need-returns-35
-returns-35 c = none-34 (c .before .args .packed) (c .match .rest)
-
 pub packed-number-spec : {M : Type 1} → statement M
+unfolding packedNumber
 packed-number-spec =
     tie.close
     (tie.spec
-    returns
-    returns-2
-    returns-3
-    returns-4
-    returns-5
-    returns-6
-    returns-7
-    returns-8
-    returns-9
-    returns-10
-    returns-11
-    returns-12
-    returns-13
-    returns-14
-    returns-15
-    returns-16
-    returns-17
-    returns-18
-    returns-19
-    returns-20
-    returns-21
-    returns-22
-    returns-23
-    returns-24
-    returns-25
-    returns-26
-    returns-27
-    returns-28
-    returns-29
-    returns-30
-    returns-31
-    returns-32
-    returns-33
-    returns-34
-    returns-35)
+    (λ c. rw (c .match .keys1))
+    (λ c. rw (c .match .keys2))
+    (λ c. rw (c .match .keys3))
+    (λ c. rw (c .match .keys4))
+    (λ c. rw (c .match .keys5))
+    (λ c. rw (c .match .keys6))
+    (λ c. rw (c .match .keys7))
+    (λ c. rw (c .match .keys8))
+    (λ c. rw (c .match .keys9))
+    (λ c. rw (c .match .keys10))
+    (λ c. rw (c .match .keys11))
+    (λ c. rw (c .match .keys12))
+    (λ c. rw (c .match .keys13))
+    (λ c. rw (c .match .keys14))
+    (λ c. rw (c .match .keys15))
+    (λ c. rw (c .match .keys16))
+    (λ c. rw (c .match .keys17))
+    (λ c. rw (c .match .keys18))
+    (λ c. rw (c .match .keys19))
+    (λ c. rw (c .match .keys20))
+    (λ c. rw (c .match .keys21))
+    (λ c. rw (c .match .keys22))
+    (λ c. rw (c .match .keys23))
+    (λ c. rw (c .match .keys24))
+    (λ c. rw (c .match .keys25))
+    (λ c. rw (c .match .keys26))
+    (λ c. rw (c .match .keys27))
+    (λ c. rw (c .match .keys28))
+    (λ c. rw (c .match .keys29))
+    (λ c. rw (c .match .keys30))
+    (λ c. rw (c .match .keys31))
+    (λ c. rw (c .match .keys32))
+    (λ c. rw (c .match .keys33))
+    (λ c. rw (c .match .keys34))
+    (λ c. none-34 (c .before .args .packed) (c .match .rest)))

@@ -6,20 +6,8 @@ use Rattle.rows.proofs.Packing.{two-number, three-number, other-length}
 use Rattle.rows.proofs.tags.tag_number.Statement.{statement}
 use Rattle.rows.proofs.tags.tag_number.Tie as tie
 
-shared-slice-read-packed-before : tie.Need-shared-slice-read-packed-before
-shared-slice-read-packed-before c = search needs
-
-shared-slice-read-packed-before-2 : tie.Need-shared-slice-read-packed-before-2
-shared-slice-read-packed-before-2 c = search needs
-
-packed-before-requires : tie.Need-packed-before-requires
-packed-before-requires c κs = search needs
-
 packed-before-requires-2 : tie.Need-packed-before-requires-2
 packed-before-requires-2 c κs = let byte = c .before .shared-slice-known3 .given in omega (arith, byte 0, byte 1)
-
-packed-number-requires : tie.Need-packed-number-requires
-packed-number-requires c κs = search needs
 
 returns : tie.Need-returns
 returns c =
@@ -31,18 +19,6 @@ returns c =
     (k .before .before .if1 .taken) (omega (arith, byte 0)) (omega (arith, byte 1)) (last .ensures) (both .ensures)
     (c .packed-number .ensures)
 
-shared-slice-read-packed-before-3 : tie.Need-shared-slice-read-packed-before-3
-shared-slice-read-packed-before-3 c = search needs
-
-shared-slice-read-packed-before-4 : tie.Need-shared-slice-read-packed-before-4
-shared-slice-read-packed-before-4 c = search needs
-
-shared-slice-read-packed-before-5 : tie.Need-shared-slice-read-packed-before-5
-shared-slice-read-packed-before-5 c = search needs
-
-packed-before-requires-3 : tie.Need-packed-before-requires-3
-packed-before-requires-3 c κs = search needs
-
 packed-before-requires-4 : tie.Need-packed-before-requires-4
 packed-before-requires-4 c κs = let byte = c .before .shared-slice-known6 .given in omega (arith, byte 0, byte 1, byte 2)
 
@@ -50,9 +26,6 @@ packed-before-requires-5 : tie.Need-packed-before-requires-5
 packed-before-requires-5 c κs =
     let byte = c .before .before .shared-slice-known6 .given in
     omega (arith, byte 0, byte 1, byte 2)
-
-packed-number-requires-2 : tie.Need-packed-number-requires-2
-packed-number-requires-2 c κs = search needs
 
 returns-2 : tie.Need-returns-2
 returns-2 c =
@@ -72,18 +45,18 @@ pub tag-number-spec : {M : Type 1} → statement M
 tag-number-spec =
     tie.close
     (tie.spec
-    shared-slice-read-packed-before
-    shared-slice-read-packed-before-2
-    packed-before-requires
+    (λ c. search needs)
+    (λ c. search needs)
+    (λ c κs. search needs)
     packed-before-requires-2
-    packed-number-requires
+    (λ c κs. search needs)
     returns
-    shared-slice-read-packed-before-3
-    shared-slice-read-packed-before-4
-    shared-slice-read-packed-before-5
-    packed-before-requires-3
+    (λ c. search needs)
+    (λ c. search needs)
+    (λ c. search needs)
+    (λ c κs. search needs)
     packed-before-requires-4
     packed-before-requires-5
-    packed-number-requires-2
+    (λ c κs. search needs)
     returns-2
     returns-3)

@@ -1,0 +1,2 @@
+// The row that comes next: the next-row table and its lookup.
+pub mod next;
