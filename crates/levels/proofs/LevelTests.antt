@@ -67,12 +67,11 @@ module _ (profile : LevelProfile) (ls : List Level) (c : Claim) where
   pub passes-keeps : Passes profile ls c → Keeps (levelChecks profile ls c)
   passes-keeps p =
       let own = codeOf profile (c .code) in
-      let known = le→leb 1 own (p .known) in
-      (
+      let known = le→leb 1 own (p .known) in (
         equal-eqb (called (c .id) ls) 0 (p .new),
         (
           else-or orphan (leb 1 (called (c .parent) ls)) (λ n. le→leb 1 (called (c .parent) ls) (p .named n)),
           cond-cases Keeps orphan root child (λ t. (both (leb 1 own) (mayStandAlone profile own) known (p .alone t), (p .mark, tt)))
-          (λ n. (known, (p .pair n, (p .unshut n, (p .mark, tt))))),
+              (λ n. (known, (p .pair n, (p .unshut n, (p .mark, tt))))),
         ),
       )

@@ -16,7 +16,7 @@ use Rattle.elements.specs.Checks.{Check, check, firstBroken}
 use Rattle.elements.specs.declared.verdict.Verdict.the-variants.{Holds, Broken}
 use Rattle.levels.specs.Profile.{nonconformance}
 use Rattle.levels.specs.Levels.{Level}
-use Rattle.levels.specs.Rules.{judged}
+use Rattle.levels.specs.internal.Answers.{judged}
 
 -- the closing tests: the first that fails decides. n is the number of SE01, as it was worked out
 module _ {n number : ℕ} (is : n ≡ number) (count : ℕ) (control opening : Bytes) (full : Bool) where

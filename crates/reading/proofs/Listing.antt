@@ -8,7 +8,7 @@ use mathlib.Core.List.{List, [], _∷_, _++_, append-assoc}
 use native.Mathlib.Omega.{arith}
 use lib.Dec.{leb, eqb}
 use lib.ListN.{length}
-use Rattle.text.specs.Bytes.{Bytes}
+use Rattle.text.specs.Bytes.{Bytes, bytes, same}
 use Rattle.text.specs.View.{View, viewOf, present, elementOf, elementCount}
 use Rattle.text.specs.Separators.{fitSeparators}
 use Rattle.text.specs.Cut.{Cut, Stop}
@@ -16,8 +16,9 @@ use Rattle.text.proofs.Cuts.{Says, cut-says}
 use Rattle.elements.specs.Data.{Note, Rules}
 use Rattle.elements.specs.Checks.{Check, each}
 use Rattle.elements.specs.Rules.{dataPiece, byteChecks, endsWell, endChecks, ruleOf, fewComponents, tooManyChecks, headed, missingChecks, fitsShape, unfitChecks, noteChecks, checksBy, checksAmong, ruledChecks}
-use Rattle.levels.specs.Levels.{claimOf}
-use Rattle.levels.specs.Rules.{levelChecks}
+use Rattle.levels.specs.Profile.{codeOf}
+use Rattle.levels.specs.Levels.{claimOf, Level, levelAt, parentOf}
+use Rattle.levels.specs.Rules.{absent, rootChecks, childChecks, levelChecks}
 use Rattle.reading.specs.Profile.{Profile, nonconformance}
 use Rattle.reading.specs.Segments.{isHL, isSE, levelsIn, seen, onto, tagIn}
 use Rattle.reading.specs.Answers.{Fault, Listed}
@@ -82,6 +83,19 @@ module _ (profile : Profile) (w : List ℕ) (h : List View) (v : View) where
       (both (byteChecks v) (tagChecks v) (all 5 0 (length v) (λ (k : ℕ). dataPiece (elementOf v k)) (fault 5 (omega arith) (omega arith))) (fault 4 (omega arith) (omega arith), tt))
       (fault 6 (omega arith) (omega arith), all 6 1 (elementCount v) (endsWell v) (fault 6 (omega arith) (omega arith)))
 
+  -- 14 and 15 of a level
+  levels-numbered : (orphan : Bool) (code : ℕ) (mark : Bytes) (parent : ℕ) (shut : Bool)
+      → Numbered (cond orphan (rootChecks (profile .levels) code mark) (childChecks (profile .levels) parent shut code mark))
+  levels-numbered true code mark parent shut = (fault 14 (omega arith) (omega arith), (fault 15 (omega arith) (omega arith), tt))
+  levels-numbered false code mark parent shut = (
+    fault 14 (omega arith) (omega arith),
+    (fault 14 (omega arith) (omega arith), (fault 15 (omega arith) (omega arith), (fault 15 (omega arith) (omega arith), tt))),
+  )
+
+  -- the level that HL02 names
+  abbrev parent : Level
+  parent = levelAt (parentOf (claimOf v) (levelsIn profile h)) (levelsIn profile h)
+
   late-numbered : Numbered (late profile h v)
   unfolding ruledChecks hlChecks seChecks
   late-numbered =
@@ -91,10 +105,7 @@ module _ (profile : Profile) (w : List ℕ) (h : List View) (v : View) where
         fault 12 (omega arith) (omega arith),
         (
           fault 13 (omega arith) (omega arith),
-          (
-            fault 14 (omega arith) (omega arith),
-            (fault 14 (omega arith) (omega arith), (fault 15 (omega arith) (omega arith), (fault 15 (omega arith) (omega arith), tt))),
-          ),
+          levels-numbered (absent (claimOf v .parent)) (codeOf (profile .levels) (claimOf v .code)) (claimOf v .mark) (parent .code) (same (parent .mark) (bytes "0")),
         ),
       )))
       (either (isSE v) (closingChecks profile h v)

@@ -26,6 +26,7 @@ use Rattle.elements.specs.declared.types.Kind.the-variants.{AN}
 use Rattle.levels.specs.Profile.{codeOf, mayBeMarked}
 use Rattle.levels.specs.Levels.{textOf, claimOf, Level, called, levelAt, levelOf}
 use Rattle.levels.specs.Rules.{levelChecks, filledFrom, filled}
+use Rattle.levels.proofs.LevelTests.{keeps-passes}
 use Rattle.reading.specs.Profile.{nonconformance}
 use Rattle.reading.specs.Segments.{tagIn, isHL, onto, levelsIn}
 use Rattle.reading.specs.Rules.{hlChecks, Kept, From}
@@ -174,13 +175,13 @@ mark-admitted mark may h t =
 named-more : (q : Separators) (h : List View) (v : View) → Kept nonconformance h v → T (unseparated q v) → (b : Bool) → isHL v ≡ b
     → Named q (levels h) → Named q (levels (v ∷ h))
 named-more q h v k u true e n =
-    let t = hl-levels h v k e in
+    let p = keeps-passes ruling (levels h) (claimOf v) (hl-levels h v k e) in
     rw (levels-hl h v e) (
       record {
         name = hl-text q h v k u (eqb→eq (tagIn v) (tag "HL") (rw e tt));
-        marked = mark-admitted (claimOf v .mark) (mayBeMarked ruling (codeOf ruling (claimOf v .code))) (t .1 .1 .1 .1 .1 .0);
+        marked = mark-admitted (claimOf v .mark) (mayBeMarked ruling (codeOf ruling (claimOf v .code))) (p .mark);
       },
-      eqb→eq (called (claimOf v .id) (levels h)) 0 (t .0),
+      p .new,
       n,
     )
 named-more q h v k u false e n = rw (levels-other h v e) n

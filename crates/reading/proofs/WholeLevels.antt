@@ -18,7 +18,7 @@ use Rattle.levels.specs.Profile.{LevelProfile}
 use Rattle.levels.specs.Levels.{Claim, claimOf, Level, parentOf, levelsOf}
 use Rattle.levels.specs.Rules.{levelChecks, filledFrom, filled}
 use Rattle.levels.proofs.Depth.{AllKept}
-use Rattle.levels.proofs.Calling.{levels-length}
+use Rattle.levels.proofs.CalledLevel.{levels-length}
 use Rattle.reading.specs.Profile.{Profile}
 use Rattle.reading.specs.Segments.{isHL, onto, addClaim, claims, levelsIn}
 use Rattle.reading.specs.Rules.{hlChecks, From}
