@@ -34,7 +34,12 @@ is-called-requires : tie.Need-is-called-requires Inv-loop μ-loop
 is-called-requires c κs = c .before .before .before .loop .inv .free
 
 returns-4 : tie.Need-returns-4 Inv-loop μ-loop
-returns-4 c = climbs-met (c .before .before .before .before .before .loop .inv) (c .before .before .before .before .loop-test .taken) (c .before .before .before .if2 .left) (c .before .before .if3 .left) (sym (c .before .is-called .ensures) ∙ c .if4 .taken)
+returns-4 c =
+    let compared = c .before in
+    let inside = compared .before in
+    let round = inside .before .before in
+    climbs-met (round .before .loop .inv) (round .loop-test .taken) (inside .before .if2 .left) (inside .if3 .left)
+    (sym (compared .is-called .ensures) ∙ c .if4 .taken)
 
 level-parent-requires : tie.Need-level-parent-requires Inv-loop μ-loop
 level-parent-requires c κs = search needs
@@ -46,7 +51,13 @@ loop-less : tie.Need-loop-less Inv-loop μ-loop
 loop-less c = search needs
 
 loop-again : tie.Need-loop-again Inv-loop μ-loop
-loop-again c = rw (c .level-parent .ensures) (climbs-more (c .before .before .before .before .before .before .loop .inv) (c .before .before .before .before .before .loop-test .taken) (c .before .before .before .before .if2 .left) (c .before .before .before .if3 .left) (sym (c .before .before .is-called .ensures) ∙ c .before .if4 .left))
+loop-again c =
+    let compared = c .before .before in
+    let inside = compared .before in
+    let round = inside .before .before in
+    rw (c .level-parent .ensures)
+    (climbs-more (round .before .loop .inv) (round .loop-test .taken) (inside .before .if2 .left) (inside .if3 .left)
+    (sym (compared .is-called .ensures) ∙ c .before .if4 .left))
 
 returns-5 : tie.Need-returns-5 Inv-loop μ-loop
 returns-5 c = climbs-end (c .before .loop .inv) (c .loop-test .left)

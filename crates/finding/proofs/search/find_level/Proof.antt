@@ -63,13 +63,19 @@ levels-less-2 c = omega arith
 
 levels-again-2 : tie.Need-levels-again-2 Inv-loop μ-loop Inv-levels μ-levels
 levels-again-2 c =
-    seeks-other-end (c .before .before .before .before .before .before .levels .inv) (c .before .before .before .before .before .levels-test .taken) (c .before .before .id-start .ensures)
-    (rw (not-true (c .before .may-end .result) (c .if3 .taken)) at (c .before .may-end .ensures))
+    let ended = c .before in
+    let placed = ended .before in
+    let round = placed .before .before .before in
+    seeks-other-end (round .before .levels .inv) (round .levels-test .taken) (placed .id-start .ensures)
+    (rw (not-true (ended .may-end .result) (c .if3 .taken)) at (ended .may-end .ensures))
 
 loop-holds : tie.Need-loop-holds Inv-loop μ-loop Inv-levels μ-levels
 loop-holds c =
-    compares-none (c .before .before .before .before .before .before .levels .inv) (c .before .before .before .before .before .levels-test .taken) (c .before .before .id-start .ensures)
-    (rw (not-false (c .before .may-end .result) (c .if3 .left)) at (c .before .may-end .ensures))
+    let ended = c .before in
+    let placed = ended .before in
+    let round = placed .before .before .before in
+    compares-none (round .before .levels .inv) (round .levels-test .taken) (placed .id-start .ensures)
+    (rw (not-false (ended .may-end .result) (c .if3 .left)) at (ended .may-end .ensures))
 
 add-if4 : tie.Need-add-if4 Inv-loop μ-loop Inv-levels μ-levels
 add-if4 c = omega (arith, compares-inside (c .before .loop .inv) (c .loop-test .taken))

@@ -44,11 +44,12 @@ shared-slice-read-if4 c = search needs
 
 returns-4 : tie.Need-returns-4
 returns-4 c e =
-    let a = c .before .before .before .before .before .before .before .before .before .before .before .args in
-    let start = c .before .before .before .before .before .segment-start .result in
-    other-level (a .s .now) (a .separator) (a .segments .now) (a .levels .now) (a .n) (c .before .before .before .before .before .before .level-segment .result) start (a .id .now)
-    (c .before .before .before .before .before .before .level-segment .ensures) (c .before .before .before .before .before .segment-start .ensures)
-    (id-goes-on (a .s .now) (a .separator) start (a .id .now) (omega arith) (c .if4 .taken))
+    let started = c .before .before .before .before .before in
+    let numbered = started .before in
+    let a = numbered .before .before .before .before .before .args in
+    other-level (a .s .now) (a .separator) (a .segments .now) (a .levels .now) (a .n) (numbered .level-segment .result) (started .segment-start .result)
+    (a .id .now) (numbered .level-segment .ensures) (started .segment-start .ensures)
+    (id-goes-on (a .s .now) (a .separator) (started .segment-start .result) (a .id .now) (omega arith) (c .if4 .taken))
 
 returns-5 : tie.Need-returns-5
 returns-5 c e = absurd (true≢false (sym e))
@@ -67,11 +68,12 @@ shared-slice-read-result-2 c = search needs
 
 returns-6 : tie.Need-returns-6
 returns-6 c e =
-    let a = c .before .before .before .before .before .before .before .before .before .before .before .before .before .before .args in
-    let start = c .before .before .before .before .before .before .before .before .segment-start .result in
-    other-level (a .s .now) (a .separator) (a .segments .now) (a .levels .now) (a .n) (c .before .before .before .before .before .before .before .before .before .level-segment .result) start (a .id .now)
-    (c .before .before .before .before .before .before .before .before .before .level-segment .ensures) (c .before .before .before .before .before .before .before .before .segment-start .ensures)
-    (id-ends-otherwise (a .s .now) (a .separator) start (a .id .now) (omega arith) (omega arith) (eqb-false _ _ (not-true _ e)))
+    let started = c .before .before .before .before .before .before .before .before in
+    let numbered = started .before in
+    let a = numbered .before .before .before .before .before .args in
+    other-level (a .s .now) (a .separator) (a .segments .now) (a .levels .now) (a .n) (numbered .level-segment .result) (started .segment-start .result)
+    (a .id .now) (numbered .level-segment .ensures) (started .segment-start .ensures)
+    (id-ends-otherwise (a .s .now) (a .separator) (started .segment-start .result) (a .id .now) (omega arith) (omega arith) (eqb-false _ _ (not-true _ e)))
 
 pub is-other-spec : {M : Type 1} → statement M
 is-other-spec =

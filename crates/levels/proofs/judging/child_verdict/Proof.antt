@@ -20,20 +20,24 @@ may-hang-requires c κs = search needs
 
 returns-2 : tie.Need-returns-2
 returns-2 c =
+    let hang = c .before in
+    let known = hang .before .before in
     rw (
-      ← c .before .before .before .is-known .ensures,
-      not-false (c .before .before .before .is-known .result) (c .before .before .if1 .left),
-      ← c .before .may-hang .ensures,
-      not-true (c .before .may-hang .result) (c .if2 .taken),
+      ← known .is-known .ensures,
+      not-false (known .is-known .result) (hang .before .if1 .left),
+      ← hang .may-hang .ensures,
+      not-true (hang .may-hang .result) (c .if2 .taken),
     )
 
 returns-3 : tie.Need-returns-3
 returns-3 c =
+    let hang = c .before .before in
+    let known = hang .before .before in
     rw (
-      ← c .before .before .before .before .is-known .ensures,
-      not-false (c .before .before .before .before .is-known .result) (c .before .before .before .if1 .left),
-      ← c .before .before .may-hang .ensures,
-      not-false (c .before .before .may-hang .result) (c .before .if2 .left),
+      ← known .is-known .ensures,
+      not-false (known .is-known .result) (hang .before .if1 .left),
+      ← hang .may-hang .ensures,
+      not-false (hang .may-hang .result) (c .before .if2 .left),
       c .if3 .taken,
     )
 
