@@ -7,7 +7,8 @@ use mathlib.Core.List.{List, [], _∷_, map}
 use Rattle.text.specs.Bytes.{bytes}
 use Rattle.levels.specs.Profile.{nonconformance, code, codeOf, mayStandAlone, mayBeMarked, mayHang}
 use Rattle.levels.specs.Levels.{Claim, Level, levelsOf}
-use Rattle.levels.specs.Rules.{judged, filled}
+use Rattle.levels.specs.Rules.{filled}
+use Rattle.levels.specs.internal.Answers.{judged}
 use Rattle.levels.specs.declared.judging.Judged.{Judged}
 use Rattle.levels.specs.declared.judging.Judged.the-variants.{Entitled, Refused}
 

@@ -2,19 +2,20 @@
 -- Assumes nothing.
 use Prim.Native.Nat.{ℕ, zero, suc, _≤_, _<_}
 use mathlib.Core.Path.{_≡_, refl, sym, subst}
-use mathlib.Core.Bool.{Bool, true, false, cond, not, _&&_, _||_}
+use mathlib.Core.Bool.{Bool, true, false, cond, _&&_, _||_}
 use mathlib.Core.List.{List, [], _∷_}
 use native.Mathlib.Omega.{arith}
-use lib.Dec.{T, eqb, leb, eqb→eq, leb→le, lit<}
+use lib.Dec.{T, eqb, eqb→eq, lit<}
 use lib.ListN.{length}
 use Rattle.text.specs.Bytes.{any}
 use Rattle.text.proofs.Bools.{first-of, second-of}
 use Rattle.elements.specs.Checks.{Keeps}
-use Rattle.levels.specs.Profile.{LevelProfile, nonconformance, codeOf, mayStandAlone, mayHang}
+use Rattle.levels.specs.Profile.{LevelProfile, nonconformance, codeOf, mayHang}
 use Rattle.levels.specs.Levels.{Claim, Level, called, levelAt, levelOf, levelsOf}
 use Rattle.levels.specs.Rules.{levelChecks}
-use Rattle.levels.proofs.Calling.{Everyone, everyone-so, level-everyone}
-use Rattle.levels.proofs.Judgements.{level-nobody}
+use Rattle.levels.specs.internal.Everyone.{Everyone}
+use Rattle.levels.proofs.CalledLevel.{everyone-so, level-everyone, level-nobody}
+use Rattle.levels.proofs.LevelTests.{keeps-passes}
 
 -- every HL keeps its tests after those before it; each with its segment's number, latest first
 abbrev pub AllKept : LevelProfile → List (ℕ × Claim) → Type 0
@@ -78,23 +79,22 @@ Shallow l = l .depth ≤ rank (l .code)
 -- a level that keeps its tests is so, where those before it are
 new-shallow : (segment : ℕ) (c : Claim) (ls : List Level) → Keeps (levelChecks nonconformance ls c) → Everyone Shallow ls
     → Shallow (levelOf nonconformance segment c ls)
-new-shallow segment c ls k a = by-value (eqb (length (c .parent)) 0) (k .1 .1 .1 .0)
+new-shallow segment c ls k a =
+    let p = keeps-passes nonconformance ls c k in
+    by-value (eqb (length (c .parent)) 0) (p .known) (p .pair)
   where
-    known : 1 ≤ codeOf nonconformance (c .code)
-    known =
-        leb→le 1 (codeOf nonconformance (c .code))
-        (first-of (leb 1 (codeOf nonconformance (c .code)))
-        (not (eqb (length (c .parent)) 0) || mayStandAlone nonconformance (codeOf nonconformance (c .code))) (k .1 .1 .0))
+    own : ℕ
+    own = codeOf nonconformance (c .code)
 
-    by-value : (absent : Bool)
-        → T (absent || mayHang nonconformance (levelAt (cond absent 0 (called (c .parent) ls)) ls .code) (codeOf nonconformance (c .code)))
-        → suc (levelAt (cond absent 0 (called (c .parent) ls)) ls .depth) ≤ rank (codeOf nonconformance (c .code))
-    by-value true u = rw (level-nobody ls) (rank-of-code (codeOf nonconformance (c .code)) known)
-    by-value false u =
+    by-value : (absent : Bool) → 1 ≤ own
+        → ((T absent → ⊥) → T (mayHang nonconformance (levelAt (cond absent 0 (called (c .parent) ls)) ls .code) own))
+        → suc (levelAt (cond absent 0 (called (c .parent) ls)) ls .depth) ≤ rank own
+    by-value true known pair = rw (level-nobody ls) (rank-of-code own known)
+    by-value false known pair =
         omega (
           arith,
           level-everyone Shallow (omega arith) (called (c .parent) ls) ls a,
-          pair-raises (levelAt (called (c .parent) ls) ls .code) (codeOf nonconformance (c .code)) u,
+          pair-raises (levelAt (called (c .parent) ls) ls .code) own (pair (λ t. t)),
         )
 
 -- so are all levels that keep their tests

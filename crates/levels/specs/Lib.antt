@@ -1,7 +1,5 @@
 pub mod Profile
 pub mod Levels
+pub mod Widths
 pub mod Rules
-pub mod Groups
-pub mod Told
-pub mod Post
-pub mod Shortcuts
+pub mod internal

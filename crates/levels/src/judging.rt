@@ -1,14 +1,12 @@
-// Judging an HL by the levels before it.
+// Judging an HL by its code and mark, and by its parent.
 use crate::codes;
 use crate::marks;
-use crate::tables;
 use elements::verdict::Verdict;
 ghost use mathlib.Core.Path.{_≡_};
 ghost use Rattle.elements.specs.Checks.{firstBroken};
 ghost use Rattle.levels.specs.Profile.{nonconformance};
-ghost use Rattle.levels.specs.Rules.{judgedBy};
-ghost use Rattle.levels.specs.Groups.{aloneChecks, childChecks, levelWith, judgedRoot, judgedUnder};
-ghost use Rattle.levels.specs.Told.{toldLevel};
+ghost use Rattle.levels.specs.Rules.{rootChecks, childChecks};
+ghost use Rattle.levels.specs.internal.Answers.{judgedBy, levelWith, judgedRoot, judgedChild};
 
 // The answer for an HL.
 pub enum Judged {
@@ -18,9 +16,17 @@ pub enum Judged {
     Refused(usize, usize),
 }
 
+// What its children must know of a level: its number, its code's number, whether it is marked 0, and the depth below it.
+pub struct Parent {
+    pub number: usize,
+    pub code: usize,
+    pub shut: bool,
+    pub below: usize,
+}
+
 // Answers 14 and 15 of a level without a parent.
-fn judge_alone(code: usize, mark: &[u8]) -> Verdict
-    ensures { λ r. ⌜ r ≡ firstBroken (aloneChecks nonconformance code (now (mark .entry))) ⌝ }
+fn root_verdict(code: usize, mark: &[u8]) -> Verdict
+    ensures { λ r. ⌜ r ≡ firstBroken (rootChecks nonconformance code (now (mark .entry))) ⌝ }
 {
     if !(codes::is_known(code) & codes::may_stand_alone(code)) {
         return Verdict::Broken(14, 3);
@@ -32,7 +38,7 @@ fn judge_alone(code: usize, mark: &[u8]) -> Verdict
 }
 
 // Answers 14 and 15 of a level under a parent of that code, which is marked 0 or is not.
-fn judge_child(parent: usize, shut: bool, code: usize, mark: &[u8]) -> Verdict
+fn child_verdict(parent: usize, shut: bool, code: usize, mark: &[u8]) -> Verdict
     ensures { λ r. ⌜ r ≡ firstBroken (childChecks nonconformance parent shut code (now (mark .entry))) ⌝ }
 {
     if !codes::is_known(code) {
@@ -65,24 +71,14 @@ pub fn judge_root(code: &[u8], mark: &[u8]) -> Judged
     ensures { λ r. ⌜ r ≡ judgedRoot nonconformance (now (code .entry)) (now (mark .entry)) ⌝ }
 {
     let own = codes::code_number(code);
-    answer(judge_alone(own, mark), 0, 1, own)
+    answer(root_verdict(own, mark), 0, 1, own)
 }
 
-// The answer for an HL whose parent is the level `above` that the tables tell of, by its code and mark.
-pub fn judge_under(
-    s: &[u8],
-    separator: u8,
-    segments: &[u64],
-    levels: &[u64],
-    above: usize,
-    code: &[u8],
-    mark: &[u8],
-) -> Judged
-    ensures { λ r. ⌜ r ≡ judgedUnder nonconformance above (toldLevel (now (s .entry)) separator (now (segments .entry)) (now (levels .entry)) above)
-        (now (code .entry)) (now (mark .entry)) ⌝ }
+// The answer for an HL under this parent, by its code and mark.
+pub fn judge_child(parent: Parent, code: &[u8], mark: &[u8]) -> Judged
+    ensures { λ r. ⌜ r ≡ judgedChild nonconformance parent (now (code .entry)) (now (mark .entry)) ⌝ }
 {
     let own = codes::code_number(code);
-    let shut = marks::level_marked(s, separator, segments, levels, above, b'0');
-    let verdict = judge_child(tables::level_code(levels, above), shut, own, mark);
-    answer(verdict, above, tables::level_depth(levels, above) + 1, own)
+    let verdict = child_verdict(parent.code, parent.shut, own, mark);
+    answer(verdict, parent.number, parent.below, own)
 }

@@ -1,9 +1,5 @@
-// What makes a level entitled to its parent.
+// What makes a level entitled to its parent: the rules that look into no table.
 pub mod codes;
-pub mod filling;
 pub mod judging;
-pub mod keys;
 mod marks;
-pub mod near;
-pub mod search;
-mod tables;
+pub mod widths;

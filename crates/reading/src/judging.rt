@@ -1,24 +1,25 @@
 // Judging the next segment by the rules, in order.
 ghost use mathlib.Core.Path.{_≡_};
-ghost use Rattle.text.specs.Bytes.{same};
 ghost use Rattle.text.specs.View.{viewOf};
 ghost use Rattle.rows.specs.Tags.{tagNumber};
 ghost use Rattle.rows.specs.NextTable.{NextTable};
 ghost use Rattle.elements.specs.Checks.{firstBroken};
 ghost use Rattle.elements.specs.Post.{notedElement};
 ghost use Rattle.elements.specs.Rules.{endChecks};
-ghost use Rattle.reading.specs.internal.Judgements.{openingControl, notedClosing, Inside, segmentOf, brokenBy, JudgesHl, JudgesLate, Known, JudgesNext};
+ghost use Rattle.reading.specs.internal.Judgements.{openingControl, notedClosing, Inside, segmentOf, brokenBy, JudgesHl, JudgesLate, KnownTag, JudgesNext};
 use crate::placing;
 use elements::ruled;
 use elements::segment;
 use elements::types;
 use elements::verdict::Verdict;
+use finding::filling;
+use finding::keys;
+use finding::known::Known;
 use gate::how::How;
-use levels::filling;
 use levels::judging::Judged;
-use levels::keys;
 use numbering::next;
 use rows::tags;
+use text::compare;
 use text::lookup;
 
 // What the rules say of the next segment.
@@ -84,10 +85,11 @@ fn judge_hl(
         separator,
         segments,
         levels,
-        state.known,
-        state.greatest,
+        Known {
+            levels: state.known,
+            greatest: state.greatest,
+        },
         id,
-        key,
         parent,
         code,
         mark,
@@ -95,23 +97,6 @@ fn judge_hl(
         Judged::Entitled(above, depth, number) => Judgement::Level(row, above, depth, number, key),
         Judged::Refused(number, element) => Judgement::Broken(number, element),
     }
-}
-
-// Whether two parts have the same bytes.
-fn same_bytes(a: &[u8], b: &[u8]) -> bool
-    ensures { λ r. ⌜ r ≡ same (now (a .entry)) (now (b .entry)) ⌝ }
-{
-    if a.len() != b.len() {
-        return false;
-    }
-    let mut i: usize = 0;
-    while i < a.len() {
-        if a[i] != b[i] {
-            return false;
-        }
-        i += 1;
-    }
-    true
 }
 
 // The second element of the first segment, which starts with the bytes.
@@ -150,7 +135,7 @@ fn judge_se(
         return Verdict::Broken(16, 1);
     }
     let control = ruled::noted_element(s, starts, notes.end, notes.count, 2);
-    if !same_bytes(control, opening_control(s, separator, segments)) {
+    if !compare::same_bytes(control, opening_control(s, separator, segments)) {
         return Verdict::Broken(16, 2);
     }
     if !filling::all_filled(s, separator, segments, levels, known) {
@@ -221,7 +206,7 @@ fn judge_known(
     tag: u8,
 ) -> Judgement
     requires { ⌜ NextTable (now table) ⌝ }
-    requires { ⌜ Known (now s) (now starts) notes tag ⌝ }
+    requires { ⌜ KnownTag (now s) (now starts) notes tag ⌝ }
     ensures { λ r. ⌜ JudgesNext how (now (s .entry)) (now (starts .entry)) notes state (now (segments .entry)) (now (levels .entry)) r ⌝ }
 {
     let row = next::row_after(table, state.row, state.again, tag);

@@ -4,7 +4,7 @@ ghost use mathlib.Core.List.{[], _∷_};
 ghost use Prim.Native.Nat.{_/_, _<_};
 ghost use lib.Dec.{ltb};
 ghost use lib.ListN.{length, set};
-ghost use Rattle.levels.specs.Told.{storedAt};
+ghost use Rattle.finding.specs.internal.Entries.{storedAt};
 
 // Whether the segment table has room for one record behind the first n.
 pub(crate) fn segment_room(segments: &[u64], n: usize) -> bool

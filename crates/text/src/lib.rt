@@ -1,3 +1,4 @@
 // The ground of a reading: the three separators, and the parts of a segment.
+pub mod compare;
 pub mod lookup;
 pub mod separators;

@@ -104,7 +104,7 @@ module _ (q : Separators) (fit : Fitted q) where
 -- an RP without a parent keeps the rules of levels
 pub root-checks : (ls : List Level) (id : Bytes) → called id ls ≡ 0 → Keeps (levelChecks ruling ls (claimOf (hlView id [] (bytes "RP"))))
 unfolding codeOf mayStandAlone
-root-checks ls id new = (rw new tt, (tt, (tt, (tt, (tt, (tt, tt))))))
+root-checks ls id new = (rw new tt, (tt, (tt, (tt, tt))))
 
 -- and so does an HL under level m, which is marked 1
 pub child-checks : (ls : List Level) (m : ℕ) (id parent code : Bytes) → 1 ≤ m → called id ls ≡ 0 → called parent ls ≡ m → 1 ≤ length parent
@@ -113,8 +113,7 @@ pub child-checks : (ls : List Level) (m : ℕ) (id parent code : Bytes) → 1 �
 child-checks ls m id parent code l new found some known hangs marked =
     let there : eqb (length parent) 0 ≡ false = ne-eqb (length parent) 0 (λ z. omega arith) in
     let one : levelAt m ls .mark ≡ bytes "1" = same-equal (levelAt m ls .mark) (bytes "1") marked in
-    let coded = both (leb 1 (codeOf ruling code)) true known tt in
-    (rw new tt, (rw (there, found) (le→leb 1 m l), (rw there coded, (rw (there, found) hangs, (rw (there, found, one) tt, (tt, tt))))))
+    (rw new tt, (rw (there, found) (le→leb 1 m l), rw (there, found, one) (known, (hangs, (tt, (tt, tt))))))
 
 -- the levels above number n are served: each that is marked 1 has a child
 abbrev pub ServedAbove : ℕ → List Level → Type 0

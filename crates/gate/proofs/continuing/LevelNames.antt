@@ -33,6 +33,7 @@ use Rattle.gate.specs.Rules.{hlChecks, Kept, From}
 use Rattle.gate.proofs.reading.Laws.{keeps-split, keeps-at}
 use Rattle.gate.proofs.continuing.AddedSegments.{levels, ruling, noSeparator, Text}
 use Rattle.gate.proofs.reading.ElementTexts.{hl-rules, st-rules}
+use Rattle.levels.proofs.LevelTests.{keeps-passes}
 
 -- of a segment that keeps the rule of bytes every element is printable
 element-printed : (v : View) → Keeps (byteChecks v) → (k : ℕ) → T (dataPiece (elementOf v k))
@@ -175,13 +176,13 @@ mark-admitted mark may h t =
 named-more : (q : Separators) (h : List View) (v : View) → Kept nonconformance h v → T (unseparated q v) → (b : Bool) → isHL v ≡ b
     → Named q (levels h) → Named q (levels (v ∷ h))
 named-more q h v k u true e n =
-    let t = hl-levels h v k e in
+    let p = keeps-passes ruling (levels h) (claimOf v) (hl-levels h v k e) in
     rw (levels-hl h v e) (
       record {
         name = hl-text q h v k u (eqb→eq (tagIn v) (tag "HL") (rw e tt));
-        marked = mark-admitted (claimOf v .mark) (mayBeMarked ruling (codeOf ruling (claimOf v .code))) (t .1 .1 .1 .1 .1 .0);
+        marked = mark-admitted (claimOf v .mark) (mayBeMarked ruling (codeOf ruling (claimOf v .code))) (p .mark);
       },
-      eqb→eq (called (claimOf v .id) (levels h)) 0 (t .0),
+      p .new,
       n,
     )
 named-more q h v k u false e n = rw (levels-other h v e) n

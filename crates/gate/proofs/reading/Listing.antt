@@ -8,7 +8,7 @@ use mathlib.Core.List.{List, [], _∷_, _++_, append-assoc}
 use native.Mathlib.Omega.{arith}
 use lib.Dec.{leb, eqb}
 use lib.ListN.{length}
-use Rattle.text.specs.Bytes.{Bytes}
+use Rattle.text.specs.Bytes.{Bytes, bytes, same}
 use Rattle.text.specs.View.{View, viewOf, present, elementOf, elementCount}
 use Rattle.text.specs.Separators.{fitSeparators}
 use Rattle.text.specs.Cut.{Cut, Stop}
@@ -17,8 +17,8 @@ use Rattle.text.proofs.DocumentCut.{cut-law}
 use Rattle.elements.specs.Data.{Note, Rules}
 use Rattle.elements.specs.Checks.{Check, each}
 use Rattle.elements.specs.Rules.{dataPiece, byteChecks, endsWell, endChecks, ruleOf, fewComponents, tooManyChecks, headed, missingChecks, fitsShape, unfitChecks, noteChecks, checksBy, checksAmong, ruledChecks}
-use Rattle.levels.specs.Levels.{claimOf}
-use Rattle.levels.specs.Rules.{levelChecks}
+use Rattle.levels.specs.Levels.{claimOf, Level, levelAt, parentOf}
+use Rattle.levels.specs.Rules.{levelChecks, absent, rootChecks, childChecks}
 use Rattle.gate.specs.Profile.{Profile, nonconformance}
 use Rattle.gate.specs.Segments.{isHL, isSE, levelsIn, seen, onto, tagIn}
 use Rattle.gate.specs.Answers.{Fault, Listed}
@@ -30,6 +30,7 @@ use Rattle.gate.specs.declared.answer.Answer.the-variants.{Accepted, Ref
 use Rattle.gate.specs.declared.how.How.{How}
 use Rattle.gate.proofs.reading.Numbers.{refusal-of}
 use Rattle.gate.proofs.reading.Once.{Fails, refused-fails}
+use Rattle.levels.specs.Profile.{codeOf}
 
 -- every test of the list is numbered 4 to 16
 abbrev Numbered : List Check → Type 0
@@ -83,6 +84,19 @@ module _ (profile : Profile) (w : List ℕ) (h : List View) (v : View) where
       (both (byteChecks v) (tagChecks v) (all 5 0 (length v) (λ (k : ℕ). dataPiece (elementOf v k)) (fault 5 (omega arith) (omega arith))) (fault 4 (omega arith) (omega arith), tt))
       (fault 6 (omega arith) (omega arith), all 6 1 (elementCount v) (endsWell v) (fault 6 (omega arith) (omega arith)))
 
+  -- 14 and 15 of a level
+  levels-numbered : (orphan : Bool) (code : ℕ) (mark : Bytes) (parent : ℕ) (shut : Bool)
+      → Numbered (cond orphan (rootChecks (profile .levels) code mark) (childChecks (profile .levels) parent shut code mark))
+  levels-numbered true code mark parent shut = (fault 14 (omega arith) (omega arith), (fault 15 (omega arith) (omega arith), tt))
+  levels-numbered false code mark parent shut = (
+    fault 14 (omega arith) (omega arith),
+    (fault 14 (omega arith) (omega arith), (fault 15 (omega arith) (omega arith), (fault 15 (omega arith) (omega arith), tt))),
+  )
+
+  -- the level that HL02 names
+  abbrev parent : Level
+  parent = levelAt (parentOf (claimOf v) (levelsIn profile h)) (levelsIn profile h)
+
   late-numbered : Numbered (late profile h v)
   unfolding ruledChecks hlChecks seChecks
   late-numbered =
@@ -92,10 +106,7 @@ module _ (profile : Profile) (w : List ℕ) (h : List View) (v : View) where
         fault 12 (omega arith) (omega arith),
         (
           fault 13 (omega arith) (omega arith),
-          (
-            fault 14 (omega arith) (omega arith),
-            (fault 14 (omega arith) (omega arith), (fault 15 (omega arith) (omega arith), (fault 15 (omega arith) (omega arith), tt))),
-          ),
+          levels-numbered (absent (claimOf v .parent)) (codeOf (profile .levels) (claimOf v .code)) (claimOf v .mark) (parent .code) (same (parent .mark) (bytes "0")),
         ),
       )))
       (either (isSE v) (closingChecks profile h v)

@@ -18,12 +18,12 @@ use Rattle.levels.specs.Profile.{LevelProfile}
 use Rattle.levels.specs.Levels.{Claim, claimOf, Level, parentOf, levelsOf}
 use Rattle.levels.specs.Rules.{levelChecks, filledFrom, filled}
 use Rattle.levels.proofs.Depth.{AllKept}
-use Rattle.levels.proofs.Calling.{levels-length}
 use Rattle.gate.specs.Profile.{Profile}
 use Rattle.gate.specs.Segments.{isHL, onto, addClaim, claims, levelsIn}
 use Rattle.gate.specs.Rules.{hlChecks, From}
 use Rattle.gate.specs.Meets.{putIf, hls, hlAt, LevelsMeet}
 use Rattle.gate.proofs.whole.OneLevel.{Tells, Distinct, Stands, one-place, parent-named, named-parent, keeps-stands, stands-keeps}
+use Rattle.levels.proofs.CalledLevel.{levels-length}
 
 -- level j is a child of level i
 abbrev Child : List Claim → ℕ → ℕ → Type 0

@@ -12,7 +12,8 @@ use borrow.Author.Tests.{eq-eqb, ne-eqb}
 use Rattle.text.specs.View.{View}
 use Rattle.levels.specs.Profile.{LevelProfile}
 use Rattle.levels.specs.Levels.{Claim, Level, levelAt, parentOf, levelsOf}
-use Rattle.levels.proofs.Calling.{Everyone, levels-length, level-everyone}
+use Rattle.levels.specs.internal.Everyone.{Everyone}
+use Rattle.levels.proofs.CalledLevel.{levels-length, level-everyone}
 use Rattle.levels.proofs.Depth.{Within4, depth-at-most-4}
 use Rattle.gate.specs.Profile.{nonconformance}
 use Rattle.gate.specs.Segments.{onto, claims, levelsIn}

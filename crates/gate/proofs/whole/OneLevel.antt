@@ -6,17 +6,18 @@ use mathlib.Core.Logic.{_⊎_, inl, inr}
 use mathlib.Core.Bool.{Bool, not, _&&_, _||_}
 use mathlib.Core.List.{List, [], _∷_}
 use native.Mathlib.Omega.{arith}
-use lib.Dec.{T, T-not, not-T, eqb, eqb→eq, leb, leb→le, le→leb}
+use lib.Dec.{T, T-not, not-T, eqb, eqb→eq}
 use lib.ListN.{length}
 use Rattle.text.specs.Bytes.{Bytes, bytes, same}
-use Rattle.text.proofs.Bools.{both, first-of, second-of, or-cases, equal-eqb, or-else, else-or, not-or, or-not, cond-cases}
+use Rattle.text.proofs.Bools.{first-of, second-of, or-cases, equal-eqb, cond-cases}
 use Rattle.text.proofs.Sames.{same-equal, equal-same, none-nil}
 use Rattle.elements.specs.Checks.{Keeps}
 use Rattle.levels.specs.Profile.{LevelProfile, codeOf, mayStandAlone, mayBeMarked, mayHang}
 use Rattle.levels.specs.Levels.{Claim, Level, called, levelAt, parentOf, levelOf, levelsOf}
 use Rattle.levels.specs.Rules.{absent, levelChecks}
-use Rattle.levels.proofs.Calling.{levels-length}
 use Rattle.gate.specs.Meets.{hlAt, Under}
+use Rattle.levels.proofs.CalledLevel.{levels-length}
+use Rattle.levels.proofs.LevelTests.{Passes, keeps-passes, passes-keeps}
 
 -- the claims ks, latest first, are the first HL segments of cs
 abbrev pub Tells : List Claim → List (ℕ × Claim) → Type 0
@@ -176,19 +177,17 @@ module _ (profile : LevelProfile) (cs : List Claim) where
     shut = same (parent .mark) (bytes "0")
 
     -- the tests of its parent say that it hangs under an HL before
-    tests-under : (this .parent ≡ [] → ⊥) → T (orphan || leb 1 asked) → T (orphan || mayHang profile (parent .code) known) → T (orphan || not shut)
-        → (i : ℕ) × Under profile cs i (length ks)
-    tests-under p a b c =
-        let n : T orphan → ⊥ = λ x. p (none-nil (this .parent) x) in
-        let some = leb→le 1 asked (or-else orphan (leb 1 asked) a n) in
-        let is : parentOf this (levels ks) ≡ suc (asked - 1) = present-called this (levels ks) p ∙ omega (arith, some) in
+    tests-under : (this .parent ≡ [] → ⊥) → Passes profile (levels ks) this → (i : ℕ) × Under profile cs i (length ks)
+    tests-under present p =
+        let n : T orphan → ⊥ = λ x. present (none-nil (this .parent) x) in
+        let is : parentOf this (levels ks) ≡ suc (asked - 1) = present-called this (levels ks) present ∙ omega (arith, p .named n) in
         let by = parent-named ks t this (asked - 1) is in
         let made = level-made ks t (asked - 1) (by .0) in
         let under : Under profile cs (asked - 1) (length ks) = record {
           earlier = by .0;
           named = by .1 .1;
-          pair = rw (is, made .0) at (or-else orphan (mayHang profile (parent .code) known) b n);
-          open-to-children = λ e. T-not shut (or-else orphan (not shut) c n) (equal-same (parent .mark) (bytes "0") (rw is (made .1 ∙ e)));
+          pair = rw (is, made .0) at (p .pair n);
+          open-to-children = λ e. T-not shut (p .unshut n) (equal-same (parent .mark) (bytes "0") (rw is (made .1 ∙ e)));
         } in
         (asked - 1, under)
 
@@ -201,39 +200,29 @@ module _ (profile : LevelProfile) (cs : List Claim) where
         let unshut = not-T shut (λ x. u .open-to-children (sym (made .1) ∙ (rw is at (same-equal (parent .mark) (bytes "0") x)))) in
         (rw (is, made .0) (u .pair), unshut)
 
-    -- it names a parent or may stand alone
-    abbrev rooted : Bool
-    rooted = not orphan || mayStandAlone profile known
-
-    -- the test of its code says that it may stand alone where it names no parent
-    code-rooted : T (leb 1 known && rooted) → this .parent ≡ [] → T (mayStandAlone profile known)
-    code-rooted k e = not-or orphan (mayStandAlone profile known) (second-of (leb 1 known) rooted k) (rw e tt)
-
-    -- and back, for a code of the list
-    rooted-code : (known ≡ 0 → ⊥) → (this .parent ≡ [] → T (mayStandAlone profile known)) → T (leb 1 known && rooted)
-    rooted-code c a =
-        both (leb 1 known) rooted (le→leb 1 known (omega (arith, c)))
-        (or-not orphan (mayStandAlone profile known) (λ x. a (none-nil (this .parent) x)))
-
     -- the tests of an HL say that its level stands
     pub keeps-stands : Keeps (levelChecks profile (levels ks) this) → Stands profile cs (length ks)
-    keeps-stands (fresh, (named, (coded, (pair, (unshut, (mark, _)))))) = record {
-      new = λ i h e. omega (arith, eqb→eq (called (this .id) (levels ks)) 0 fresh, named-called ks t (this .id) i h e);
-      coded = λ e. omega (arith, leb→le 1 known (first-of (leb 1 known) rooted coded), e);
-      alone = code-rooted coded;
-      parented = λ p. tests-under p named pair unshut;
-      marked = mark-says (this .mark) (mayBeMarked profile known) mark;
-    }
+    keeps-stands k =
+        let p = keeps-passes profile (levels ks) this k in
+        record {
+          new = λ i h e. omega (arith, p .new, named-called ks t (this .id) i h e);
+          coded = λ e. omega (arith, p .known, e);
+          alone = λ e. p .alone (rw e tt);
+          parented = λ present. tests-under present p;
+          marked = mark-says (this .mark) (mayBeMarked profile known) (p .mark);
+        }
 
     -- and a level that stands keeps them, where all HL01 before differ
     pub stands-keeps : Distinct cs (length ks) → Stands profile cs (length ks) → Keeps (levelChecks profile (levels ks) this)
     stands-keeps d s =
         let under : (T orphan → ⊥) → (i : ℕ) × Under profile cs i (length ks) = λ n. s .parented (λ e. n (rw e tt)) in
         let fit : (T orphan → ⊥) → T (mayHang profile (parent .code) known) × T (not shut) = λ n. under-tests d (λ e. n (rw e tt)) (under n .0) (under n .1) in
-        let fresh = equal-eqb (called (this .id) (levels ks)) 0 (unnamed-called ks t (this .id) (s .new)) in
-        let named = else-or orphan (leb 1 asked) (λ n. le→leb 1 asked (named-called ks t (this .parent) (under n .0) (under n .1 .earlier) (under n .1 .named))) in
-        let coded = rooted-code (s .coded) (s .alone) in
-        let pair = else-or orphan (mayHang profile (parent .code) known) (λ n. fit n .0) in
-        let unshut = else-or orphan (not shut) (λ n. fit n .1) in
-        let mark = says-mark (this .mark) (mayBeMarked profile known) (s .marked) in
-        (fresh, (named, (coded, (pair, (unshut, (mark, tt))))))
+        passes-keeps profile (levels ks) this (record {
+          new = unnamed-called ks t (this .id) (s .new);
+          known = omega (arith, s .coded);
+          alone = λ x. s .alone (none-nil (this .parent) x);
+          named = λ n. named-called ks t (this .parent) (under n .0) (under n .1 .earlier) (under n .1 .named);
+          pair = λ n. fit n .0;
+          unshut = λ n. fit n .1;
+          mark = says-mark (this .mark) (mayBeMarked profile known) (s .marked);
+        })

@@ -20,15 +20,15 @@ use Rattle.elements.specs.Data.{rulesHL}
 use Rattle.elements.specs.Checks.{Keeps}
 use Rattle.elements.specs.Rules.{ruleOf, headed, tooManyChecks, missingChecks, unfitChecks, noteChecks, checksBy, ruledChecks}
 use Rattle.levels.specs.Levels.{Claim, claimOf}
-use Rattle.levels.proofs.Calling.{Everyone}
+use Rattle.levels.specs.internal.Everyone.{Everyone}
 use Rattle.levels.proofs.Depth.{Within4, depth-at-most-4}
-use Rattle.levels.proofs.Telling.{Written}
 use Rattle.gate.specs.Profile.{nonconformance}
 use Rattle.gate.specs.Segments.{tagIn, onto, claims, levelsIn}
 use Rattle.gate.specs.Rules.{Kept, From}
 use Rattle.gate.proofs.reading.Laws.{keeps-split, keeps-at}
 use Rattle.gate.proofs.reading.ElementTexts.{element-piece, tag-of-view, hl-rules, hl-claim}
 use Rattle.gate.proofs.whole.AllLevels.{Leveled, from-kept}
+use Rattle.finding.specs.internal.TablesHold.{HlBytes}
 
 -- the third element of an HL is there
 third-present : (v : View) → Keeps (checksBy rulesHL v) → T (present (elementOf v 3))
@@ -68,7 +68,7 @@ hl-tag-long t e =
 -- the bytes of an HL segment tell its HL01 and its mark
 pub hl-written : (q : Separators) → Fitted q → (s : Bytes) (at : ℕ) (g more : Bytes) → drop at s ≡ g ++ q .terminator ∷ more
     → Keeps (ruledChecks (nonconformance .elements) (tagIn (viewOf q g)) (viewOf q g)) → tagIn (viewOf q g) ≡ tag "HL"
-    → Written s (q .element) at (length g) (claimOf (viewOf q g) .id) (claimOf (viewOf q g) .mark)
+    → HlBytes s (q .element) at (length g) (claimOf (viewOf q g) .id) (claimOf (viewOf q g) .mark)
 hl-written q fit s at g more w k e =
     let seg : take (length g) (drop at s) ≡ g = ap (take (length g)) w ∙ take-append-seam g (q .terminator ∷ more) in
     let rules : Keeps (checksBy rulesHL (viewOf q g)) = rw (e, hl-rules) at k in

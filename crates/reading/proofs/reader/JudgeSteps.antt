@@ -32,9 +32,7 @@ use Rattle.elements.specs.declared.verdict.Verdict.the-variants.{Holds, Broken 
 use Rattle.elements.proofs.Verdicts.{keeps-holds}
 use Rattle.elements.proofs.Right.{ruled-right, text-right}
 use Rattle.levels.specs.Levels.{Claim, claimOf, textOf}
-use Rattle.levels.specs.Rules.{levelChecks, judged}
-use Rattle.levels.specs.Shortcuts.{keyOf, Ordered}
-use Rattle.levels.specs.Told.{told}
+use Rattle.levels.specs.Rules.{levelChecks}
 use Rattle.gate.specs.Profile.{nonconformance}
 use Rattle.gate.specs.Segments.{tagIn, isHL, isSE, seen, onto, levelsIn}
 use Rattle.gate.specs.Rules.{closingChecks}
@@ -42,6 +40,10 @@ use Rattle.gate.specs.Records.{Tables}
 use Rattle.reading.specs.internal.Standing.{Standing}
 use Rattle.reading.specs.internal.Judgements.{notedClaim, notedClosing, segmentOf, brokenBy, byLevel, byClosing, lateJudgement, JudgesLate, Noted, Judges}
 use Rattle.gate.specs.declared.how.How.{How}
+use Rattle.levels.specs.internal.Answers.{judged}
+use Rattle.finding.specs.internal.Keys.{keyOf}
+use Rattle.finding.specs.internal.Knows.{Knows}
+use Rattle.finding.specs.internal.TableLevels.{tableLevels}
 use Rattle.reading.specs.declared.judging.Judgement.{Judgement}
 use Rattle.reading.specs.declared.judging.Judgement.the-variants.{Broken, Plain}
 use Rattle.reading.specs.declared.judging.Notes.{Notes}
@@ -210,12 +212,12 @@ module _ {how : How} {before : Tables} {s : Bytes} {segments levels : List ℕ} 
               text-is nt 2 (omega arith) ∙ sym (se-control (how .separators) g elements e) in
               let first = control-of-first how before s segments levels at count row again known greatest gs rows (some-before e) st in
               let long : suc count ≡ suc (length h) = omega (arith, history-long how gs, st .count-is) in
-              rw (total, control, first, long, st .tells .told-is) refl
+              rw (total, control, first, long, st .tells .levels-are) refl
 
           -- what the notes and tables say of an HL and of an SE
           abbrev hl-says : Judgement
           hl-says = byLevel x (keyOf (notedElement s starts (notes .end) (notes .count) 1))
-              (judged (nonconformance .levels) (told s (how .separators .element) segments levels known) (notedClaim s starts (notes .end) (notes .count)))
+              (judged (nonconformance .levels) (tableLevels s (how .separators .element) segments levels known) (notedClaim s starts (notes .end) (notes .count)))
 
           abbrev se-says : Judgement
           se-says = byClosing x (firstBroken (notedClosing s (how .separators .element) starts (notes .end) (notes .count) segments levels count known))
@@ -229,7 +231,7 @@ module _ {how : How} {before : Tables} {s : Bytes} {segments levels : List ℕ} 
               by : (a b : Bool) → eqb t 12 ≡ a → eqb t 33 ≡ b → Judges rows h v (cond a hl-says (cond b se-says (Plain x)))
               by true b p q =
                   let e : tagIn v ≡ 12 = sym tag-known ∙ eqb→eq t 12 (rw p tt) in
-                  rw (st .tells .told-is)
+                  rw (st .tells .levels-are)
                   (subst (λ (c : Claim). Judges rows h v (byLevel x (keyOf (c .id)) (judged (nonconformance .levels) (levelsIn nonconformance h) c)))
                   (sym (its-claim e)) (by-level (rw e tt)))
               by false true p q =
@@ -251,6 +253,6 @@ module _ {how : How} {before : Tables} {s : Bytes} {segments levels : List ℕ} 
             → d ≡ Holds → (state : State) → state .count ≡ count → state .known ≡ known → state .greatest ≡ greatest
             → (j : Judgement) → JudgesLate (how .separators .element) s starts notes state segments levels t x j → Judges rows h v j
         judges-rest d is q state counted levelled bounded j says =
-            let ordered : Ordered (state .greatest) (told s (how .separators .element) segments levels (state .known)) =
-            rw (levelled, bounded, st .tells .told-is) (st .ordered) in
-            subst (λ (j : Judgement). Judges rows h v j) (sym (says ordered)) (judges-late (keeps-holds (ruledChecks (nonconformance .elements) (tagIn v) v) .0 (sym ruled-is ∙ sym is ∙ q)) state counted levelled)
+            let knows : Knows (record { levels = state .known; greatest = state .greatest }) (tableLevels s (how .separators .element) segments levels (state .known)) =
+            rw (levelled, bounded, st .tells .levels-are) (st .knows) in
+            subst (λ (j : Judgement). Judges rows h v j) (sym (says knows)) (judges-late (keeps-holds (ruledChecks (nonconformance .elements) (tagIn v) v) .0 (sym ruled-is ∙ sym is ∙ q)) state counted levelled)

@@ -1,35 +1,22 @@
--- An HL judged by the levels before it: what the shortcuts find is what a search finds.
+-- An HL judged by the levels before it.
 -- Assumes nothing.
-use Prim.Native.Nat.{ℕ, _<_}
+use Prim.Native.Nat.{ℕ}
 use mathlib.Core.Path.{_≡_, sym, ap, _∙_}
 use mathlib.Core.Bool.{Bool, true, false}
 use mathlib.Core.List.{List}
-use native.Mathlib.Omega.{arith}
 use lib.Dec.{eqb}
 use lib.ListN.{length}
 use borrow.Author.Tests.{eqb-true, eqb-false}
 use Rattle.text.specs.Bytes.{Bytes}
 use Rattle.levels.specs.Profile.{nonconformance}
 use Rattle.levels.specs.Levels.{Claim, Level, called, levelAt}
-use Rattle.levels.specs.Rules.{judged}
-use Rattle.levels.specs.Groups.{judgedRoot, judgedUnder}
-use Rattle.levels.specs.Shortcuts.{keyOf, KeysUpTo, Apart, near}
+use Rattle.levels.specs.internal.Answers.{judged, judgedRoot, judgedChild, asParent}
+use Rattle.finding.specs.internal.Keys.{keyOf}
 use Rattle.levels.specs.declared.judging.Judged.{Judged}
 use Rattle.levels.specs.declared.judging.Judged.the-variants.{Refused}
-use Rattle.levels.proofs.Greater.{above-all}
-use Rattle.levels.proofs.Nearby.{near-called}
-use Rattle.levels.proofs.Judgements.{judged-used, judged-alone, judged-nobody, judged-child}
 use Rattle.reading.specs.internal.Judgements.{byLevel}
 use Rattle.reading.proofs.reader.ClosingTests.{claims-same}
-
--- a key above all others
-pub new-above : (id : Bytes) (ls : List Level) (greatest key : ℕ) → key ≡ keyOf id → greatest < key → KeysUpTo greatest ls → true ≡ eqb (called id ls) 0
-new-above id ls greatest key keyed above b =
-    ap (λ (n : ℕ). eqb n 0) (sym (above-all greatest id ls b (omega (arith, keyed, above))))
-
--- a level that is found near
-pub near-found : (id : Bytes) (ls : List Level) (n : ℕ) → n ≡ near id ls → (n ≡ 0 → ⊥) → Apart ls → n ≡ called id ls
-near-found id ls n is some apart = is ∙ near-called id ls apart (λ z. some (is ∙ z))
+use Rattle.levels.proofs.HlAnswers.{judged-used, judged-root, judged-nobody, judged-child}
 
 module _ (ls : List Level) (c : Claim) (new : Bool) (tested : new ≡ eqb (called (c .id) ls) 0) where
   -- 12
@@ -42,7 +29,7 @@ module _ (ls : List Level) (c : Claim) (new : Bool) (tested : new ≡ eqb (calle
 
     -- without a parent
     pub placed-root : length (c .parent) ≡ 0 → (r : Judged) → r ≡ judgedRoot nonconformance (c .code) (c .mark) → r ≡ judged nonconformance ls c
-    placed-root none r is = is ∙ judged-alone ls c fresh none
+    placed-root none r is = is ∙ judged-root ls c fresh none
 
     module _ (some : length (c .parent) ≡ 0 → ⊥) (above : ℕ) (found : above ≡ called (c .parent) ls) where
       -- 13
@@ -51,7 +38,7 @@ module _ (ls : List Level) (c : Claim) (new : Bool) (tested : new ≡ eqb (calle
 
       -- under a parent
       pub placed-under : (above ≡ 0 → ⊥) → (l : Level) → l ≡ levelAt above ls → (r : Judged)
-          → r ≡ judgedUnder nonconformance above l (c .code) (c .mark) → r ≡ judged nonconformance ls c
+          → r ≡ judgedChild nonconformance (asParent above l) (c .code) (c .mark) → r ≡ judged nonconformance ls c
       placed-under named l m r is = is ∙ judged-child ls c fresh above found some named l m
 
 -- the answer as a judgement, where it is k, by elements that are equal to those judged

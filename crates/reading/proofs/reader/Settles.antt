@@ -13,13 +13,14 @@ use borrow.Author.Tests.{ltb-true, ltb-false}
 use Rattle.text.specs.Bytes.{Bytes}
 use Rattle.text.specs.View.{View, viewOf}
 use Rattle.text.specs.Cut.{Placed}
-use Rattle.levels.specs.Told.{storedAt}
 use Rattle.gate.specs.Profile.{nonconformance}
 use Rattle.gate.specs.Segments.{seen, onto}
 use Rattle.gate.specs.Records.{Tables, Room}
 use Rattle.reading.specs.internal.Judgements.{Judges}
 use Rattle.reading.specs.internal.Settling.{stateAfter, refusedAt, acceptedAt, Settling, Stands, Settles}
 use Rattle.gate.specs.declared.how.How.{How}
+use Rattle.finding.specs.internal.Knows.{mostLevels}
+use Rattle.finding.specs.internal.Entries.{storedAt}
 use Rattle.reading.specs.declared.judging.Judgement.{Judgement}
 use Rattle.reading.specs.declared.judging.Judgement.the-variants.{Broken, Plain, Level, Last}
 use Rattle.reading.specs.declared.judging.Notes.{Notes}
@@ -113,17 +114,17 @@ module _ {how : How} {before : Tables} {s : Bytes} {segments levels : List ℕ} 
       })
 
   pub settles-level : (row parent depth code key : ℕ) → j ≡ Level row parent depth code key → state .count < length segments / 3 → state .known < length levels / 4
-      → (segments′ : List ℕ) → segments′ ≡ storedAt 3 segments (state .count) (notes .at ∷ (notes .end - notes .at) ∷ row ∷ []) → (levels′ : List ℕ)
+      → state .known ≤ mostLevels → (segments′ : List ℕ) → segments′ ≡ storedAt 3 segments (state .count) (notes .at ∷ (notes .end - notes .at) ∷ row ∷ []) → (levels′ : List ℕ)
       → levels′ ≡ storedAt 4 levels (state .known) ((state .count + 1) ∷ parent ∷ depth ∷ code ∷ []) → (after : State)
       → after ≡ stateAfter state row (state .known + 1) (max (state .greatest) key) → Stands how before s segments′ levels′ (notes .end + 1) after
-  settles-level row parent depth code key q room level-room segments′ stored levels′ stored′ after is =
+  settles-level row parent depth code key q room level-room few segments′ stored levels′ stored′ after is =
       let p = says (Level row parent depth code key) q in
       let number : suc (length h) ≡ state .count + 1 = omega (arith, history-long how gs, t .standing .count-is) in
       rw (stored, stored′, is, long, ← next-at) (record {
         gs = gs ++ (record { at = notes .at; segment = g } ∷ []);
         rows = rows ++ (row ∷ []);
         standing =
-            standing-level (t .standing) g more (t .cut) (t .whole) (t .fit) row (p .0) (p .1) (p .2) room level-room _
+            standing-level (t .standing) g more (t .cut) (t .whole) (t .fit) row (p .0) (p .1) (p .2) room level-room few _
             (ap (λ (n : ℕ). n ∷ parent ∷ depth ∷ code ∷ []) (sym number) ∙ p .3) key (p .4);
       })
 

@@ -1,6 +1,6 @@
 -- The reader from one segment to the next: what it knows at the start, after a segment that is passed, and where it stops.
 -- Assumes nothing.
-use Prim.Native.Nat.{ℕ, suc, _+_, _*_, _/_, _≤_, _<_, max}
+use Prim.Native.Nat.{ℕ, suc, _+_, _*_, _/_, _≤_, _<_, min, max}
 use mathlib.Core.Path.{_≡_, refl, sym, ap, subst, _∙_}
 use mathlib.Core.Bool.{Bool, true, false, not}
 use mathlib.Core.List.{List, [], _∷_, _++_, append-assoc}
@@ -18,12 +18,10 @@ use Rattle.rows.specs.Following.{Fits, lastOf, twice}
 use Rattle.elements.specs.Checks.{Keeps}
 use Rattle.levels.specs.Levels.{Level, called, levelOf, recordOf, recordsOf, claimOf}
 use Rattle.levels.specs.Rules.{levelChecks}
-use Rattle.levels.specs.Shortcuts.{keyOf}
-use Rattle.levels.specs.Told.{storedAt}
-use Rattle.levels.proofs.Calling.{Everyone}
+use Rattle.finding.specs.internal.Keys.{keyOf}
+use Rattle.finding.specs.internal.Entries.{storedAt}
+use Rattle.levels.specs.internal.Everyone.{Everyone}
 use Rattle.levels.proofs.Depth.{Within4}
-use Rattle.levels.proofs.Greater.{ordered-none, ordered-more}
-use Rattle.levels.proofs.Telling.{tells-none, told-segment-stored, told-level-stored}
 use Rattle.gate.specs.Profile.{nonconformance}
 use Rattle.gate.specs.Segments.{tagIn, isHL, isSE, seen, onto, levelsIn}
 use Rattle.gate.specs.Rules.{hlChecks, Kept, Sound}
@@ -38,6 +36,9 @@ use Rattle.reading.proofs.reader.HlSegments.{hl-written, depths}
 use Rattle.gate.proofs.reading.RowOfSE.{last-snoc}
 use Rattle.gate.proofs.continuing.LevelNames.{levels-hl, levels-other}
 use Rattle.gate.proofs.reading.Reference.{passed-none, passed-more}
+use Rattle.finding.specs.internal.Knows.{mostLevels}
+use Rattle.finding.proofs.KnownLevels.{knows-none, knows-after}
+use Rattle.finding.proofs.StoredLevels.{holds-none, holds-segment, holds-level}
 
 -- Tables with records in front
 -- a record stored behind the others is one record more in front
@@ -104,8 +105,8 @@ standing-start how before s = record {
   row-is = refl;
   again-is = refl;
   known-is = refl;
-  tells = tells-none s (how .separators .element) (before .segments) (before .levels);
-  ordered = ordered-none;
+  tells = holds-none s (how .separators .element) (before .segments) (before .levels);
+  knows = knows-none;
 }
 
 module _ {how : How} {before : Tables} {s : Bytes} {segments levels : List ℕ} {at count row : ℕ} {again : Bool} {known greatest : ℕ} {gs : List Placed} {rows : List ℕ}
@@ -229,8 +230,8 @@ module _ {how : How} {before : Tables} {s : Bytes} {segments levels : List ℕ} 
           row-is = last-snoc 0 rows r;
           again-is = again-more r;
           known-is = ap length same ∙ st .known-is;
-          tells = rw (← one, same) (told-segment-stored (st .tells) at (length g) r (omega arith));
-          ordered = rw same (st .ordered);
+          tells = rw (← one, same) (holds-segment (st .tells) at (length g) r (omega arith));
+          knows = rw same (st .knows);
         }
 
     -- a segment that makes a level is passed
@@ -238,16 +239,17 @@ module _ {how : How} {before : Tables} {s : Bytes} {segments levels : List ℕ} 
     new = levelOf (nonconformance .levels) (suc (length before-views)) (claimOf v) (levelsIn nonconformance before-views)
 
     pub standing-level : Fitted (how .separators) → (r : ℕ) → Sound nonconformance rows before-views v r → isHL v ≡ true → T (not (isSE v))
-        → count < length segments / 3 → known < length levels / 4 → (numbers : List ℕ) → numbers ≡ recordOf new → (key : ℕ)
+        → count < length segments / 3 → known < length levels / 4 → known ≤ mostLevels → (numbers : List ℕ) → numbers ≡ recordOf new → (key : ℕ)
         → key ≡ keyOf (claimOf v .id)
         → Standing how before s (storedAt 3 segments count (at ∷ length g ∷ r ∷ [])) (storedAt 4 levels known numbers) (at + length g + 1) (count + 1) r (eqb r row)
         (known + 1) (max greatest key) gs′ (rows ++ (r ∷ []))
-    standing-level fit r sound hl se room level-room numbers is key keyed =
+    standing-level fit r sound hl se room level-room few numbers is key keyed =
         let p = passed-next r sound se (room-level hl room level-room) in
         let more-levels : levelsIn nonconformance (onto [] (seen how gs′)) ≡ new ∷ levelsIn nonconformance before-views =
         ap (levelsIn nonconformance) history-more ∙ levels-hl before-views v hl in
         let one : suc count ≡ count + 1 = omega arith in
         let two : suc known ≡ known + 1 = omega arith in
+        let counted : suc (min known mostLevels) ≡ known + 1 = omega arith in
         let deep : Everyone Within4 (new ∷ levelsIn nonconformance before-views) = rw more-levels at (depths (seen how gs′) (p .kept)) in
         let written = hl-written (how .separators) fit s at g more whole (sound .kept .elements) (eqb→eq (tagIn v) (tag "HL") (rw hl tt)) in
         record {
@@ -265,8 +267,8 @@ module _ {how : How} {before : Tables} {s : Bytes} {segments levels : List ℕ} 
           again-is = again-more r;
           known-is = ap length more-levels ∙ omega (arith, st .known-is);
           tells = rw (← one, ← two, more-levels, is)
-              (told-level-stored (st .tells) at (length g) r (omega arith) new (omega (arith, history-long how gs, st .count-is)) (deep .0 .1) (omega arith) written);
-          ordered = rw (more-levels, keyed) (ordered-more greatest (levelsIn nonconformance before-views) (st .ordered) new (new-name before-views v hl (sound .kept .level)));
+              (holds-level (st .tells) at (length g) r (omega arith) new (omega (arith, history-long how gs, st .count-is)) (deep .0 .1) (omega arith) written);
+          knows = rw (more-levels, keyed, ← counted) (knows-after (st .knows) (omega (arith, st .known-is)) new (new-name before-views v hl (sound .kept .level)));
         }
 
     -- the SE closes the transaction

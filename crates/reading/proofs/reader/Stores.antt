@@ -6,7 +6,7 @@ use mathlib.Core.List.{List, [], _∷_, append-assoc}
 use native.Mathlib.Omega.{arith}
 use lib.ListN.{length, take, drop, set}
 use lib.Seq.{sets, sets-eq}
-use Rattle.levels.specs.Told.{storedAt}
+use Rattle.finding.specs.internal.Entries.{storedAt}
 
 -- the record of a width, by the numbers' sets
 sets-stored : (width : ℕ) (t : List ℕ) (n : ℕ) (numbers : List ℕ) → length numbers ≡ width → n * width + width ≤ length t

@@ -20,17 +20,19 @@ use Rattle.elements.specs.declared.verdict.Verdict.the-variants.{Holds, Broken 
 use Rattle.elements.specs.Rules.{byteChecks, endChecks}
 use Rattle.elements.specs.Post.{notedElement}
 use Rattle.levels.specs.Levels.{Claim, claimOf, levelOf, recordOf}
-use Rattle.levels.specs.Rules.{filled, judged}
+use Rattle.levels.specs.Rules.{filled}
+use Rattle.levels.specs.internal.Answers.{judged}
 use Rattle.levels.specs.declared.judging.Judged.{Judged}
 use Rattle.levels.specs.declared.judging.Judged.the-variants.{Entitled, Refused}
-use Rattle.levels.specs.Shortcuts.{keyOf, Ordered}
-use Rattle.levels.specs.Told.{told}
 use Rattle.gate.specs.Profile.{nonconformance}
 use Rattle.gate.specs.Segments.{isHL, isSE, seen, onto, levelsIn}
 use Rattle.gate.specs.Rules.{rules, FirstBroken, Sound}
 use Rattle.gate.specs.Records.{Tables}
 use Rattle.reading.specs.internal.Standing.{Standing}
 use Rattle.gate.specs.declared.how.How.{How}
+use Rattle.finding.specs.internal.Keys.{keyOf}
+use Rattle.finding.specs.internal.Knows.{Knows}
+use Rattle.finding.specs.internal.TableLevels.{tableLevels}
 use Rattle.reading.specs.declared.judging.Judgement.{Judgement}
 use Rattle.reading.specs.declared.judging.Judgement.the-variants.{Broken, Plain, Level, Last}
 use Rattle.reading.specs.declared.judging.Notes.{Notes}
@@ -56,7 +58,7 @@ abbrev pub notedClosing : Bytes → ℕ → List ℕ → ℕ → ℕ → List �
 notedClosing s separator starts end elements segments levels count known =
     check 16 1 (eqb (numberOf (notedElement s starts end elements 1)) (suc count))
     ∷ check 16 2 (same (notedElement s starts end elements 2) (openingControl s separator segments))
-    ∷ check 15 0 (filled (told s separator segments levels known))
+    ∷ check 15 0 (filled (tableLevels s separator segments levels known))
     ∷ []
 
 -- the segment that the notes name lies within the bytes
@@ -85,7 +87,7 @@ byClosing row (Faulty number element) = Broken number element
 abbrev pub hlJudgement : ℕ → Bytes → List ℕ → Notes → State → List ℕ → List ℕ → ℕ → Judgement
 hlJudgement separator s starts notes state segments levels row =
     byLevel row (keyOf (notedElement s starts (notes .end) (notes .count) 1))
-    (judged (nonconformance .levels) (told s separator segments levels (state .known)) (notedClaim s starts (notes .end) (notes .count)))
+    (judged (nonconformance .levels) (tableLevels s separator segments levels (state .known)) (notedClaim s starts (notes .end) (notes .count)))
 
 abbrev pub lateJudgement : ℕ → Bytes → List ℕ → Notes → State → List ℕ → List ℕ → ℕ → ℕ → Judgement
 lateJudgement separator s starts notes state segments levels tag row =
@@ -98,11 +100,11 @@ lateJudgement separator s starts notes state segments levels tag row =
 -- where the levels that the tables tell of are as the shortcuts take them
 abbrev pub JudgesHl : ℕ → Bytes → List ℕ → Notes → State → List ℕ → List ℕ → ℕ → Judgement → Type 0
 JudgesHl separator s starts notes state segments levels row r =
-    Ordered (state .greatest) (told s separator segments levels (state .known)) → r ≡ hlJudgement separator s starts notes state segments levels row
+    Knows (record { levels = state .known; greatest = state .greatest }) (tableLevels s separator segments levels (state .known)) → r ≡ hlJudgement separator s starts notes state segments levels row
 
 abbrev pub JudgesLate : ℕ → Bytes → List ℕ → Notes → State → List ℕ → List ℕ → ℕ → ℕ → Judgement → Type 0
 JudgesLate separator s starts notes state segments levels tag row r =
-    Ordered (state .greatest) (told s separator segments levels (state .known)) → r ≡ lateJudgement separator s starts notes state segments levels tag row
+    Knows (record { levels = state .known; greatest = state .greatest }) (tableLevels s separator segments levels (state .known)) → r ≡ lateJudgement separator s starts notes state segments levels tag row
 
 -- the notes are right for the segment g, which was cut and has data bytes
 pub record Noted (how : How) (s : Bytes) (starts : List ℕ) (notes : Notes) (g more : Bytes) : Type 0 where
@@ -136,7 +138,7 @@ JudgesNext how s starts notes state segments levels r =
     → Judges rows (onto [] (seen how gs)) (viewOf (how .separators) g) r
 
 -- the notes name a segment of this known tag that ends well
-pub record Known (s : Bytes) (starts : List ℕ) (notes : Notes) (tag : ℕ) : Type 0 where
+pub record KnownTag (s : Bytes) (starts : List ℕ) (notes : Notes) (tag : ℕ) : Type 0 where
   pub tagged : tag ≡ tagNumber (notedElement s starts (notes .end) (notes .count) 0)
   pub listed : tag < 34
   pub ended : T (notes .ended)

@@ -8,17 +8,17 @@ use lib.ListN.{length, drop}
 use Rattle.text.specs.Bytes.{Bytes}
 use Rattle.text.specs.Cut.{Placed}
 use Rattle.rows.specs.Following.{lastOf, twice}
-use Rattle.levels.specs.Shortcuts.{Ordered}
-use Rattle.levels.proofs.Telling.{Tells}
 use Rattle.gate.specs.Profile.{nonconformance}
 use Rattle.gate.specs.Segments.{seen, onto, levelsIn}
 use Rattle.gate.specs.Records.{Tables, segmentRecords, levelRecords, over}
 use Rattle.gate.specs.Reads.{Passed}
 use Rattle.gate.specs.declared.how.How.{How}
+use Rattle.finding.specs.internal.Knows.{Knows}
+use Rattle.finding.specs.internal.TablesHold.{TablesHold}
 
 -- the reader stands at byte `at`: the segments gs were passed with these rows, the tables hold their records, and the numbers it carries are
--- how many there are, their last row, whether that stands for the second time in a row, how many levels they make, and a number that no key of
--- their HL01 is above
+-- how many there are, their last row, whether that stands for the second time in a row, how many levels they make, and what spares a
+-- search among them
 pub record Standing (how : How) (before : Tables) (s : Bytes) (segments levels : List ℕ) (at count row : ℕ) (again : Bool) (known greatest : ℕ)
     (gs : List Placed) (rows : List ℕ) : Type 0 where
   pub passed : Passed nonconformance how before s gs rows at (drop at s)
@@ -29,5 +29,5 @@ pub record Standing (how : How) (before : Tables) (s : Bytes) (segments levels :
   pub row-is : lastOf 0 rows ≡ row
   pub again-is : twice 0 false rows ≡ again
   pub known-is : length (levelsIn nonconformance (onto [] (seen how gs))) ≡ known
-  pub tells : Tells s (how .separators .element) segments levels count known (levelsIn nonconformance (onto [] (seen how gs)))
-  pub ordered : Ordered greatest (levelsIn nonconformance (onto [] (seen how gs)))
+  pub tells : TablesHold s (how .separators .element) segments levels count known (levelsIn nonconformance (onto [] (seen how gs)))
+  pub knows : Knows (record { levels = known; greatest = greatest }) (levelsIn nonconformance (onto [] (seen how gs)))

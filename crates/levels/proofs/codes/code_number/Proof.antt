@@ -1,7 +1,7 @@
 -- `code_number` meets its contract, by the length.
 -- Assumes nothing.
 use mathlib.Core.Path.{sym, ap, _∙_}
-use Rattle.levels.proofs.Letters.{code-lengths}
+use Rattle.levels.proofs.CodeLetters.{code-lengths}
 use Rattle.levels.specs.Profile.{nonconformance, codeOf}
 use borrow.Author.Needs.{needs}
 use Rattle.text.proofs.Lists.{just-one, just-two}

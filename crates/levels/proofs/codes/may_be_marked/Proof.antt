@@ -1,6 +1,6 @@
 -- `may_be_marked` meets its contract.
 -- Assumes nothing.
-use Rattle.levels.proofs.Letters.{is-marked}
+use Rattle.levels.proofs.CodeLetters.{is-marked}
 use Rattle.levels.proofs.codes.may_be_marked.Statement.{statement}
 use Rattle.levels.proofs.codes.may_be_marked.Tie as tie
 

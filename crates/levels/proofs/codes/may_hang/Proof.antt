@@ -1,6 +1,6 @@
 -- `may_hang` meets its contract, by the parent's code.
 -- Assumes nothing.
-use Rattle.levels.proofs.Letters.{under-report, under-item, under-component, under-others}
+use Rattle.levels.proofs.CodeLetters.{under-report, under-item, under-component, under-others}
 use Rattle.levels.proofs.codes.may_hang.Statement.{statement}
 use Rattle.levels.proofs.codes.may_hang.Tie as tie
 

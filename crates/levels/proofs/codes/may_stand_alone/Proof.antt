@@ -1,6 +1,6 @@
 -- `may_stand_alone` meets its contract.
 -- Assumes nothing.
-use Rattle.levels.proofs.Letters.{stands-alone}
+use Rattle.levels.proofs.CodeLetters.{stands-alone}
 use Rattle.levels.proofs.codes.may_stand_alone.Statement.{statement}
 use Rattle.levels.proofs.codes.may_stand_alone.Tie as tie
 

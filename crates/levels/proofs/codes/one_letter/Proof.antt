@@ -1,6 +1,6 @@
 -- `one_letter` meets its contract, by the letter.
 -- Assumes nothing.
-use Rattle.levels.proofs.Letters.{code-item, code-component, no-letter}
+use Rattle.levels.proofs.CodeLetters.{code-item, code-component, no-letter}
 use Rattle.levels.proofs.codes.one_letter.Statement.{statement}
 use Rattle.levels.proofs.codes.one_letter.Tie as tie
 

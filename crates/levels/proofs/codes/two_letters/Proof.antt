@@ -1,7 +1,7 @@
 -- `two_letters` meets its contract: each test decides one code.
 -- Assumes nothing.
 use mathlib.Core.Path.{sym, _∙_}
-use Rattle.levels.proofs.Letters.{code-letters}
+use Rattle.levels.proofs.CodeLetters.{code-letters}
 use Rattle.levels.proofs.codes.two_letters.Statement.{statement}
 use Rattle.levels.proofs.codes.two_letters.Tie as tie
 

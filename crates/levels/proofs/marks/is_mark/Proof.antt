@@ -1,6 +1,6 @@
 -- `is_mark` meets its contract, by the length.
 -- Assumes nothing.
-use Rattle.levels.proofs.Marking.{mark-byte, mark-other}
+use Rattle.levels.proofs.MarkTests.{mark-byte, mark-other}
 use borrow.Author.Needs.{needs}
 use Rattle.levels.proofs.marks.is_mark.Statement.{statement}
 use Rattle.levels.proofs.marks.is_mark.Tie as tie

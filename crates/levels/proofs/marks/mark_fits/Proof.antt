@@ -1,7 +1,7 @@
 -- `mark_fits` meets its contract: none, `0`, or `1` of a code that may be marked.
 -- Assumes nothing.
 use mathlib.Core.Path.{sym, _∙_}
-use Rattle.levels.proofs.Marking.{fits-absent, fits-zero, fits-one}
+use Rattle.levels.proofs.MarkTests.{fits-absent, fits-zero, fits-one}
 use borrow.Author.Needs.{needs}
 use Rattle.levels.proofs.marks.mark_fits.Statement.{statement}
 use Rattle.levels.proofs.marks.mark_fits.Tie as tie

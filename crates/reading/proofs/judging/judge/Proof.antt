@@ -4,8 +4,8 @@ use mathlib.Core.Path.{_≡_, subst}
 use mathlib.Core.Bool.{Bool, true, false, not}
 use native.Mathlib.Omega.{arith}
 use lib.Dec.{T}
-use Rattle.reading.specs.internal.Judgements.{Known}
 use Rattle.reading.proofs.reader.JudgeSteps.{judges-tag, judges-end}
+use Rattle.reading.specs.internal.Judgements.{KnownTag}
 use borrow.Author.Needs.{needs}
 use Rattle.reading.proofs.judging.judge.Statement.{statement}
 use Rattle.reading.proofs.judging.judge.Tie as tie
@@ -30,7 +30,7 @@ returns-2 c = λ before gs rows g more fit nt st.
 judge-known-requires : tie.Need-judge-known-requires
 judge-known-requires c κs =
     let start = c .before .before .before .before .before .before .before in
-    let known : Known _ _ (start .args .notes) _ = record { tagged = c .before .before .before .tag-of .ensures; listed = omega (arith, c .before .before .if1 .left); ended = of-not (start .args .notes .ended) (c .if2 .left) } in
+    let known : KnownTag _ _ (start .args .notes) _ = record { tagged = c .before .before .before .tag-of .ensures; listed = omega (arith, c .before .before .if1 .left); ended = of-not (start .args .notes .ended) (c .if2 .left) } in
     (start .pre .0, known)
 
 returns-3 : tie.Need-returns-3

@@ -21,7 +21,7 @@ id-key-requires : tie.Need-id-key-requires
 id-key-requires c κs = search needs
 
 judge-level-requires : tie.Need-judge-level-requires
-judge-level-requires c κs = c .id-key .ensures
+judge-level-requires c κs = search needs
 
 enum-known-above : tie.Need-enum-known-above
 enum-known-above c = search needs

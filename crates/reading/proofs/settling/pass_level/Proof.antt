@@ -1,10 +1,11 @@
 -- `pass_level` meets its contract: where there is room in both tables the reader stands behind the segment.
 -- Assumes nothing.
-use Prim.Native.Nat.{_/_, _<_}
+use Prim.Native.Nat.{_/_, _≤_, _<_}
 use mathlib.Core.Path.{refl}
 use native.Mathlib.Omega.{arith}
 use lib.ListN.{length}
 use Rattle.reading.proofs.reader.Settles.{room, no-room, full-level, full-levels, settles-level}
+use Rattle.finding.specs.internal.Knows.{mostLevels}
 use borrow.Author.Needs.{needs}
 use Rattle.reading.proofs.settling.pass_level.Statement.{statement}
 use Rattle.reading.proofs.settling.pass_level.Tie as tie
@@ -16,6 +17,13 @@ segment-fits c = room (c .before .segment-room .result) _ _ (c .before .segment-
 -- and behind that of the level table in that one
 level-fits : (c : tie.Else2) → c .before .before .before .before .before .before .before .before .args .state .known < length (c .before .before .before .before .before .before .before .before .args .levels .now) / 4
 level-fits c = room (c .before .level-room .result) _ _ (c .before .level-room .ensures) (c .if2 .left)
+
+-- so there are fewer levels than a table can hold
+few : (c : tie.Else2) → c .before .before .before .before .before .before .before .before .args .state .known ≤ mostLevels
+few c =
+    let start = c .before .before .before .before .before .before .before .before in
+    let level : start .args .state .known < length (start .args .levels .now) / 4 = level-fits c in
+    omega (arith, level, start .good .1 .1 .1 .1 .0)
 
 segment-room-requires : tie.Need-segment-room-requires
 segment-room-requires c κs = search needs
@@ -79,7 +87,11 @@ same-length-5 c = search needs
 
 returns-3 : tie.Need-returns-3
 returns-3 c = λ how before s gs rows g more t.
-    settles-level t _ _ _ _ _ refl (segment-fits (c .before .before .before .before .before .before .before .before .before .before .before .before .before .before .before .before)) (level-fits (c .before .before .before .before .before .before .before .before .before .before .before .before .before)) _ (c .before .before .before .before .before .before .before .before .before .before .put-segment .ensures) _ (c .before .before .before .before .before .put-level .ensures) _ (rw (c .before .before .greater .ensures) at (c .after .ensures))
+    let put = c .before .before .before .before .before in
+    let stored = put .before .before .before .before .before in
+    let fitting = stored .before .before .before in
+    settles-level t _ _ _ _ _ refl (segment-fits (fitting .before .before .before)) (level-fits fitting) (few fitting) _
+    (stored .put-segment .ensures) _ (put .put-level .ensures) _ (rw (c .before .before .greater .ensures) at (c .after .ensures))
 
 pub pass-level-spec : {M : Type 1} → statement M
 pass-level-spec =

@@ -1,0 +1,72 @@
+-- The HL01 of a segment against other bytes: when the two are the same, and what shows that they differ.
+-- Assumes nothing.
+use Prim.Native.Nat.{ℕ, _+_, _-_, _<_, min}
+use mathlib.Core.Path.{_≡_, sym, ap, _∙_}
+use mathlib.Core.Bool.{true, false}
+use mathlib.Core.Logic.{inr}
+use mathlib.Core.List.{List}
+use native.Mathlib.Omega.{arith}
+use lib.ListN.{length, take, drop, getD, length-drop}
+use lib.Seq.{getD-drop}
+use Rattle.text.specs.Bytes.{Bytes, same}
+use Rattle.text.specs.Pieces.{Free}
+use Rattle.finding.specs.internal.Entries.{startOf, levelEntry}
+use Rattle.finding.specs.internal.TableLevels.{idAt, tableLevel}
+use Rattle.finding.specs.internal.PieceEnds.{MayEnd}
+use Rattle.finding.proofs.FirstPiece.{firstPiece, first-met, first-compared, first-other-end, first-other-byte, first-unfree, drop-within}
+
+-- the HL01 of a segment that starts at `start` is looked for from `from` on
+module _ (s : Bytes) (separator start from : ℕ) (id : Bytes) (place : from ≡ min (start + 3) (length s)) where
+  -- the same bytes follow
+  rest-is : drop from s ≡ drop (start + 3) s
+  rest-is = ap (λ (k : ℕ). drop k s) place ∙ drop-within (start + 3) s
+
+  -- so the HL01 is the first piece from there on
+  id-piece : same (idAt s separator start) id ≡ same (firstPiece separator (drop from s)) id
+  id-piece = ap (λ (x : Bytes). same (firstPiece separator x) id) (sym rest-is)
+
+  -- every byte agrees, and the HL01 ends with the last: it is the same
+  pub id-met : Free separator id → MayEnd separator (drop from s) (length id) true
+      → ((j : ℕ) → j < length id → getD s (from + j) 0 ≡ getD id j 0) → same (idAt s separator start) id ≡ true
+  id-met free ends agree = id-piece ∙ first-met separator (drop from s) id free ends (λ j l. getD-drop from s j 0 ∙ agree j l)
+
+  -- it may end there: it is the same exactly if as many bytes are
+  pub id-compared : Free separator id → MayEnd separator (drop from s) (length id) true
+      → same (take (from + length id - from) (drop from s)) id ≡ same (idAt s separator start) id
+  id-compared free ends =
+      let size : from + length id - from ≡ length id = omega arith in
+      sym (id-piece ∙ rw size (first-compared separator (drop from s) id free ends))
+
+  -- the HL01 does not end there, or a byte differs: it is another
+  pub id-other-end : MayEnd separator (drop from s) (length id) false → same (idAt s separator start) id ≡ false
+  id-other-end ends = id-piece ∙ first-other-end separator (drop from s) id ends
+
+  pub id-other-byte : (j : ℕ) → j < length id → (getD s (from + j) 0 ≡ getD id j 0 → ⊥) → same (idAt s separator start) id ≡ false
+  id-other-byte j l h = id-piece ∙ first-other-byte separator (drop from s) id j l (λ e. h (sym (getD-drop from s j 0) ∙ e))
+
+-- two bytes may show that the HL01 is another
+module _ (s : Bytes) (separator start : ℕ) (id : Bytes) (room : start + 3 + length id < length s) where
+  begins-there : start + 3 ≡ min (start + 3) (length s)
+  begins-there = omega arith
+
+  -- no separator behind as many bytes
+  pub id-goes-on : (getD s (start + 3 + length id) 0 ≡ separator → ⊥) → same (idAt s separator start) id ≡ false
+  id-goes-on h =
+      id-other-end s separator start (start + 3) id begins-there
+      (inr (rw (length-drop (start + 3) s) (omega arith), λ q. h (sym (getD-drop (start + 3) s (length id) 0) ∙ q)))
+
+  -- another last byte
+  pub id-ends-otherwise : 0 < length id → (getD s (start + 3 + length id - 1) 0 ≡ getD id (length id - 1) 0 → ⊥)
+      → same (idAt s separator start) id ≡ false
+  id-ends-otherwise l h =
+      let same-place : start + 3 + length id - 1 ≡ start + 3 + (length id - 1) = omega arith in
+      id-other-byte s separator start (start + 3) id begins-there (length id - 1) (omega arith) (λ e. h (ap (λ (k : ℕ). getD s k 0) same-place ∙ e))
+
+-- bytes with a separator are no HL01
+pub id-unfree : (s : Bytes) (separator start : ℕ) (id : Bytes) → (Free separator id → ⊥) → same (idAt s separator start) id ≡ false
+id-unfree s separator start id h = first-unfree separator (drop (start + 3) s) id h
+
+-- level n's segment starts there, and the HL01 there is another
+pub other-level : (s : Bytes) (separator : ℕ) (segments levels : List ℕ) (n number start : ℕ) (id : Bytes) → number ≡ levelEntry levels n 0
+    → start ≡ startOf segments number → same (idAt s separator start) id ≡ false → same (tableLevel s separator segments levels n .id) id ≡ false
+other-level s separator segments levels n number start id a b e = rw (b, a) at e

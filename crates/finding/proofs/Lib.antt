@@ -1,0 +1,11 @@
+pub mod TableEntries
+pub mod FirstPiece
+pub mod HlNames
+pub mod TableLevels
+pub mod LevelSearch
+pub mod MarkElement
+pub mod ChildSearch
+pub mod StoredLevels
+pub mod KeyLaws
+pub mod NearLevels
+pub mod KnownLevels

@@ -1,0 +1,140 @@
+-- `find_level` meets its contract: the levels above `left` have other HL01s, and the first i bytes of level n's HL01 agree.
+-- Assumes nothing.
+use Prim.Native.Nat.{_-_}
+use native.Mathlib.Omega.{arith}
+use lib.ListN.{length}
+use borrow.Author.Tests.{not-true, not-false}
+use Rattle.finding.proofs.LevelSearch.{Seeks, Compares, sought-unfree, seeks-all, sought-nowhere, seeks-past, seeks-other-end, compares-none, compares-inside, compares-more, seeks-other-byte, sought-met}
+use borrow.Author.Needs.{needs}
+use Rattle.finding.proofs.search.find_level.Statement.{statement}
+use Rattle.finding.proofs.search.find_level.Tie as tie
+
+abbrev Inv-loop : tie.InvT-loop
+Inv-loop s separator segments levels count id left n from i₀ i = Compares s separator segments levels count id left n from i
+
+abbrev μ-loop : tie.MeasureT-loop
+μ-loop s separator segments levels count id left n from i₀ i = length id - i
+
+abbrev Inv-levels : tie.InvT-levels
+Inv-levels s separator segments levels count id left₀ left = Seeks s separator segments levels count id left
+
+abbrev μ-levels : tie.MeasureT-levels
+μ-levels s separator segments levels count id left₀ left = left
+
+element-span-requires : tie.Need-element-span-requires Inv-loop μ-loop Inv-levels μ-levels
+element-span-requires c κs = search needs
+
+returns : tie.Need-returns Inv-loop μ-loop Inv-levels μ-levels
+returns c =
+    let a = c .before .before .before .before .before .before .before .args in
+    sought-unfree (a .s .now) (a .separator) (a .segments .now) (a .levels .now) (a .count) (a .id .now)
+    (c .before .before .element-span .result) (c .before .before .element-span .ensures) (c .if1 .taken)
+
+level-count-requires : tie.Need-level-count-requires Inv-loop μ-loop Inv-levels μ-levels
+level-count-requires c κs = search needs
+
+levels-holds : tie.Need-levels-holds Inv-loop μ-loop Inv-levels μ-levels
+levels-holds c =
+    let a = c .before .before .before .before .before .before .before .before .args in
+    seeks-all (a .s .now) (a .separator) (a .segments .now) (a .levels .now) (a .count) (a .id .now)
+    (c .before .before .before .element-span .result) (c .level-count .result)
+    (c .before .before .before .element-span .ensures) (c .before .if1 .left) (c .level-count .ensures)
+
+sub-left : tie.Need-sub-left Inv-loop μ-loop Inv-levels μ-levels
+sub-left c = search needs
+
+is-other-requires : tie.Need-is-other-requires Inv-loop μ-loop Inv-levels μ-levels
+is-other-requires c κs = search needs
+
+levels-less : tie.Need-levels-less Inv-loop μ-loop Inv-levels μ-levels
+levels-less c = omega arith
+
+levels-again : tie.Need-levels-again Inv-loop μ-loop Inv-levels μ-levels
+levels-again c = seeks-past (c .before .before .before .levels .inv) (c .before .before .levels-test .taken) (c .before .is-other .ensures (c .if2 .taken))
+
+id-start-requires : tie.Need-id-start-requires Inv-loop μ-loop Inv-levels μ-levels
+id-start-requires c κs = search needs
+
+may-end-requires : tie.Need-may-end-requires Inv-loop μ-loop Inv-levels μ-levels
+may-end-requires c κs = omega (arith, c .id-start .ensures)
+
+levels-less-2 : tie.Need-levels-less-2 Inv-loop μ-loop Inv-levels μ-levels
+levels-less-2 c = omega arith
+
+levels-again-2 : tie.Need-levels-again-2 Inv-loop μ-loop Inv-levels μ-levels
+levels-again-2 c =
+    let ended = c .before in
+    let placed = ended .before in
+    let round = placed .before .before .before in
+    seeks-other-end (round .before .levels .inv) (round .levels-test .taken) (placed .id-start .ensures)
+    (rw (not-true (ended .may-end .result) (c .if3 .taken)) at (ended .may-end .ensures))
+
+loop-holds : tie.Need-loop-holds Inv-loop μ-loop Inv-levels μ-levels
+loop-holds c =
+    let ended = c .before in
+    let placed = ended .before in
+    let round = placed .before .before .before in
+    compares-none (round .before .levels .inv) (round .levels-test .taken) (placed .id-start .ensures)
+    (rw (not-false (ended .may-end .result) (c .if3 .left)) at (ended .may-end .ensures))
+
+add-if4 : tie.Need-add-if4 Inv-loop μ-loop Inv-levels μ-levels
+add-if4 c = omega (arith, compares-inside (c .before .loop .inv) (c .loop-test .taken))
+
+shared-slice-read-if4 : tie.Need-shared-slice-read-if4 Inv-loop μ-loop Inv-levels μ-levels
+shared-slice-read-if4 c = compares-inside (c .before .before .loop .inv) (c .before .loop-test .taken)
+
+shared-slice-read-if4-2 : tie.Need-shared-slice-read-if4-2 Inv-loop μ-loop Inv-levels μ-levels
+shared-slice-read-if4-2 c = search needs
+
+levels-less-3 : tie.Need-levels-less-3 Inv-loop μ-loop Inv-levels μ-levels
+levels-less-3 c = omega arith
+
+levels-again-3 : tie.Need-levels-again-3 Inv-loop μ-loop Inv-levels μ-levels
+levels-again-3 c = seeks-other-byte (c .before .before .before .before .loop .inv) (c .before .before .before .loop-test .taken) (c .if4 .taken)
+
+add-i : tie.Need-add-i Inv-loop μ-loop Inv-levels μ-levels
+add-i c = search needs
+
+loop-less : tie.Need-loop-less Inv-loop μ-loop Inv-levels μ-levels
+loop-less c = search needs
+
+loop-again : tie.Need-loop-again Inv-loop μ-loop Inv-levels μ-levels
+loop-again c = compares-more (c .before .before .before .before .loop .inv) (c .if4 .left)
+
+returns-2 : tie.Need-returns-2 Inv-loop μ-loop Inv-levels μ-levels
+returns-2 c = sought-met (c .before .loop .inv) (c .loop-test .left)
+
+returns-3 : tie.Need-returns-3 Inv-loop μ-loop Inv-levels μ-levels
+returns-3 c = sought-nowhere (c .before .levels .inv) (c .levels-test .left)
+
+pub find-level-spec : {M : Type 1} → statement M
+find-level-spec =
+    tie.close
+    (tie.spec
+    Inv-loop
+    μ-loop
+    Inv-levels
+    μ-levels
+    element-span-requires
+    returns
+    level-count-requires
+    levels-holds
+    sub-left
+    is-other-requires
+    levels-less
+    levels-again
+    id-start-requires
+    may-end-requires
+    levels-less-2
+    levels-again-2
+    loop-holds
+    add-if4
+    shared-slice-read-if4
+    shared-slice-read-if4-2
+    levels-less-3
+    levels-again-3
+    add-i
+    loop-less
+    loop-again
+    returns-2
+    returns-3)

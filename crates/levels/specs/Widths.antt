@@ -1,0 +1,11 @@
+-- How many numbers a record of each lent table has.
+-- Assumes nothing.
+use Prim.Native.Nat.{ℕ}
+
+-- three numbers a segment
+abbrev pub segmentWidth : ℕ
+segmentWidth = 3
+
+-- four numbers a level
+abbrev pub levelWidth : ℕ
+levelWidth = 4
