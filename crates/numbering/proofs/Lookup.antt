@@ -1,5 +1,5 @@
--- A lookup in the next-row table answers with the one row that fits. Each way out of the lookup gives the defined answer; where the table
--- keeps its promise, the entry means the computed next row, so the answer is the next step, which is the one row that fits.
+-- A lookup keeps its promise on each way out. Where the table is the next-row table, its entry means the computed next row, so the answer is
+-- the next step, which is the one row that fits.
 -- Assumes nothing.
 use mathlib.Core.Path.{_≡_, refl, sym, ap, subst, _∙_}
 use mathlib.Core.Logic.{by-cases}
@@ -30,60 +30,6 @@ after-entry : (table : List ℕ) (r : ℕ) (again : Bool) (t : ℕ) → 1 ≤ r 
     → rowAfterIn table r again t ≡ cond (again && (eqb (entryAt table r t) r && eqb (maxOf r) 2)) 0 (entryAt table r t)
 unfolding rowAfterIn
 after-entry table r again t lo hi ht = rw (ne-eqb r 0 (λ e. omega arith), le-leb r 79 hi, lt-ltb t 34 ht)
-
--- the entry as it stands in the table
-abbrev pub standsAt : List ℕ → ℕ → ℕ → ℕ
-standsAt table r t = getD table ((r - 1) * 34 + t) 0
-
--- the lookup's ways, each with its tests
-module _ (table : List ℕ) (r : ℕ) (again : Bool) (t : ℕ) where
-  -- nothing read, and ST
-  pub start-st : r ≡ 0 → t ≡ 0 → 1 ≡ rowAfterIn table r again t
-  unfolding rowAfterIn tagNumber
-  start-st e f = rw (e, f)
-
-  -- nothing read, and another tag
-  pub start-other : r ≡ 0 → (t ≡ 0 → ⊥) → 0 ≡ rowAfterIn table r again t
-  unfolding rowAfterIn tagNumber
-  start-other e n = rw (e, ne-eqb t 0 n)
-
-  -- a row past the last
-  pub row-outside : (r ≡ 0 → ⊥) → 79 < r → 0 ≡ rowAfterIn table r again t
-  unfolding rowAfterIn
-  row-outside n h = rw (ne-eqb r 0 n, lt-leb r 79 h)
-
-  -- a number that is no tag's
-  pub tag-outside : (r ≡ 0 → ⊥) → r ≤ 79 → 34 ≤ t → 0 ≡ rowAfterIn table r again t
-  unfolding rowAfterIn
-  tag-outside n h l = rw (ne-eqb r 0 n, le-leb r 79 h, le-ltb t 34 l)
-
-  module _ (lo : 1 ≤ r) (hi : r ≤ 79) (ht : t < 34) where
-    -- no row there
-    pub no-row : 128 ≤ standsAt table r t → 0 ≡ rowAfterIn table r again t
-    no-row h = sym (after-entry table r again t lo hi ht ∙ rw (le-leb 128 (standsAt table r t) h, cond-same))
-
-    -- a row there, which means itself
-    module _ (h : standsAt table r t < 128) where
-      by-entry : rowAfterIn table r again t
-          ≡ cond (again && (eqb (standsAt table r t) r && eqb (maxOf r) 2)) 0 (standsAt table r t)
-      by-entry = after-entry table r again t lo hi ht ∙ rw (lt-leb 128 (standsAt table r t) h)
-
-      -- a third of a row of maximum 2
-      pub third-refused : again ≡ true → eqb (standsAt table r t) r ≡ true → eqb (maxOf r) 2 ≡ true → 0 ≡ rowAfterIn table r again t
-      third-refused p q s = sym (by-entry ∙ rw (p, q, s))
-
-      -- a row of another maximum once more
-      pub other-maximum : again ≡ true → eqb (standsAt table r t) r ≡ true → eqb (maxOf r) 2 ≡ false
-          → standsAt table r t ≡ rowAfterIn table r again t
-      other-maximum p q s = sym (by-entry ∙ rw (p, q, s))
-
-      -- another row after one that stands twice
-      pub other-row : again ≡ true → eqb (standsAt table r t) r ≡ false → standsAt table r t ≡ rowAfterIn table r again t
-      other-row p q = sym (by-entry ∙ rw (p, q))
-
-      -- any row after one that stands once
-      pub first-time : again ≡ false → standsAt table r t ≡ rowAfterIn table r again t
-      first-time p = sym (by-entry ∙ rw p)
 
 -- at the start: row 1 for ST, and nothing else
 checked-start : (again : Bool) → tab 34 (λ t. cond (eqb t (tag "ST")) 1 0) ≡ tab 34 (λ t. stepOf 0 again t)
@@ -116,12 +62,13 @@ module _ (table : List ℕ) (kept : NextTable table) where
       rw (after-entry table (suc k) again t (omega arith) hi ht, entry-next (suc k) t (omega arith) hi ht)
 
 -- for a number that is no tag's the answer is 0
-no-tag : (table : List ℕ) (r : ℕ) (again : Bool) (t : ℕ) → 34 ≤ t → 0 ≡ rowAfterIn table r again t
-no-tag table zero again t h = start-other table 0 again t refl (λ e. omega arith)
+no-tag : (table : List ℕ) (r : ℕ) (again : Bool) (t : ℕ) → 34 ≤ t → rowAfterIn table r again t ≡ 0
+unfolding rowAfterIn tagNumber
+no-tag table zero again t h = rw (ne-eqb t 0 (λ e. omega arith))
 no-tag table (suc k) again t h =
     by-cases (decLt 79 (suc k))
-    (λ past. row-outside table (suc k) again t (λ e. omega arith) past)
-    (λ within. tag-outside table (suc k) again t (λ e. omega arith) (omega arith) h)
+    (λ past. rw (ne-eqb (suc k) 0 (λ e. omega arith), lt-leb (suc k) 79 past))
+    (λ within. rw (ne-eqb (suc k) 0 (λ e. omega arith), le-leb (suc k) 79 (omega arith), le-ltb t 34 h))
 
 -- and nothing fits
 none-fits : (w : List ℕ) (t x : ℕ) → 34 ≤ t → x ≡ 0 → OneFits w t x
@@ -131,7 +78,7 @@ none-fits w t x h e = record {
 }
 
 -- an answer as defined keeps the whole promise
-pub answer-means : (table : List ℕ) (r : ℕ) (again : Bool) (t x : ℕ) → x ≡ rowAfterIn table r again t → RowAfter table r again t x
+answer-means : (table : List ℕ) (r : ℕ) (again : Bool) (t x : ℕ) → x ≡ rowAfterIn table r again t → RowAfter table r again t x
 answer-means table r again t x e = record {
   meaning = λ kept w v last second.
       by-cases (decLt t 34)
@@ -139,6 +86,63 @@ answer-means table r again t x e = record {
       let hi : r ≤ 79 = subst (λ (k : ℕ). k ≤ 79) last (let h = last-range w v in omega arith) in
       let g : x ≡ stepOf (lastOf 0 w) (twice 0 false w) t = rw (last, second) (e ∙ after-step table kept r t again hi ht) in
       subst (λ (k : ℕ). OneFits w t k) (sym g) (step-fits w v t ht))
-      (λ past. none-fits w t x (omega arith) (e ∙ sym (no-tag table r again t (omega arith))));
+      (λ past. none-fits w t x (omega arith) (e ∙ no-tag table r again t (omega arith)));
   answer = e;
 }
+
+-- the entry as it stands in the table
+abbrev standsAt : List ℕ → ℕ → ℕ → ℕ
+standsAt table r t = getD table ((r - 1) * 34 + t) 0
+
+-- the lookup's ways out, each by its tests
+module _ {table : List ℕ} {r : ℕ} {again : Bool} {t : ℕ} where
+  -- nothing read, and ST
+  pub start-st : r ≡ 0 → t ≡ 0 → RowAfter table r again t 1
+  unfolding rowAfterIn tagNumber
+  start-st e f = answer-means table r again t 1 (rw (e, f))
+
+  -- nothing read, and another tag
+  pub start-other : r ≡ 0 → (t ≡ 0 → ⊥) → RowAfter table r again t 0
+  unfolding rowAfterIn tagNumber
+  start-other e n = answer-means table r again t 0 (rw (e, ne-eqb t 0 n))
+
+  -- a row past the last
+  pub row-outside : (r ≡ 0 → ⊥) → 79 < r → RowAfter table r again t 0
+  unfolding rowAfterIn
+  row-outside n h = answer-means table r again t 0 (rw (ne-eqb r 0 n, lt-leb r 79 h))
+
+  -- a number that is no tag's
+  pub tag-outside : 34 ≤ t → RowAfter table r again t 0
+  tag-outside h = answer-means table r again t 0 (sym (no-tag table r again t h))
+
+  module _ (lo : 1 ≤ r) (hi : r ≤ 79) (ht : t < 34) where
+    -- no row there
+    pub no-row : 128 ≤ standsAt table r t → RowAfter table r again t 0
+    no-row h =
+        answer-means table r again t 0
+        (sym (after-entry table r again t lo hi ht ∙ rw (le-leb 128 (standsAt table r t) h, cond-same)))
+
+    -- a row there, which means itself
+    module _ (h : standsAt table r t < 128) where
+      by-entry : (x : ℕ) → cond (again && (eqb (standsAt table r t) r && eqb (maxOf r) 2)) 0 (standsAt table r t) ≡ x
+          → RowAfter table r again t x
+      by-entry x e =
+          answer-means table r again t x
+          (sym (after-entry table r again t lo hi ht ∙ rw (lt-leb 128 (standsAt table r t) h) e))
+
+      -- a third of a row of maximum 2
+      pub third-refused : again ≡ true → eqb (standsAt table r t) r ≡ true → eqb (maxOf r) 2 ≡ true → RowAfter table r again t 0
+      third-refused p q s = by-entry 0 (rw (p, q, s))
+
+      -- a row of another maximum once more
+      pub other-maximum : again ≡ true → eqb (standsAt table r t) r ≡ true → eqb (maxOf r) 2 ≡ false
+          → RowAfter table r again t (standsAt table r t)
+      other-maximum p q s = by-entry (standsAt table r t) (rw (p, q, s))
+
+      -- another row after one that stands right behind itself
+      pub other-row : again ≡ true → eqb (standsAt table r t) r ≡ false → RowAfter table r again t (standsAt table r t)
+      other-row p q = by-entry (standsAt table r t) (rw (p, q))
+
+      -- any row after one that stands once
+      pub first-time : again ≡ false → RowAfter table r again t (standsAt table r t)
+      first-time p = by-entry (standsAt table r t) (rw p)

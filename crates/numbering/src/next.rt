@@ -11,8 +11,11 @@ use rows::tags::NO_TAG;
 use rows::tags::ST;
 use rows::tags::TAG_COUNT;
 
-// For each row, 1 to 79, a line of 34 entries: the row that may follow with that tag, or 128 and the tag's number where none may. So no two
-// neighbours are equal, and the table, which is copied at each use, is copied faster.
+// Where no row may follow, the entry is this and the tag's number.
+const NONE: u8 = 128;
+
+// For each row, 1 to 79, a line of 34 entries: the row that may follow with that tag, or none. No two neighbours are equal, so that the table,
+// which is copied at each use, is copied faster.
 const NEXT: [u8; ENTRIES] = *b"\
     \x80\x02\x82\x83\x84\x85\x86\x87\x88\x89\x8a\x8b\x8c\x8d\x8e\x8f\x90\x91\x92\x93\x94\x95\x96\x97\x98\x99\x9a\x9b\x9c\x9d\x9e\x9f\xa0\xa1\
     \x80\x81\x03\x04\x05\x06\x09\x0c\x88\x89\x8a\x8b\x12\x8d\x8e\x8f\x90\x91\x92\x93\x94\x95\x96\x97\x98\x99\x9a\x9b\x9c\x9d\x9e\x9f\xa0\xa1\
@@ -102,8 +105,8 @@ pub fn next_table() -> [u8; ENTRIES]
     NEXT
 }
 
-// The row that comes after `row` with that tag number, 0 for none. `row` is 0 where nothing is read yet; `again` says that it stands for
-// the second time in a row.
+// The row that comes after `row` with that tag number, 0 for none. `row` is 0 where nothing is read yet; `again` says that it stands
+// right behind itself.
 pub fn row_after(table: &[u8; ENTRIES], row: u8, again: bool, tag: u8) -> u8
     ensures { λ r. ⌜ RowAfter (now (table .entry)) row again tag r ⌝ }
 {
@@ -119,7 +122,7 @@ pub fn row_after(table: &[u8; ENTRIES], row: u8, again: bool, tag: u8) -> u8
     }
     let next = table[(row as usize - 1) * TAG_COUNT + tag as usize];
     // No row may follow with that tag.
-    if 128 <= next {
+    if NONE <= next {
         return 0;
     }
     // No third of a row whose maximum is 2.

@@ -1,5 +1,5 @@
--- The rows that may follow a row, computed from what is left after it: its state, where it stands for the first time in a row, and where
--- it stands again. Five computed checks over all rows say that each next row leads to its own state, and that again all may follow but a
+-- The rows that may follow a row, computed from what is left after it: its state, where it stands once, and where it stands again, right
+-- behind itself. Five computed checks over all rows say that each next row leads to its own state, and that again all may follow but a
 -- third.
 -- Assumes nothing.
 use mathlib.Core.Path.{_≡_, refl, ap}
@@ -36,7 +36,7 @@ firstLeft (e ∷ es) = e .left
 unfoldable pub follow : ℕ → List ℕ
 follow r = numbers (nexts (after r))
 
--- what is left after row r, which stands there for the first time in a row, or again; the two differ where the maximum is 2
+-- what is left after row r, which stands there once, or again; the two differ where the maximum is 2
 unfoldable pub state : ℕ → Bool → List Items
 state r false = after r
 state r true = cond (eqb (maxOf r) 2) (firstLeft (nexts (after r))) (after r)
@@ -109,7 +109,7 @@ module _ (c : Bool) (r : ℕ) where
   pub idle-79 : r < 80 → idles (state r c) ≡ eqb r 79
   idle-79 h = tab-at 80 (λ r. idles (state r c)) (λ r. eqb r 79) (checked-idle c) r h
 
--- the rows that may follow row r, which stands there for the first time in a row, or again
+-- the rows that may follow row r, which stands there once, or again
 unfoldable pub followers : ℕ → Bool → List ℕ
 followers r c = numbers (nexts (state r c))
 

@@ -1,5 +1,5 @@
 -- The language of 842's row list is local, the maximum of 2 counted apart: a list of rows is viable exactly if it starts at row 1, each row
--- is among those that may follow the one before, and no row of maximum 2 stands three times in a row. Here "may follow" is computed: what
+-- is among those that may follow the one before, and no row of maximum 2 stands three times running. Here "may follow" is computed: what
 -- is left depends only on the last row and on whether it stands there again, so a word is read as a run from state to state.
 -- Assumes nothing.
 use mathlib.Core.Path.{_≡_, refl, ap, sym, subst, _∙_}
@@ -19,7 +19,7 @@ use Rattle.rows.proofs.Derivative.{Reads, OneOf, Begins, reads-begins, 
 use Rattle.rows.proofs.Followers.{numbers, lefts, to, state, follow, followers, without}
 use Rattle.rows.proofs.Followers.{lefts-to, idle-79, follower-range, first-follow, again-follow, start-follow}
 
--- no row of maximum 2 stands three times in a row, which is a third time in one pass
+-- no row of maximum 2 stands three times running, which is a third time in one pass
 abbrev pub NoThird : List ℕ → Type 0
 NoThird w = (a b : List ℕ) (r : ℕ) → maxOf r ≡ 2 → w ≡ a ++ (r ∷ r ∷ r ∷ b) → ⊥
 

@@ -61,7 +61,7 @@ test-runs (x ∷ w) r c h = (
   test-runs w x (eqb x r) (second-of (among (followers r c) x) (runs x (eqb x r) w) h),
 )
 
--- each row is reached, and stands there for the first time in a row
+-- each row is reached, and stands there once
 reached : ℕ → Bool
 reached r = runs 0 false (leading r ++ (r ∷ [])) && not (twice 0 false (leading r ++ (r ∷ [])))
 

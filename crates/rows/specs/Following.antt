@@ -33,7 +33,7 @@ abbrev pub lastOf : ℕ → List ℕ → ℕ
 lastOf r [] = r
 lastOf r (x ∷ w) = lastOf x w
 
--- the last row of w stands there for the second time in a row, or more; r comes before w, and `already` is the answer for r
+-- the last row of w stands right behind itself; r comes before w, and `already` is the answer for r
 abbrev pub twice : ℕ → Bool → List ℕ → Bool
 twice r already [] = already
 twice r already (x ∷ w) = twice x (eqb x r) w

@@ -20,7 +20,7 @@ pub record Allowed (maximum : ℕ) (mandatory : Bool) (count : ℕ) : Type 0 whe
   pub within : (maximum ≡ 0 → ⊥) → count ≤ maximum
   pub present : T mandatory → 1 ≤ count
 
--- The rows of a pass stand in order: a row its permitted number of times in a row; a loop in any number of passes, at
+-- The rows of a pass stand in order: a row its permitted number of times, one after the other; a loop in any number of passes, at
 -- least one if mandatory, each its opening row once and then a word of the body
 pub data Word : Items → List ℕ → Type 0 where
   done : Word end []

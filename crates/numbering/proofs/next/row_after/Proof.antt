@@ -6,30 +6,22 @@ use native.Mathlib.Omega.{arith}
 use borrow.Author.Needs.{needs}
 use borrow.Author.Tests.{leb-true, leb-false}
 use Prim.Native.Nat.{_≤_, _<_}
-use Rattle.numbering.proofs.Lookup.{answer-means, start-st, start-other, row-outside, tag-outside, no-row, third-refused, other-maximum, other-row, first-time}
+use Rattle.numbering.proofs.Lookup.{start-st, start-other, row-outside, tag-outside, no-row, third-refused, other-maximum, other-row, first-time}
 use Rattle.numbering.proofs.next.row_after.Statement.{statement}
 use Rattle.numbering.proofs.next.row_after.Tie as tie
 
 returns : tie.Need-returns
-returns c =
-    let a = c .before .before .args in
-    answer-means _ _ _ _ _ (start-st (a .table .now) (a .row) (a .again) (a .tag) (c .before .if1 .taken) (c .if2 .taken))
+returns c = start-st (c .before .if1 .taken) (c .if2 .taken)
 
 returns-2 : tie.Need-returns-2
-returns-2 c =
-    let a = c .before .before .args in
-    answer-means _ _ _ _ _ (start-other (a .table .now) (a .row) (a .again) (a .tag) (c .before .if1 .taken) (c .if2 .left))
+returns-2 c = start-other (c .before .if1 .taken) (c .if2 .left)
 
 returns-3 : tie.Need-returns-3
 returns-3 c =
-    let a = c .before .before .args in
-    answer-means _ _ _ _ _
-    (⊎-elim
-    (λ w. row-outside (a .table .now) (a .row) (a .again) (a .tag) (c .before .if1 .left) (w .taken))
-    (λ w.
-    tag-outside (a .table .now) (a .row) (a .again) (a .tag) (c .before .if1 .left) (omega (arith, w .0 .left))
-    (leb-true 34 (a .tag) (w .1 .taken)))
-    (c .if3 .came))
+    ⊎-elim
+    (λ w. row-outside (c .before .if1 .left) (w .taken))
+    (λ w. tag-outside (leb-true 34 (c .before .before .args .tag) (w .1 .taken)))
+    (c .if3 .came)
 
 -- past the first tests the row is 1 to 79 and the tag number below 34
 low : (c : tie.Else4) → 1 ≤ c .before .before .before .args .row
@@ -42,39 +34,29 @@ tag-in : (c : tie.Else4) → c .before .before .before .args .tag < 34
 tag-in c = leb-false 34 (c .before .before .before .args .tag) (c .if4 .left)
 
 element-copy-out-next : tie.Need-element-copy-out-next
-element-copy-out-next c = omega (arith, leb-false 34 (c .before .before .before .args .tag) (c .if4 .left))
+element-copy-out-next c = let h = tag-in c in omega arith
 
 returns-4 : tie.Need-returns-4
-returns-4 c =
-    let k = c .before .before in
-    let a = k .before .before .before .args in
-    answer-means _ _ _ _ _
-    (no-row (a .table .now) (a .row) (a .again) (a .tag) (low k) (high k) (tag-in k) (c .if5 .taken))
+returns-4 c = let k = c .before .before in no-row (low k) (high k) (tag-in k) (c .if5 .taken)
 
 returns-5 : tie.Need-returns-5
 returns-5 c =
     let n = c .before .before .before .before in
     let k = n .before .before in
-    let a = k .before .before .before .args in
-    answer-means _ _ _ _ _
-    (third-refused (a .table .now) (a .row) (a .again) (a .tag) (low k) (high k) (tag-in k) (n .if5 .left)
-    (c .before .before .before .if6 .taken) (c .before .before .if7 .taken) (sym (c .before .at-most-two .ensures) ∙ c .if8 .taken))
+    third-refused (low k) (high k) (tag-in k) (n .if5 .left) (c .before .before .before .if6 .taken)
+    (c .before .before .if7 .taken) (sym (c .before .at-most-two .ensures) ∙ c .if8 .taken)
 
 returns-6 : tie.Need-returns-6
 returns-6 c =
     let n = c .before in
     let k = n .before .before in
-    let a = k .before .before .before .args in
     let h = n .if5 .left in
-    answer-means _ _ _ _ _
+    ⊎-elim
+    (λ w. other-maximum (low k) (high k) (tag-in k) h (w .0 .taken) (w .1 .taken) (sym (w .2 .ensures) ∙ w .3 .left))
     (⊎-elim
-    (λ w.
-    other-maximum (a .table .now) (a .row) (a .again) (a .tag) (low k) (high k) (tag-in k) h (w .0 .taken) (w .1 .taken)
-    (sym (w .2 .ensures) ∙ w .3 .left))
-    (⊎-elim
-    (λ w. other-row (a .table .now) (a .row) (a .again) (a .tag) (low k) (high k) (tag-in k) h (w .0 .taken) (w .1 .left))
-    (λ w. first-time (a .table .now) (a .row) (a .again) (a .tag) (low k) (high k) (tag-in k) h (w .left)))
-    (c .if6 .came))
+    (λ w. other-row (low k) (high k) (tag-in k) h (w .0 .taken) (w .1 .left))
+    (λ w. first-time (low k) (high k) (tag-in k) h (w .left)))
+    (c .if6 .came)
 
 pub row-after-spec : {M : Type 1} → statement M
 row-after-spec =
