@@ -25,7 +25,7 @@ use Rattle.rows.specs.Next.{nextOf}
 use Rattle.rows.specs.Following.{Fits, lastOf}
 use Rattle.rows.proofs.Fit.{fits-tag}
 use Rattle.rows.proofs.Follow.{viable-range, last-range, viable-iff, viable-nil, viable-word}
-use Rattle.elements.specs.Types.{isId}
+use Rattle.types.specs.Types.{isId}
 use Rattle.elements.specs.Checks.{Keeps}
 use Rattle.levels.specs.Levels.{textOf, claimOf, Level, called, levelAt}
 use Rattle.levels.specs.Rules.{levelChecks, filled}

@@ -19,7 +19,7 @@ use Rattle.text.proofs.Everys.{every-at}
 use Rattle.text.proofs.Bools.{both, first-of, second-of, or-left, or-right, or-false, and-true}
 use Rattle.elements.specs.Checks.{each, Keeps}
 use Rattle.elements.specs.Rules.{lastFilled, endsWell, endChecks}
-use Rattle.elements.proofs.Presence.{some as filled, present-pieces}
+use Rattle.elements.proofs.PresentPieces.{some as filled, present-pieces}
 use Rattle.reading.proofs.CutBytes.{keeps-of, every-of, every-snoc}
 use Rattle.reading.proofs.Laws.{keeps-at}
 

@@ -16,7 +16,7 @@ use Rattle.text.proofs.View.{Fitted, view-written, written-free, view-well-form
 use Rattle.elements.specs.Checks.{firstBroken}
 use Rattle.elements.specs.declared.verdict.Verdict.{Verdict}
 use Rattle.elements.specs.declared.verdict.Verdict.the-variants.{Holds, Broken}
-use Rattle.elements.proofs.Verdicts.{each-every}
+use Rattle.elements.proofs.FirstBroken.{each-every}
 use Rattle.reading.specs.Segments.{seen}
 use Rattle.reading.specs.Records.{segmentRecords}
 use Rattle.reading.specs.Reads.{cutBy, skipBy}
