@@ -21,7 +21,7 @@ use Rattle.elements.specs.Checks.{check, each, decide, firstBroken}
 use Rattle.elements.specs.Rules.{byteChecks}
 use Rattle.elements.specs.declared.verdict.Verdict.{Verdict}
 use Rattle.elements.specs.declared.verdict.Verdict.the-variants.{Holds, Broken}
-use Rattle.elements.proofs.Verdicts.{eachOf, each-of}
+use Rattle.elements.proofs.FirstBroken.{eachOf, each-of}
 
 -- the first byte that is no separator and not good, where k element separators stand before: it breaks the test with this number
 abbrev pub badFrom : (number : ℕ) (good : ℕ → Bool) (element component k : ℕ) → Bytes → Verdict

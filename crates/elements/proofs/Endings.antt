@@ -19,7 +19,7 @@ use Rattle.elements.specs.Checks.{Check, check, each, decide, firstBroke
 use Rattle.elements.specs.Rules.{endsWell, endChecks}
 use Rattle.elements.specs.declared.verdict.Verdict.{Verdict}
 use Rattle.elements.specs.declared.verdict.Verdict.the-variants.{Holds, Broken}
-use Rattle.elements.proofs.Presence.{some, some-length, present-pieces, filledBehind, last-pieces}
+use Rattle.elements.proofs.PresentPieces.{some, some-length, present-pieces, filledBehind, last-pieces}
 
 -- the pass: k element separators stand before; `bare`: the element has no byte so far; `hollow`: its last component has none
 abbrev pub endsFrom : (element component k : ℕ) (bare hollow : Bool) → Bytes → Verdict

@@ -8,8 +8,7 @@ use native.Mathlib.Omega.{arith}
 use Rattle.text.proofs.Bools.{or-assoc, or-false}
 use Rattle.elements.specs.Checks.{firstBroken}
 use Rattle.elements.specs.Data.{Note, Paired, Required, Conditional, pairsFrom}
-use Rattle.elements.specs.Rules.{noteHolds, namedFirst}
-use Rattle.elements.specs.Post.{noteTests}
+use Rattle.elements.specs.Rules.{noteHolds, namedFirst, noteChecks}
 use Rattle.elements.specs.declared.verdict.Verdict.{Verdict}
 use Rattle.elements.specs.declared.verdict.Verdict.the-variants.{Holds, Broken}
 
@@ -46,7 +45,7 @@ module _ (there : ℕ → Bool) (a b : ℕ) {x y : Bool} (p : x ≡ there a) (q 
 
 module _ (there : ℕ → Bool) where
   abbrev verdict : List Note → Verdict
-  verdict ns = firstBroken (noteTests ns there)
+  verdict ns = firstBroken (noteChecks ns there)
 
   -- a note that is broken decides; one that holds leaves it to those behind it
   pub note-broken : (n : Note) (ns : List Note) → noteHolds there n ≡ false → Broken 11 (namedFirst n) ≡ verdict (n ∷ ns)

@@ -4,8 +4,8 @@ use Prim.Native.Nat.{ℕ, zero, suc, _+_}
 use mathlib.Core.Bool.{Bool, true, false}
 use mathlib.Core.List.{List, [], _∷_, _++_}
 use Rattle.rows.specs.Tags.{tag}
-use Rattle.elements.specs.declared.types.Kind.{Kind}
-use Rattle.elements.specs.declared.types.Kind.the-variants.{AN, ID, Set842, N0, R, DT, TM}
+use Rattle.types.specs.declared.kind.Kind.{Kind}
+use Rattle.types.specs.declared.kind.Kind.the-variants.{AN, ID, Set842, N0, R, DT, TM}
 
 -- one value: its type, its least and its most length
 pub record Value : Type 0 where
@@ -88,13 +88,19 @@ abbrev pub rulesNTE : Rules
 rulesNTE = record { elements = may ID 3 3 ∷ must AN 1 80 ∷ []; notes = [] }
 
 -- NCA05's fifteen components: five times ID 2/2, R 1/15, R 1/10
+abbrev pub firstUnit : Value
+firstUnit = value ID 2 2
+
 abbrev pub unitValues : List Value
-unitValues = times 5 (value ID 2 2 ∷ value R 1 15 ∷ value R 1 10 ∷ [])
+unitValues = times 5 (firstUnit ∷ value R 1 15 ∷ value R 1 10 ∷ [])
+
+abbrev pub units : Element
+units = record { must = false; shape = Composite unitValues }
 
 -- NCA: R0203, P0405
 abbrev pub rulesNCA : Rules
 rulesNCA = record {
-  elements = may AN 1 20 ∷ may ID 1 2 ∷ may AN 1 80 ∷ may R 1 15 ∷ record { must = false; shape = Composite unitValues } ∷ [];
+  elements = may AN 1 20 ∷ may ID 1 2 ∷ may AN 1 80 ∷ may R 1 15 ∷ units ∷ [];
   notes = Required (2 ∷ 3 ∷ []) ∷ Paired (4 ∷ 5 ∷ []) ∷ [];
 }
 

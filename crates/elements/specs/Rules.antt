@@ -8,10 +8,10 @@ use lib.ListN.{length, getD}
 use Rattle.text.specs.Bytes.{every, any}
 use Rattle.text.specs.Separators.{printable}
 use Rattle.text.specs.View.{Piece, View, present, elementOf, elementCount}
-use Rattle.elements.specs.Types.{fits}
+use Rattle.types.specs.Types.{fits}
 use Rattle.elements.specs.Data.{Value, Shape, Simple, Composite, Element, Note, Paired, Required, Conditional, Rules, ElementProfile, may}
 use Rattle.elements.specs.Checks.{Check, check, each}
-use Rattle.elements.specs.declared.types.Kind.the-variants.{AN}
+use Rattle.types.specs.declared.kind.Kind.the-variants.{AN}
 
 -- 5, a byte that is neither data nor a separator; the tag is element 0. A view holds no separator, so its bytes are data exactly if they are printable
 abbrev pub dataPiece : Piece → Bool
@@ -42,15 +42,18 @@ abbrev pub ruleOf : Rules → ℕ → Element
 ruleOf rules zero = unruled
 ruleOf rules (suc k) = getD (rules .elements) k unruled
 
--- more components than a composite has
+-- a composite has no more components than its rule; of one value rule 10 asks for one component
 abbrev pub fewComponents : Shape → Piece → Bool
 fewComponents (Simple x) p = true
 fewComponents (Composite xs) p = leb (length p) (length xs)
 
+-- the element has a rule, and no component too many
+abbrev pub fewBy : Rules → ℕ → Piece → Bool
+fewBy rules k p = leb k (length (rules .elements)) && fewComponents (ruleOf rules k .shape) p
+
 -- 9: an element past the last ruled one, or a component too many
 abbrev pub tooManyChecks : Rules → View → List Check
-tooManyChecks rules v =
-    each 9 1 (elementCount v) (λ (k : ℕ). leb k (length (rules .elements)) && fewComponents (ruleOf rules k .shape) (elementOf v k))
+tooManyChecks rules v = each 9 1 (elementCount v) (λ (k : ℕ). fewBy rules k (elementOf v k))
 
 -- the first component has a byte
 abbrev pub firstFilled : Piece → Bool
@@ -62,11 +65,13 @@ abbrev pub headed : Shape → Piece → Bool
 headed (Simple x) p = true
 headed (Composite xs) p = not (present p) || firstFilled p
 
+-- what is mandatory is there
+abbrev pub completeBy : Element → Piece → Bool
+completeBy e p = (not (e .must) || present p) && headed (e .shape) p
+
 -- 8: an element that must be there is not
 abbrev pub missingChecks : Rules → View → List Check
-missingChecks rules v =
-    each 8 1 (length (rules .elements))
-    (λ (k : ℕ). (not (ruleOf rules k .must) || present (elementOf v k)) && headed (ruleOf rules k .shape) (elementOf v k))
+missingChecks rules v = each 8 1 (length (rules .elements)) (λ (k : ℕ). completeBy (ruleOf rules k) (elementOf v k))
 
 -- a ruled element that is no composite has one component
 abbrev pub fitsSimple : Value → Piece → Bool
@@ -84,10 +89,13 @@ abbrev pub fitsShape : Shape → Piece → Bool
 fitsShape (Simple x) p = fitsSimple x p
 fitsShape (Composite xs) p = fitsEach xs p
 
+-- the element is absent, or fits its type and length
+abbrev pub suitsBy : Element → Piece → Bool
+suitsBy e p = not (present p) || fitsShape (e .shape) p
+
 -- 10: an element that is there and does not fit its type or length; ST01 has one value, `842`
 abbrev pub unfitChecks : Rules → View → List Check
-unfitChecks rules v =
-    each 10 1 (length (rules .elements)) (λ (k : ℕ). not (present (elementOf v k)) || fitsShape (ruleOf rules k .shape) (elementOf v k))
+unfitChecks rules v = each 10 1 (length (rules .elements)) (λ (k : ℕ). suitsBy (ruleOf rules k) (elementOf v k))
 
 -- whether the note holds, where `there` tells which elements are present
 abbrev pub noteHolds : (ℕ → Bool) → Note → Bool
@@ -102,13 +110,17 @@ namedFirst (Required ks) = getD ks 0 0
 namedFirst (Conditional k ks) = k
 
 -- 11: the first note, as they are listed, that does not hold
-abbrev pub noteChecks : List Note → View → List Check
-noteChecks [] v = []
-noteChecks (n ∷ ns) v = check 11 (namedFirst n) (noteHolds (λ (k : ℕ). present (elementOf v k)) n) ∷ noteChecks ns v
+abbrev pub noteChecks : List Note → (ℕ → Bool) → List Check
+noteChecks [] there = []
+noteChecks (n ∷ ns) there = check 11 (namedFirst n) (noteHolds there n) ∷ noteChecks ns there
+
+-- whether element k is present
+abbrev pub presentAt : View → ℕ → Bool
+presentAt v k = present (elementOf v k)
 
 -- 9, 8, 10 and 11 of a ruled segment
 abbrev pub checksBy : Rules → View → List Check
-checksBy rules v = tooManyChecks rules v ++ missingChecks rules v ++ unfitChecks rules v ++ noteChecks (rules .notes) v
+checksBy rules v = tooManyChecks rules v ++ missingChecks rules v ++ unfitChecks rules v ++ noteChecks (rules .notes) (presentAt v)
 
 -- of a segment with that tag; a plain segment has none
 abbrev pub checksAmong : List (ℕ × Rules) → ℕ → View → List Check

@@ -6,14 +6,15 @@ ghost use lib.Dec.{eqb, leb};
 ghost use lib.ListN.{length};
 ghost use Rattle.text.specs.Bytes.{every};
 ghost use Rattle.text.specs.Pieces.{pieces};
-ghost use Rattle.elements.specs.Types.{countOf};
+ghost use Rattle.types.specs.Types.{countOf};
 ghost use Rattle.elements.specs.Data.{value, unitValues};
-ghost use Rattle.elements.specs.Rules.{fitsSimple, fitsEach};
-ghost use Rattle.elements.specs.Noted.{notedComponents};
-ghost use Rattle.elements.specs.Post.{Upto, fitsUnit, elementBy, completeBy, suitsBy};
+ghost use Rattle.elements.specs.Rules.{completeBy, fitsSimple, fitsEach, suitsBy};
+ghost use Rattle.elements.specs.internal.Layouts.{componentsBy};
+ghost use Rattle.elements.specs.internal.Components.{Upto, fitsUnit};
+ghost use Rattle.elements.specs.internal.Verdicts.{elementBy};
 use crate::rules::Rule;
-use crate::types;
-use crate::types::Kind;
+use types::kind::Kind;
+use types::values;
 
 // Whether no byte of the part is the separator.
 fn is_free(p: &[u8], separator: u8) -> bool
@@ -68,12 +69,12 @@ fn fits_unit(j: usize, p: &[u8]) -> bool
         return true;
     }
     if j % 3 == 0 {
-        return types::fits(Kind::ID, 2, 2, p);
+        return values::fits(Kind::ID, 2, 2, p);
     }
     if j % 3 == 1 {
-        return types::fits(Kind::R, 1, 15, p);
+        return values::fits(Kind::R, 1, 15, p);
     }
-    types::fits(Kind::R, 1, 10, p)
+    values::fits(Kind::R, 1, 10, p)
 }
 
 // Whether each component of the units is empty or fits.
@@ -97,18 +98,18 @@ fn fits_units(p: &[u8], separator: u8) -> bool
 }
 
 // Whether the units have no more than fifteen components.
-pub(crate) fn few_units(plain: bool, separator: u8, p: &[u8]) -> bool
-    ensures { λ r. ⌜ r ≡ leb (length (notedComponents plain separator (now (p .entry)))) 15 ⌝ }
+pub(crate) fn few_units(single: bool, separator: u8, p: &[u8]) -> bool
+    ensures { λ r. ⌜ r ≡ leb (length (componentsBy single separator (now (p .entry)))) 15 ⌝ }
 {
-    if plain {
+    if single {
         return true;
     }
     separator_count(p, separator) <= 14
 }
 
 // Whether nothing mandatory is missing of an element with that rule.
-pub(crate) fn is_complete(rule: Rule, plain: bool, separator: u8, p: &[u8]) -> bool
-    ensures { λ r. ⌜ r ≡ completeBy (elementBy rule) (notedComponents plain separator (now (p .entry))) ⌝ }
+pub(crate) fn is_complete(rule: Rule, single: bool, separator: u8, p: &[u8]) -> bool
+    ensures { λ r. ⌜ r ≡ completeBy (elementBy rule) (componentsBy single separator (now (p .entry))) ⌝ }
 {
     if p.len() == 0 {
         return !rule.must;
@@ -116,45 +117,45 @@ pub(crate) fn is_complete(rule: Rule, plain: bool, separator: u8, p: &[u8]) -> b
     if !rule.composite {
         return true;
     }
-    if plain {
+    if single {
         return true;
     }
     p[0] != separator
 }
 
-// Whether each component of the units is empty or fits, where the segment may be plain.
-fn suits_units(plain: bool, separator: u8, p: &[u8]) -> bool
-    ensures { λ r. ⌜ r ≡ fitsEach unitValues (notedComponents plain separator (now (p .entry))) ⌝ }
+// Whether each component of the units is empty or fits, where the segment may have no component separator.
+fn suits_units(single: bool, separator: u8, p: &[u8]) -> bool
+    ensures { λ r. ⌜ r ≡ fitsEach unitValues (componentsBy single separator (now (p .entry))) ⌝ }
 {
-    if plain {
+    if single {
         return fits_unit(0, p);
     }
     fits_units(p, separator)
 }
 
 // Whether an element of one value is one component, and fits.
-fn suits_value(rule: Rule, plain: bool, separator: u8, p: &[u8]) -> bool
-    ensures { λ r. ⌜ r ≡ fitsSimple (value (rule .kind) (rule .least) (rule .most)) (notedComponents plain separator (now (p .entry))) ⌝ }
+fn suits_value(rule: Rule, single: bool, separator: u8, p: &[u8]) -> bool
+    ensures { λ r. ⌜ r ≡ fitsSimple (value (rule .kind) (rule .least) (rule .most)) (componentsBy single separator (now (p .entry))) ⌝ }
 {
     let kind = rule.kind;
-    if plain {
-        return types::fits(kind, rule.least, rule.most, p);
+    if single {
+        return values::fits(kind, rule.least, rule.most, p);
     }
     if !is_free(p, separator) {
         return false;
     }
-    types::fits(kind, rule.least, rule.most, p)
+    values::fits(kind, rule.least, rule.most, p)
 }
 
 // Whether an element with that rule is absent, or its type and length fit.
-pub(crate) fn is_suited(rule: Rule, plain: bool, separator: u8, p: &[u8]) -> bool
-    ensures { λ r. ⌜ r ≡ suitsBy (elementBy rule) (notedComponents plain separator (now (p .entry))) ⌝ }
+pub(crate) fn is_suited(rule: Rule, single: bool, separator: u8, p: &[u8]) -> bool
+    ensures { λ r. ⌜ r ≡ suitsBy (elementBy rule) (componentsBy single separator (now (p .entry))) ⌝ }
 {
     if p.len() == 0 {
         return true;
     }
     if rule.composite {
-        return suits_units(plain, separator, p);
+        return suits_units(single, separator, p);
     }
-    suits_value(rule, plain, separator, p)
+    suits_value(rule, single, separator, p)
 }

@@ -1,9 +1,8 @@
 // What makes a segment right by itself.
 mod components;
-mod date;
+pub mod layout;
 pub mod ruled;
 mod rules;
 pub mod segment;
-pub mod types;
 mod usual;
 pub mod verdict;

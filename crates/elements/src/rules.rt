@@ -1,13 +1,16 @@
 // The rules of elements, by tag and element number.
 ghost use mathlib.Core.Path.{_≡_};
-ghost use lib.ListN.{length};
-ghost use Rattle.elements.specs.Data.{must, may, rulesST, rulesN1, rulesDTM, rulesHL, rulesLIN, rulesNTE, rulesNCA, rulesSE};
+ghost use mathlib.Core.Bool.{false};
+ghost use lib.ListN.{getD};
+ghost use Rattle.text.specs.Bytes.{bytes};
+ghost use Rattle.rows.specs.Tags.{tagNumber};
 ghost use Rattle.elements.specs.Rules.{ruleOf};
-ghost use Rattle.elements.specs.Post.{units, elementBy, rulesOf, lastMust};
-use crate::types::Kind;
+ghost use Rattle.elements.specs.internal.Verdicts.{Renders, rulesOf};
+ghost use Rattle.elements.specs.internal.Table.{noEntry, ruleTable, ruleBy, extentOf};
 use rows::tags;
+use types::kind::Kind;
 
-// One element: whether it is mandatory, whether it is a composite of units, and otherwise its type and lengths.
+// One element: whether it is mandatory, whether it is the composite of units, and its type and lengths, or those of its first component.
 pub(crate) struct Rule {
     pub must: bool,
     pub composite: bool,
@@ -16,203 +19,132 @@ pub(crate) struct Rule {
     pub most: usize,
 }
 
-// A mandatory element.
-fn must(kind: Kind, least: usize, most: usize) -> Rule
-    ensures { λ r. ⌜ elementBy r ≡ must kind least most ⌝ }
+// The fields of a rule, as they stand in the table.
+pub(crate) struct Entry(pub bool, pub bool, pub Kind, pub u8, pub u8);
+
+// The rules of a segment: where they start in the table, how many elements have one, and the last element that is mandatory.
+pub(crate) struct Extent {
+    pub first: usize,
+    pub last: usize,
+    pub needed: usize,
+}
+
+// LIN's rules are computed from the element number.
+const RULES: [Entry; 27] = [
+    Entry(true, false, Kind::Set842, 3, 3), // ST01
+    Entry(true, false, Kind::AN, 4, 9), // ST02
+    Entry(true, false, Kind::ID, 2, 3), // N101
+    Entry(false, false, Kind::AN, 1, 60), // N102
+    Entry(false, false, Kind::ID, 1, 2), // N103
+    Entry(false, false, Kind::AN, 2, 80), // N104
+    Entry(false, false, Kind::ID, 2, 2), // N105
+    Entry(false, false, Kind::ID, 2, 3), // N106
+    Entry(true, false, Kind::ID, 3, 3), // DTM01
+    Entry(false, false, Kind::DT, 8, 8), // DTM02
+    Entry(false, false, Kind::TM, 4, 8), // DTM03
+    Entry(false, false, Kind::ID, 2, 2), // DTM04
+    Entry(false, false, Kind::ID, 2, 3), // DTM05
+    Entry(false, false, Kind::AN, 1, 35), // DTM06
+    Entry(true, false, Kind::AN, 1, 12), // HL01
+    Entry(false, false, Kind::AN, 1, 12), // HL02
+    Entry(true, false, Kind::ID, 1, 2), // HL03
+    Entry(false, false, Kind::ID, 1, 1), // HL04
+    Entry(false, false, Kind::ID, 3, 3), // NTE01
+    Entry(true, false, Kind::AN, 1, 80), // NTE02
+    Entry(false, false, Kind::AN, 1, 20), // NCA01
+    Entry(false, false, Kind::ID, 1, 2), // NCA02
+    Entry(false, false, Kind::AN, 1, 80), // NCA03
+    Entry(false, false, Kind::R, 1, 15), // NCA04
+    Entry(false, true, Kind::ID, 2, 2), // NCA05
+    Entry(true, false, Kind::N0, 1, 10), // SE01
+    Entry(true, false, Kind::AN, 4, 9), // SE02
+];
+
+// The entry at a place of the table; past its end, one that asks for nothing.
+fn entry_at(place: usize) -> Entry
+    ensures { λ r. ⌜ r ≡ getD ruleTable place noEntry ⌝ }
 {
+    if 26 < place {
+        return Entry(false, false, Kind::AN, 0, 0);
+    }
+    RULES[place]
+}
+
+// The rule with these fields.
+fn rule_by(entry: Entry) -> Rule
+    ensures { λ r. ⌜ r ≡ ruleBy entry ⌝ }
+{
+    let kind = entry.2;
     Rule {
-        must: true,
-        composite: false,
+        must: entry.0,
+        composite: entry.1,
         kind,
-        least,
-        most,
+        least: entry.3 as usize,
+        most: entry.4 as usize,
     }
 }
 
-// An element that may be absent.
-fn may(kind: Kind, least: usize, most: usize) -> Rule
-    ensures { λ r. ⌜ elementBy r ≡ may kind least most ⌝ }
+// The rule of an element that is no composite.
+fn simple(must: bool, kind: Kind, least: u8, most: u8) -> Rule
+    ensures { λ r. ⌜ r ≡ ruleBy (must, false, kind, least, most) ⌝ }
 {
-    Rule {
-        must: false,
-        composite: false,
-        kind,
-        least,
-        most,
-    }
+    rule_by(Entry(must, false, kind, least, most))
 }
 
-// The composite of units.
-fn composite() -> Rule
-    ensures { λ r. ⌜ elementBy r ≡ units ⌝ }
+// The rule of element k of LIN: a number, then fifteen pairs of a qualifier and a value, the first of them mandatory.
+fn item_rule(k: usize) -> Rule
+    ensures { λ r. ⌜ Renders (ruleOf (rulesOf (tagNumber (bytes "LIN"))) k) r ⌝ }
 {
-    Rule {
-        must: false,
-        composite: true,
-        kind: Kind::AN,
-        least: 0,
-        most: 0,
+    if (k == 0) | (31 < k) {
+        return simple(false, Kind::AN, 0, 0);
     }
+    if k == 1 {
+        return simple(false, Kind::AN, 1, 20);
+    }
+    if k % 2 == 0 {
+        return simple(k == 2, Kind::ID, 2, 2);
+    }
+    simple(k == 3, Kind::AN, 1, 48)
 }
 
-// The rule of element k of ST.
-fn rule_st(k: usize) -> Rule
-    ensures { λ r. ⌜ elementBy r ≡ ruleOf rulesST k ⌝ }
+// The rules from `first` on.
+fn stretch(first: usize, last: usize, needed: usize) -> Extent
+    ensures { λ r. ⌜ r ≡ record { first = first; last = last; needed = needed } ⌝ }
 {
-    match k {
-        1 => must(Kind::Set842, 3, 3),
-        2 => must(Kind::AN, 4, 9),
-        _ => may(Kind::AN, 0, 0),
+    Extent {
+        first,
+        last,
+        needed,
     }
 }
 
-// Of N1.
-fn rule_n1(k: usize) -> Rule
-    ensures { λ r. ⌜ elementBy r ≡ ruleOf rulesN1 k ⌝ }
+// The rules of a segment with that tag; a plain segment has none.
+pub(crate) fn extent_of(tag: u8) -> Extent
+    ensures { λ r. ⌜ r ≡ extentOf tag ⌝ }
 {
-    match k {
-        1 => must(Kind::ID, 2, 3),
-        2 => may(Kind::AN, 1, 60),
-        3 => may(Kind::ID, 1, 2),
-        4 => may(Kind::AN, 2, 80),
-        5 => may(Kind::ID, 2, 2),
-        6 => may(Kind::ID, 2, 3),
-        _ => may(Kind::AN, 0, 0),
+    match tag {
+        tags::ST => stretch(0, 2, 2),
+        tags::N1 => stretch(2, 6, 1),
+        tags::DTM => stretch(8, 6, 1),
+        tags::HL => stretch(14, 4, 3),
+        tags::LIN => stretch(18, 31, 3),
+        tags::NTE => stretch(18, 2, 2),
+        tags::NCA => stretch(20, 5, 0),
+        tags::SE => stretch(25, 2, 2),
+        _ => stretch(27, 0, 0),
     }
 }
 
-// Of DTM.
-fn rule_dtm(k: usize) -> Rule
-    ensures { λ r. ⌜ elementBy r ≡ ruleOf rulesDTM k ⌝ }
-{
-    match k {
-        1 => must(Kind::ID, 3, 3),
-        2 => may(Kind::DT, 8, 8),
-        3 => may(Kind::TM, 4, 8),
-        4 => may(Kind::ID, 2, 2),
-        5 => may(Kind::ID, 2, 3),
-        6 => may(Kind::AN, 1, 35),
-        _ => may(Kind::AN, 0, 0),
-    }
-}
-
-// Of HL.
-fn rule_hl(k: usize) -> Rule
-    ensures { λ r. ⌜ elementBy r ≡ ruleOf rulesHL k ⌝ }
-{
-    match k {
-        1 => must(Kind::AN, 1, 12),
-        2 => may(Kind::AN, 1, 12),
-        3 => must(Kind::ID, 1, 2),
-        4 => may(Kind::ID, 1, 1),
-        _ => may(Kind::AN, 0, 0),
-    }
-}
-
-// Of LIN, pairs by the number's parity: an even one is ID 2/2, an odd one AN 1/48; the first pair is mandatory.
-fn rule_lin(k: usize) -> Rule
-    ensures { λ r. ⌜ elementBy r ≡ ruleOf rulesLIN k ⌝ }
-{
-    match k {
-        0 => may(Kind::AN, 0, 0),
-        1 => may(Kind::AN, 1, 20),
-        2 => must(Kind::ID, 2, 2),
-        3 => must(Kind::AN, 1, 48),
-        _ => {
-            if 31 < k {
-                return may(Kind::AN, 0, 0);
-            }
-            if k % 2 == 0 {
-                return may(Kind::ID, 2, 2);
-            }
-            may(Kind::AN, 1, 48)
-        }
-    }
-}
-
-// Of NTE.
-fn rule_nte(k: usize) -> Rule
-    ensures { λ r. ⌜ elementBy r ≡ ruleOf rulesNTE k ⌝ }
-{
-    match k {
-        1 => may(Kind::ID, 3, 3),
-        2 => must(Kind::AN, 1, 80),
-        _ => may(Kind::AN, 0, 0),
-    }
-}
-
-// Of NCA; element 5 is the composite.
-fn rule_nca(k: usize) -> Rule
-    ensures { λ r. ⌜ elementBy r ≡ ruleOf rulesNCA k ⌝ }
-{
-    match k {
-        1 => may(Kind::AN, 1, 20),
-        2 => may(Kind::ID, 1, 2),
-        3 => may(Kind::AN, 1, 80),
-        4 => may(Kind::R, 1, 15),
-        5 => composite(),
-        _ => may(Kind::AN, 0, 0),
-    }
-}
-
-// Of SE.
-fn rule_se(k: usize) -> Rule
-    ensures { λ r. ⌜ elementBy r ≡ ruleOf rulesSE k ⌝ }
-{
-    match k {
-        1 => must(Kind::N0, 1, 10),
-        2 => must(Kind::AN, 4, 9),
-        _ => may(Kind::AN, 0, 0),
-    }
-}
-
-// The rule of element k of a segment with that tag.
+// The rule of element k of a segment with that tag; one that asks for nothing where there is none.
 pub(crate) fn rule_of(tag: u8, k: usize) -> Rule
-    ensures { λ r. ⌜ elementBy r ≡ ruleOf (rulesOf tag) k ⌝ }
+    ensures { λ r. ⌜ Renders (ruleOf (rulesOf tag) k) r ⌝ }
 {
-    match tag {
-        tags::ST => rule_st(k),
-        tags::N1 => rule_n1(k),
-        tags::DTM => rule_dtm(k),
-        tags::HL => rule_hl(k),
-        tags::LIN => rule_lin(k),
-        tags::NTE => rule_nte(k),
-        tags::NCA => rule_nca(k),
-        tags::SE => rule_se(k),
-        _ => may(Kind::AN, 0, 0),
+    if tag == tags::LIN {
+        return item_rule(k);
     }
-}
-
-// The last element that the tag has a rule for; 0 where the segment is plain.
-pub(crate) fn last_of(tag: u8) -> usize
-    ensures { λ r. ⌜ r ≡ length (rulesOf tag .elements) ⌝ }
-{
-    match tag {
-        tags::ST => 2,
-        tags::N1 => 6,
-        tags::DTM => 6,
-        tags::HL => 4,
-        tags::LIN => 31,
-        tags::NTE => 2,
-        tags::NCA => 5,
-        tags::SE => 2,
-        _ => 0,
+    let extent = extent_of(tag);
+    if (k == 0) | (extent.last < k) {
+        return simple(false, Kind::AN, 0, 0);
     }
-}
-
-// The last element that is mandatory; 0 where none is.
-pub(crate) fn needed_of(tag: u8) -> usize
-    ensures { λ r. ⌜ r ≡ lastMust (rulesOf tag .elements) ⌝ }
-{
-    match tag {
-        tags::ST => 2,
-        tags::N1 => 1,
-        tags::DTM => 1,
-        tags::HL => 3,
-        tags::LIN => 3,
-        tags::NTE => 2,
-        tags::NCA => 0,
-        tags::SE => 2,
-        _ => 0,
-    }
+    rule_by(entry_at(extent.first + k - 1))
 }

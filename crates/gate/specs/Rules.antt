@@ -11,7 +11,7 @@ use lib.ListN.{length}
 use Rattle.text.specs.Bytes.{same}
 use Rattle.text.specs.View.{View, elementOf}
 use Rattle.rows.specs.Following.{Fits}
-use Rattle.elements.specs.Types.{valueOf}
+use Rattle.types.specs.Types.{valueOf}
 use Rattle.elements.specs.Checks.{Check, check, Keeps}
 use Rattle.elements.specs.Rules.{byteChecks, endChecks, ruledChecks}
 use Rattle.levels.specs.Levels.{claimOf, textOf}

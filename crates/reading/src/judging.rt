@@ -4,13 +4,14 @@ ghost use Rattle.text.specs.View.{viewOf};
 ghost use Rattle.rows.specs.Tags.{tagNumber};
 ghost use Rattle.rows.specs.NextTable.{NextTable};
 ghost use Rattle.elements.specs.Checks.{firstBroken};
-ghost use Rattle.elements.specs.Post.{notedElement};
+ghost use Rattle.elements.specs.internal.Layouts.{elementIn};
 ghost use Rattle.elements.specs.Rules.{endChecks};
 ghost use Rattle.reading.specs.internal.Judgements.{openingControl, notedClosing, Inside, segmentOf, brokenBy, JudgesHl, JudgesLate, KnownTag, JudgesNext};
 use crate::placing;
+use elements::layout;
+use elements::layout::Layout;
 use elements::ruled;
 use elements::segment;
-use elements::types;
 use elements::verdict::Verdict;
 use finding::filling;
 use finding::keys;
@@ -21,6 +22,7 @@ use numbering::next;
 use rows::tags;
 use text::compare;
 use text::lookup;
+use types::digits;
 
 // What the rules say of the next segment.
 pub(crate) enum Judgement {
@@ -32,16 +34,6 @@ pub(crate) enum Judgement {
     Level(u8, usize, usize, usize, usize),
     // The row of the SE that closes the transaction.
     Last(u8),
-}
-
-// The notes of one pass over the segment: where it starts and ends, how many elements it has, whether no component separator stands in
-// it, and whether its ends are well.
-pub(crate) struct Notes {
-    pub at: usize,
-    pub end: usize,
-    pub count: usize,
-    pub plain: bool,
-    pub ended: bool,
 }
 
 // What the reader carries from segment to segment: how many segments were passed, the last row, how many levels there are, whether the row
@@ -56,10 +48,10 @@ pub(crate) struct State {
 }
 
 // The number of the segment's tag.
-fn tag_of(s: &[u8], starts: &[usize; 33], notes: Notes) -> u8
-    ensures { λ r. ⌜ r ≡ tagNumber (notedElement (now (s .entry)) (now (starts .entry)) (notes .end) (notes .count) 0) ⌝ }
+fn tag_of(s: &[u8], starts: &[usize; 33], layout: Layout) -> u8
+    ensures { λ r. ⌜ r ≡ tagNumber (elementIn (now (s .entry)) (now (starts .entry)) layout 0) ⌝ }
 {
-    tags::tag_number(ruled::noted_element(s, starts, notes.end, notes.count, 0))
+    tags::tag_number(layout::element(s, starts, layout, 0))
 }
 
 // What the rules of levels say of an HL with that row.
@@ -67,18 +59,18 @@ fn judge_hl(
     s: &[u8],
     separator: u8,
     starts: &[usize; 33],
-    notes: Notes,
+    layout: Layout,
     state: State,
     segments: &[u64],
     levels: &[u64],
     row: u8,
 ) -> Judgement
-    ensures { λ r. ⌜ JudgesHl separator (now (s .entry)) (now (starts .entry)) notes state (now (segments .entry)) (now (levels .entry)) row r ⌝ }
+    ensures { λ r. ⌜ JudgesHl separator (now (s .entry)) (now (starts .entry)) layout state (now (segments .entry)) (now (levels .entry)) row r ⌝ }
 {
-    let id = ruled::noted_element(s, starts, notes.end, notes.count, 1);
-    let parent = ruled::noted_element(s, starts, notes.end, notes.count, 2);
-    let code = ruled::noted_element(s, starts, notes.end, notes.count, 3);
-    let mark = ruled::noted_element(s, starts, notes.end, notes.count, 4);
+    let id = layout::element(s, starts, layout, 1);
+    let parent = layout::element(s, starts, layout, 2);
+    let code = layout::element(s, starts, layout, 3);
+    let mark = layout::element(s, starts, layout, 4);
     let key = keys::id_key(id);
     match placing::judge_level(
         s,
@@ -118,23 +110,23 @@ fn judge_se(
     s: &[u8],
     separator: u8,
     starts: &[usize; 33],
-    notes: Notes,
+    layout: Layout,
     segments: &[u64],
     levels: &[u64],
     count: usize,
     known: usize,
 ) -> Verdict
-    ensures { λ r. ⌜ r ≡ firstBroken (notedClosing (now (s .entry)) separator (now (starts .entry)) (notes .end) (notes .count) (now (segments .entry)) (now (levels .entry)) count known) ⌝ }
+    ensures { λ r. ⌜ r ≡ firstBroken (notedClosing (now (s .entry)) separator (now (starts .entry)) layout (now (segments .entry)) (now (levels .entry)) count known) ⌝ }
 {
-    let total = ruled::noted_element(s, starts, notes.end, notes.count, 1);
-    let told = types::number_of(total);
+    let total = layout::element(s, starts, layout, 1);
+    let told = digits::number_of(total);
     if told == 0 {
         return Verdict::Broken(16, 1);
     }
     if told - 1 != count {
         return Verdict::Broken(16, 1);
     }
-    let control = ruled::noted_element(s, starts, notes.end, notes.count, 2);
+    let control = layout::element(s, starts, layout, 2);
     if !compare::same_bytes(control, opening_control(s, separator, segments)) {
         return Verdict::Broken(16, 2);
     }
@@ -145,12 +137,12 @@ fn judge_se(
 }
 
 // Rule 6 broken, where the pass found it so: the answer with its element.
-fn bad_end(s: &[u8], how: How, notes: Notes) -> Judgement
-    requires { ⌜ Inside (now s) notes ⌝ }
-    ensures { λ r. ⌜ r ≡ brokenBy (firstBroken (endChecks (viewOf (how .separators) (segmentOf (now (s .entry)) notes)))) ⌝ }
+fn bad_end(s: &[u8], how: How, layout: Layout) -> Judgement
+    requires { ⌜ Inside (now s) layout ⌝ }
+    ensures { λ r. ⌜ r ≡ brokenBy (firstBroken (endChecks (viewOf (how .separators) (segmentOf (now (s .entry)) layout)))) ⌝ }
 {
-    let at = notes.at;
-    let end = notes.end;
+    let at = layout.at;
+    let end = layout.end;
     match segment::end_verdict(&s[at..end], how.separators) {
         Verdict::Broken(number, element) => Judgement::Broken(number, element),
         Verdict::Holds => Judgement::Broken(6, 0),
@@ -162,25 +154,25 @@ fn judge_late(
     s: &[u8],
     how: How,
     starts: &[usize; 33],
-    notes: Notes,
+    layout: Layout,
     state: State,
     segments: &[u64],
     levels: &[u64],
     tag: u8,
     row: u8,
 ) -> Judgement
-    ensures { λ r. ⌜ JudgesLate (how .separators .element) (now (s .entry)) (now (starts .entry)) notes state (now (segments .entry)) (now (levels .entry)) tag row r ⌝ }
+    ensures { λ r. ⌜ JudgesLate (how .separators .element) (now (s .entry)) (now (starts .entry)) layout state (now (segments .entry)) (now (levels .entry)) tag row r ⌝ }
 {
     let separator = how.separators.element;
     if tag == tags::HL {
-        return judge_hl(s, separator, starts, notes, state, segments, levels, row);
+        return judge_hl(s, separator, starts, layout, state, segments, levels, row);
     }
     if tag == tags::SE {
         return match judge_se(
             s,
             separator,
             starts,
-            notes,
+            layout,
             segments,
             levels,
             state.count,
@@ -199,31 +191,23 @@ fn judge_known(
     how: How,
     table: &[u8; 2686],
     starts: &[usize; 33],
-    notes: Notes,
+    layout: Layout,
     state: State,
     segments: &[u64],
     levels: &[u64],
     tag: u8,
 ) -> Judgement
     requires { ⌜ NextTable (now table) ⌝ }
-    requires { ⌜ KnownTag (now s) (now starts) notes tag ⌝ }
-    ensures { λ r. ⌜ JudgesNext how (now (s .entry)) (now (starts .entry)) notes state (now (segments .entry)) (now (levels .entry)) r ⌝ }
+    requires { ⌜ KnownTag (now s) (now starts) layout tag ⌝ }
+    ensures { λ r. ⌜ JudgesNext how (now (s .entry)) (now (starts .entry)) layout state (now (segments .entry)) (now (levels .entry)) r ⌝ }
 {
     let row = next::row_after(table, state.row, state.again, tag);
     if row == 0 {
         return Judgement::Broken(7, 0);
     }
-    match ruled::ruled_verdict(
-        s,
-        starts,
-        notes.end,
-        notes.count,
-        notes.plain,
-        how.separators.component,
-        tag,
-    ) {
+    match ruled::ruled_verdict(s, starts, layout, how.separators.component, tag) {
         Verdict::Broken(number, element) => Judgement::Broken(number, element),
-        Verdict::Holds => judge_late(s, how, starts, notes, state, segments, levels, tag, row),
+        Verdict::Holds => judge_late(s, how, starts, layout, state, segments, levels, tag, row),
     }
 }
 
@@ -233,21 +217,21 @@ pub(crate) fn judge(
     how: How,
     table: &[u8; 2686],
     starts: &[usize; 33],
-    notes: Notes,
+    layout: Layout,
     state: State,
     segments: &[u64],
     levels: &[u64],
 ) -> Judgement
     requires { ⌜ NextTable (now table) ⌝ }
-    requires { ⌜ Inside (now s) notes ⌝ }
-    ensures { λ r. ⌜ JudgesNext how (now (s .entry)) (now (starts .entry)) notes state (now (segments .entry)) (now (levels .entry)) r ⌝ }
+    requires { ⌜ Inside (now s) layout ⌝ }
+    ensures { λ r. ⌜ JudgesNext how (now (s .entry)) (now (starts .entry)) layout state (now (segments .entry)) (now (levels .entry)) r ⌝ }
 {
-    let tag = tag_of(s, starts, notes);
+    let tag = tag_of(s, starts, layout);
     if tags::NO_TAG <= tag {
         return Judgement::Broken(4, 0);
     }
-    if !notes.ended {
-        return bad_end(s, how, notes);
+    if !layout.ended {
+        return bad_end(s, how, layout);
     }
-    judge_known(s, how, table, starts, notes, state, segments, levels, tag)
+    judge_known(s, how, table, starts, layout, state, segments, levels, tag)
 }

@@ -17,10 +17,10 @@ ghost use Rattle.reading.specs.internal.Settling.{between, refusedBy};
 use crate::cutting;
 use crate::cutting::Next;
 use crate::judging;
-use crate::judging::Notes;
 use crate::judging::State;
 use crate::settling;
 use crate::settling::Step;
+use elements::layout::Layout;
 use elements::segment;
 use elements::verdict::Verdict;
 use gate::answer::Answer;
@@ -114,11 +114,11 @@ fn read_on(
                 tail: upto,
                 seen: known,
             } => {
-                let notes = Notes {
+                let layout = Layout {
                     at,
                     end,
                     count,
-                    plain,
+                    single: plain,
                     ended,
                 };
                 let judgement = judging::judge(
@@ -126,12 +126,12 @@ fn read_on(
                     how,
                     table,
                     &starts,
-                    notes,
+                    layout,
                     state,
                     segments,
                     levels,
                 );
-                match settling::settle(judgement, notes, state, segments, levels) {
+                match settling::settle(judgement, layout, state, segments, levels) {
                     Step::Done(answer) => {
                         return answer;
                     }

@@ -4,9 +4,9 @@ ghost use Prim.Native.Nat.{_/_, _≤_, _<_, max};
 ghost use lib.ListN.{length};
 ghost use Rattle.reading.specs.internal.Settling.{stateAfter, refusedAt, acceptedAt, InRoom, SettlesBy, SettlesPlain, SettlesLevel, SettlesLast};
 use crate::judging::Judgement;
-use crate::judging::Notes;
 use crate::judging::State;
 use crate::storing;
+use elements::layout::Layout;
 use gate::answer::Answer;
 
 // What became of the next segment.
@@ -39,41 +39,47 @@ fn after(state: State, row: u8, known: usize, greatest: usize) -> State
 }
 
 // A refusal at the segment.
-fn refusal(number: usize, notes: Notes, state: State, element: usize) -> Step
+fn refusal(number: usize, layout: Layout, state: State, element: usize) -> Step
     requires { ⌜ state .count < 9000000000000000000 ⌝ }
-    ensures { λ r. ⌜ r ≡ refusedAt number notes state element ⌝ }
+    ensures { λ r. ⌜ r ≡ refusedAt number layout state element ⌝ }
 {
     Step::Done(Answer::Refused {
         number,
         segment: state.count + 1,
-        byte: notes.at,
+        byte: layout.at,
         element,
     })
 }
 
 // Acceptance with this segment as the last: how many segments and levels there are, and the bytes up to its terminator.
-fn acceptance(notes: Notes, state: State) -> Step
-    requires { ⌜ notes .end < 9000000000000000000 ⌝ }
+fn acceptance(layout: Layout, state: State) -> Step
+    requires { ⌜ layout .end < 9000000000000000000 ⌝ }
     requires { ⌜ state .count < 9000000000000000000 ⌝ }
-    ensures { λ r. ⌜ r ≡ acceptedAt notes state ⌝ }
+    ensures { λ r. ⌜ r ≡ acceptedAt layout state ⌝ }
 {
     Step::Done(Answer::Accepted {
         segments: state.count + 1,
         levels: state.known,
-        bytes: notes.end + 1,
+        bytes: layout.end + 1,
     })
 }
 
 // Passes a segment that makes no level, where there is room for its record.
-fn pass_plain(row: u8, notes: Notes, state: State, segments: &mut [u64]) -> Step
-    requires { ⌜ notes .at ≤ notes .end ⌝ }
+fn pass_plain(row: u8, layout: Layout, state: State, segments: &mut [u64]) -> Step
+    requires { ⌜ layout .at ≤ layout .end ⌝ }
     requires { ⌜ state .count ≤ length (now segments) / 3 ⌝ }
-    ensures { λ r. ⌜ SettlesPlain row notes state (now (segments .entry)) (now (segments .exit)) r ⌝ }
+    ensures { λ r. ⌜ SettlesPlain row layout state (now (segments .entry)) (now (segments .exit)) r ⌝ }
 {
     if !storing::segment_room(segments, state.count) {
-        return refusal(17, notes, state, 0);
+        return refusal(17, layout, state, 0);
     }
-    storing::put_segment(segments, state.count, notes.at, notes.end - notes.at, row);
+    storing::put_segment(
+        segments,
+        state.count,
+        layout.at,
+        layout.end - layout.at,
+        row,
+    );
     Step::Passed(after(state, row, state.known, state.greatest))
 }
 
@@ -84,54 +90,66 @@ fn pass_level(
     depth: usize,
     code: usize,
     key: usize,
-    notes: Notes,
+    layout: Layout,
     state: State,
     segments: &mut [u64],
     levels: &mut [u64],
 ) -> Step
-    requires { ⌜ InRoom (now segments) (now levels) notes state ⌝ }
-    ensures { λ r. ⌜ SettlesLevel row parent depth code key notes state (now (segments .entry)) (now (levels .entry)) (now (segments .exit)) (now (levels .exit)) r ⌝ }
+    requires { ⌜ InRoom (now segments) (now levels) layout state ⌝ }
+    ensures { λ r. ⌜ SettlesLevel row parent depth code key layout state (now (segments .entry)) (now (levels .entry)) (now (segments .exit)) (now (levels .exit)) r ⌝ }
 {
     if !storing::segment_room(segments, state.count) {
-        return refusal(17, notes, state, 0);
+        return refusal(17, layout, state, 0);
     }
     if !storing::level_room(levels, state.known) {
-        return refusal(17, notes, state, 0);
+        return refusal(17, layout, state, 0);
     }
-    storing::put_segment(segments, state.count, notes.at, notes.end - notes.at, row);
+    storing::put_segment(
+        segments,
+        state.count,
+        layout.at,
+        layout.end - layout.at,
+        row,
+    );
     storing::put_level(levels, state.known, state.count + 1, parent, depth, code);
     let greatest = greater(state.greatest, key);
     Step::Passed(after(state, row, state.known + 1, greatest))
 }
 
 // Accepts with this segment as the last, where there is room for its record.
-fn close(row: u8, notes: Notes, state: State, segments: &mut [u64]) -> Step
-    requires { ⌜ notes .at ≤ notes .end ⌝ }
-    requires { ⌜ notes .end < 1048576 ⌝ }
+fn close(row: u8, layout: Layout, state: State, segments: &mut [u64]) -> Step
+    requires { ⌜ layout .at ≤ layout .end ⌝ }
+    requires { ⌜ layout .end < 1048576 ⌝ }
     requires { ⌜ state .count ≤ length (now segments) / 3 ⌝ }
-    ensures { λ r. ⌜ SettlesLast row notes state (now (segments .entry)) (now (segments .exit)) r ⌝ }
+    ensures { λ r. ⌜ SettlesLast row layout state (now (segments .entry)) (now (segments .exit)) r ⌝ }
 {
     if !storing::segment_room(segments, state.count) {
-        return refusal(17, notes, state, 0);
+        return refusal(17, layout, state, 0);
     }
-    storing::put_segment(segments, state.count, notes.at, notes.end - notes.at, row);
-    acceptance(notes, state)
+    storing::put_segment(
+        segments,
+        state.count,
+        layout.at,
+        layout.end - layout.at,
+        row,
+    );
+    acceptance(layout, state)
 }
 
-// What the judgement on the segment that the notes name does.
+// What the judgement on the segment that the layout name does.
 pub(crate) fn settle(
     judgement: Judgement,
-    notes: Notes,
+    layout: Layout,
     state: State,
     segments: &mut [u64],
     levels: &mut [u64],
 ) -> Step
-    requires { ⌜ InRoom (now segments) (now levels) notes state ⌝ }
-    ensures { λ r. ⌜ SettlesBy judgement notes state (now (segments .entry)) (now (levels .entry)) (now (segments .exit)) (now (levels .exit)) r ⌝ }
+    requires { ⌜ InRoom (now segments) (now levels) layout state ⌝ }
+    ensures { λ r. ⌜ SettlesBy judgement layout state (now (segments .entry)) (now (levels .entry)) (now (segments .exit)) (now (levels .exit)) r ⌝ }
 {
     match judgement {
-        Judgement::Broken(number, element) => refusal(number, notes, state, element),
-        Judgement::Plain(row) => pass_plain(row, notes, state, segments),
+        Judgement::Broken(number, element) => refusal(number, layout, state, element),
+        Judgement::Plain(row) => pass_plain(row, layout, state, segments),
         Judgement::Level(row, parent, depth, code, key) => {
             pass_level(
                 row,
@@ -139,12 +157,12 @@ pub(crate) fn settle(
                 depth,
                 code,
                 key,
-                notes,
+                layout,
                 state,
                 segments,
                 levels,
             )
         }
-        Judgement::Last(row) => close(row, notes, state, segments),
+        Judgement::Last(row) => close(row, layout, state, segments),
     }
 }

@@ -17,12 +17,12 @@ use Rattle.text.specs.Separators.{Fitted}
 use Rattle.elements.specs.Checks.{firstBroken}
 use Rattle.elements.specs.declared.verdict.Verdict.{Verdict}
 use Rattle.elements.specs.declared.verdict.Verdict.the-variants.{Holds, Broken}
-use Rattle.elements.proofs.Verdicts.{each-every}
 use Rattle.gate.specs.Segments.{seen}
 use Rattle.gate.specs.Records.{segmentRecords}
 use Rattle.gate.specs.Reads.{cutBy, skipBy}
 use Rattle.gate.specs.Conditions.{usedBy}
 use Rattle.gate.specs.declared.how.How.{How}
+use Rattle.elements.proofs.FirstBroken.{each-every}
 use Rattle.rewriting.specs.Rewrites.{rewritten, apartFrom, collisionChecks, Clash, NoClash, ClashAt, orLater, collision}
 use Rattle.rewriting.specs.Laws.{separatedBy}
 use Rattle.rewriting.specs.Collisions.{newByte}

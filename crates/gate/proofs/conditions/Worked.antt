@@ -15,7 +15,7 @@ use Rattle.rows.specs.Rows.{list842}
 use Rattle.rows.specs.RowList.{rowAt, maxOf}
 use Rattle.rows.proofs.NextRows.{nextOf, after, edges842}
 use Rattle.rows.proofs.RowStep.{stepOf}
-use Rattle.elements.specs.Types.{isReal, daysIn, isDate, isTime, fits}
+use Rattle.types.specs.Types.{isReal, daysIn, isDate, isTime, fits}
 use Rattle.elements.specs.Rules.{byteChecks, endChecks, ruledChecks}
 use Rattle.levels.specs.Profile.{codeOf, mayStandAlone, mayBeMarked, mayHang}
 use Rattle.levels.specs.Rules.{filled}

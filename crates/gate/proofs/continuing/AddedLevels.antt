@@ -17,7 +17,7 @@ use Rattle.text.proofs.Bools.{both, first-of, second-of, or-left, or-right, or-
 use Rattle.text.proofs.Sames.{same-equal}
 use Rattle.text.proofs.Everys.{every-weaker}
 use Rattle.rows.specs.Tags.{tagNumber}
-use Rattle.elements.specs.Types.{isId}
+use Rattle.types.specs.Types.{isId}
 use Rattle.elements.specs.Checks.{Keeps}
 use Rattle.levels.specs.Profile.{codeOf, mayStandAlone, mayBeMarked, mayHang}
 use Rattle.levels.specs.Levels.{claimOf, Level, called, levelAt, levelOf}

@@ -16,11 +16,11 @@ use Rattle.text.proofs.Bools.{both, first-of, second-of, or-right, or-cases}
 use Rattle.text.proofs.Everys.{every-weaker, every-anywhere}
 use Rattle.text.proofs.View.{unseparated, wellFormed}
 use Rattle.rows.specs.Tags.{tag, tagNumber}
-use Rattle.elements.specs.Types.{isId, isNumber, fits}
+use Rattle.types.specs.Types.{isId, isNumber, fits}
 use Rattle.elements.specs.Data.{Rules, rulesHL, rulesSE}
 use Rattle.elements.specs.Checks.{Check, each, Keeps}
-use Rattle.elements.specs.Rules.{dataPiece, byteChecks, endChecks, tooManyChecks, missingChecks, unfitChecks, noteChecks, checksBy, ruledChecks}
-use Rattle.elements.specs.declared.types.Kind.the-variants.{AN, ID, N0}
+use Rattle.elements.specs.Rules.{dataPiece, byteChecks, endChecks, tooManyChecks, missingChecks, unfitChecks, noteChecks, checksBy, ruledChecks, presentAt}
+use Rattle.types.specs.declared.kind.Kind.the-variants.{AN, ID, N0}
 use Rattle.levels.specs.Profile.{LevelProfile}
 use Rattle.levels.specs.Levels.{claimOf, Level}
 use Rattle.levels.specs.Rules.{levelChecks}
@@ -167,12 +167,12 @@ seView count control = line "SE" (count ∷ control ∷ [])
 
 -- the four rules of a ruled segment, together
 ruled-kept : (rules : Rules) (v : View) → Keeps (tooManyChecks rules v) → Keeps (missingChecks rules v) → Keeps (unfitChecks rules v)
-    → Keeps (noteChecks (rules .notes) v) → Keeps (checksBy rules v)
+    → Keeps (noteChecks (rules .notes) (presentAt v)) → Keeps (checksBy rules v)
 ruled-kept rules v a b c d =
     let many = tooManyChecks rules v in
     let missing = missingChecks rules v in
     let unfit = unfitChecks rules v in
-    keeps-both (many ++ missing ++ unfit) (noteChecks (rules .notes) v) (keeps-both (many ++ missing) unfit (keeps-both many missing a b) c) d
+    keeps-both (many ++ missing ++ unfit) (noteChecks (rules .notes) (presentAt v)) (keeps-both (many ++ missing) unfit (keeps-both many missing a b) c) d
 
 -- a test of three
 all-three : {A : Type 0} (f : A → Bool) (x y z : A) → T (f x) → T (f y) → T (f z) → T (every f (x ∷ y ∷ z ∷ []))

@@ -26,7 +26,7 @@ use Rattle.rows.proofs.NextRows.{nextOf}
 use Rattle.rows.specs.Following.{Fits, lastOf}
 use Rattle.rows.proofs.FittingRow.{fits-tag}
 use Rattle.rows.proofs.Viability.{viable-range, last-range, viable-iff, viable-nil, viable-word}
-use Rattle.elements.specs.Types.{isId}
+use Rattle.types.specs.Types.{isId}
 use Rattle.elements.specs.Checks.{Keeps}
 use Rattle.levels.specs.Levels.{textOf, claimOf, Level, called, levelAt}
 use Rattle.levels.specs.Rules.{levelChecks, filled}

@@ -13,8 +13,8 @@ use Rattle.text.specs.Bytes.{Bytes, every, same}
 use Rattle.text.specs.Separators.{isDigit}
 use Rattle.text.proofs.Bools.{both, first-of, second-of}
 use Rattle.text.proofs.Everys.{every-append}
-use Rattle.elements.specs.Types.{valueOf}
-use Rattle.elements.proofs.Values.{value-snoc}
+use Rattle.types.specs.Types.{valueOf}
+use Rattle.types.proofs.Figures.{value-snoc}
 
 -- 1 where the test passes
 abbrev one : Bool → ℕ

@@ -19,11 +19,11 @@ use Rattle.text.proofs.Sames.{same-equal, same-self}
 use Rattle.text.proofs.Everys.{every-anywhere}
 use Rattle.text.proofs.View.{unseparated}
 use Rattle.rows.specs.Tags.{tag}
-use Rattle.elements.specs.Types.{fits}
+use Rattle.types.specs.Types.{fits}
 use Rattle.elements.specs.Data.{Rules, value, rulesST, rulesHL}
 use Rattle.elements.specs.Checks.{Keeps}
-use Rattle.elements.specs.Rules.{dataPiece, byteChecks, tooManyChecks, missingChecks, fitsSimple, unfitChecks, noteChecks, checksBy}
-use Rattle.elements.specs.declared.types.Kind.the-variants.{AN}
+use Rattle.elements.specs.Rules.{dataPiece, byteChecks, tooManyChecks, missingChecks, fitsSimple, unfitChecks, noteChecks, checksBy, presentAt}
+use Rattle.types.specs.declared.kind.Kind.the-variants.{AN}
 use Rattle.levels.specs.Profile.{codeOf, mayBeMarked}
 use Rattle.levels.specs.Levels.{textOf, claimOf, Level, called, levelAt, levelOf}
 use Rattle.levels.specs.Rules.{levelChecks, filledFrom, filled}
@@ -75,7 +75,7 @@ ruled-parts rules v k =
     let many = tooManyChecks rules v in
     let missing = missingChecks rules v in
     let unfit = unfitChecks rules v in
-    let a = keeps-split (many ++ missing ++ unfit) (noteChecks (rules .notes) v) k .0 in
+    let a = keeps-split (many ++ missing ++ unfit) (noteChecks (rules .notes) (presentAt v)) k .0 in
     let b = keeps-split (many ++ missing) unfit a in
     (keeps-split many missing (b .0) .1, b .1)
 

@@ -19,9 +19,9 @@ use Rattle.text.proofs.Sames.{same-equal}
 use Rattle.text.proofs.Pieces.{joined-pieces, pieces-free}
 use Rattle.rows.specs.Tags.{tag, tags, placeIn, tagNumber}
 use Rattle.elements.specs.Data.{Value, value, Simple, Rules, rulesHL, rulesSE, rulesST}
-use Rattle.elements.specs.declared.types.Kind.the-variants.{AN, ID, N0}
+use Rattle.types.specs.declared.kind.Kind.the-variants.{AN, ID, N0}
 use Rattle.elements.specs.Checks.{Keeps}
-use Rattle.elements.specs.Rules.{ruleOf, fitsSimple, fitsShape, tooManyChecks, missingChecks, unfitChecks, noteChecks, checksBy, ruledChecks}
+use Rattle.elements.specs.Rules.{ruleOf, fitsSimple, fitsShape, tooManyChecks, missingChecks, unfitChecks, noteChecks, checksBy, ruledChecks, presentAt}
 use Rattle.levels.specs.Levels.{textOf, claimOf}
 use Rattle.gate.specs.Profile.{nonconformance}
 use Rattle.gate.specs.Segments.{pieceTag, tagIn}
@@ -119,7 +119,7 @@ text-of-piece c s x t = by (pieces c s) (joined-pieces c s) t
 pub ruled-simple : (rules : Rules) (v : View) (x : Value) (k : ℕ) → 1 ≤ k → k ≤ length (rules .elements) → ruleOf rules k .shape ≡ Simple x
     → Keeps (checksBy rules v) → T (not (present (elementOf v k)) || fitsSimple x (elementOf v k))
 ruled-simple rules v x k l h e t =
-    let a = keeps-split (tooManyChecks rules v ++ missingChecks rules v ++ unfitChecks rules v) (noteChecks (rules .notes) v) t .0 in
+    let a = keeps-split (tooManyChecks rules v ++ missingChecks rules v ++ unfitChecks rules v) (noteChecks (rules .notes) (presentAt v)) t .0 in
     let b = keeps-split (tooManyChecks rules v ++ missingChecks rules v) (unfitChecks rules v) a .1 in
     let c =
     keeps-at 10 1 (length (rules .elements)) (λ (k : ℕ). not (present (elementOf v k)) || fitsShape (ruleOf rules k .shape) (elementOf v k)) b k l (omega arith) in

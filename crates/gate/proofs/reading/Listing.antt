@@ -16,7 +16,7 @@ use Rattle.text.proofs.CutLaws.{Faulty, CutLaw}
 use Rattle.text.proofs.DocumentCut.{cut-law}
 use Rattle.elements.specs.Data.{Note, Rules}
 use Rattle.elements.specs.Checks.{Check, each}
-use Rattle.elements.specs.Rules.{dataPiece, byteChecks, endsWell, endChecks, ruleOf, fewComponents, tooManyChecks, headed, missingChecks, fitsShape, unfitChecks, noteChecks, checksBy, checksAmong, ruledChecks}
+use Rattle.elements.specs.Rules.{dataPiece, byteChecks, endsWell, endChecks, ruleOf, fewComponents, tooManyChecks, headed, missingChecks, fitsShape, unfitChecks, noteChecks, checksBy, checksAmong, ruledChecks, presentAt}
 use Rattle.levels.specs.Levels.{claimOf, Level, levelAt, parentOf}
 use Rattle.levels.specs.Rules.{levelChecks, absent, rootChecks, childChecks}
 use Rattle.gate.specs.Profile.{Profile, nonconformance}
@@ -52,13 +52,13 @@ either false cs x = tt
 fault : (n : ℕ) → 4 ≤ n → n ≤ 16 → Fault n
 fault n a b = record { from = a; upto = b }
 
-notes-numbered : (ns : List Note) (v : View) → Numbered (noteChecks ns v)
+notes-numbered : (ns : List Note) (v : View) → Numbered (noteChecks ns (presentAt v))
 notes-numbered [] v = tt
 notes-numbered (n ∷ ns) v = (fault 11 (omega arith) (omega arith), notes-numbered ns v)
 
 by-numbered : (r : Rules) (v : View) → Numbered (checksBy r v)
 by-numbered r v =
-    both (tooManyChecks r v ++ missingChecks r v ++ unfitChecks r v) (noteChecks (r .notes) v)
+    both (tooManyChecks r v ++ missingChecks r v ++ unfitChecks r v) (noteChecks (r .notes) (presentAt v))
     (both (tooManyChecks r v ++ missingChecks r v) (unfitChecks r v)
     (both (tooManyChecks r v) (missingChecks r v)
     (all 9 1 (elementCount v) (λ (k : ℕ). leb k (length (r .elements)) && fewComponents (ruleOf r k .shape) (elementOf v k)) (fault 9 (omega arith) (omega arith)))

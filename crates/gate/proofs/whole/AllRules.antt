@@ -10,7 +10,7 @@ use Rattle.text.specs.Bytes.{Bytes}
 use Rattle.text.specs.View.{View, elementOf}
 use Rattle.text.proofs.Bools.{equal-eqb}
 use Rattle.text.proofs.Sames.{same-equal, equal-same}
-use Rattle.elements.specs.Types.{valueOf}
+use Rattle.types.specs.Types.{valueOf}
 use Rattle.elements.specs.Checks.{Keeps}
 use Rattle.elements.specs.Rules.{byteChecks, endChecks, ruledChecks}
 use Rattle.levels.specs.Levels.{textOf, levelsOf}

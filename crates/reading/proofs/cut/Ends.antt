@@ -19,9 +19,9 @@ use Rattle.text.proofs.Everys.{every-at}
 use Rattle.text.proofs.Bools.{both, first-of, second-of, or-left, or-right, or-false, and-true}
 use Rattle.elements.specs.Checks.{each, Keeps}
 use Rattle.elements.specs.Rules.{lastFilled, endsWell, endChecks}
-use Rattle.elements.proofs.Presence.{some as filled, present-pieces}
 use Rattle.reading.proofs.cut.Bytes.{keeps-of, every-of, every-snoc}
 use Rattle.gate.proofs.reading.Laws.{keeps-at}
+use Rattle.elements.proofs.PresentPieces.{some as filled, present-pieces}
 
 -- the last byte is the component separator
 abbrev pub endsIn : ℕ → Bytes → Bool

@@ -19,8 +19,8 @@ use Rattle.text.specs.declared.separators.Separators.{Separators}
 use Rattle.text.proofs.Bools.{both, first-of, second-of, apart}
 use Rattle.text.proofs.Pieces.{pieces-free, pieces-closed}
 use Rattle.text.proofs.View.{free-append}
-use Rattle.elements.proofs.Presence.{some as filled}
 use Rattle.reading.specs.internal.Cutting.{BadSegment, GoodSegment, Cuts, Stops}
+use Rattle.elements.proofs.PresentPieces.{some as filled}
 use Rattle.reading.specs.declared.cutting.Next.{Next}
 use Rattle.reading.specs.declared.cutting.Next.the-variants.{Open, Bad, Segment}
 use Rattle.reading.proofs.cut.SpecialBytes.{belongs, Allowed, refused}

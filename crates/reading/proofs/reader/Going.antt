@@ -15,7 +15,6 @@ use Rattle.text.specs.Cut.{Placed}
 use Rattle.text.specs.Separators.{Fitted}
 use Rattle.elements.specs.Checks.{firstBroken}
 use Rattle.elements.specs.Rules.{byteChecks}
-use Rattle.elements.proofs.Verdicts.{keeps-holds}
 use Rattle.gate.specs.Profile.{nonconformance}
 use Rattle.gate.specs.Segments.{seen, onto}
 use Rattle.gate.specs.Records.{Tables}
@@ -28,8 +27,9 @@ use Rattle.reading.specs.internal.Loop.{Going}
 use Rattle.gate.specs.declared.answer.Answer.{Answer}
 use Rattle.gate.specs.declared.answer.Answer.the-variants.{Refused}
 use Rattle.gate.specs.declared.how.How.{How}
+use Rattle.elements.proofs.FirstBroken.{keeps-holds}
 use Rattle.reading.specs.declared.judging.Judgement.{Judgement}
-use Rattle.reading.specs.declared.judging.Notes.{Notes}
+use Rattle.elements.specs.declared.layout.Layout.{Layout}
 use Rattle.reading.specs.declared.judging.State.{State}
 use Rattle.reading.specs.declared.settling.Step.{Step}
 use Rattle.reading.specs.declared.settling.Step.the-variants.{Done, Passed}
@@ -114,10 +114,10 @@ cut-good {how} {s} {specials} {queue} {starts} {at} next cuts is = subst (λ (n 
 
 module _ {how : How} {s : Bytes} {specials : List Bool} {queue starts : List ℕ} {at end count : ℕ} {plain ended : Bool} {head tail ahead : ℕ}
     (good : GoodSegment (how .separators) specials s at queue starts end count plain ended head tail ahead) where
-  abbrev notes : Notes
-  notes = record { at = at; end = end; count = count; plain = plain; ended = ended }
+  abbrev layout : Layout
+  layout = record { at = at; end = end; count = count; single = plain; ended = ended }
 
-  noted : Noted how s starts notes (good .segment) (good .more)
+  noted : Noted how s starts layout (good .segment) (good .more)
   noted = record {
     whole = good .whole;
     free = good .free;
@@ -137,11 +137,11 @@ module _ {how : How} {s : Bytes} {specials : List Bool} {queue starts : List ℕ
   pub good-within : end < length s
   good-within = end-inside good
 
-  pub good-inside : Inside s notes
+  pub good-inside : Inside s layout
   good-inside = record { forward = good-forward; within = omega (arith, good-within) }
 
   module _ {before : Tables} {segments levels : List ℕ} {state : State} (stands : Stands how before s segments levels at state) where
-    pub in-room : length s ≤ 1048576 → InRoom segments levels notes state
+    pub in-room : length s ≤ 1048576 → InRoom segments levels layout state
     in-room l = record {
       forward = good-forward;
       short = omega (arith, good-within);
@@ -151,13 +151,13 @@ module _ {how : How} {s : Bytes} {specials : List Bool} {queue starts : List ℕ
 
     -- `settle` on what `judge` said
     module _ (fit : Fitted (how .separators)) (j : Judgement)
-        (judged : (before : Tables) (gs : List Placed) (rows : List ℕ) (g more : Bytes) → Fitted (how .separators) → Noted how s starts notes g more
+        (judged : (before : Tables) (gs : List Placed) (rows : List ℕ) (g more : Bytes) → Fitted (how .separators) → Noted how s starts layout g more
         → Standing how before s segments levels at (state .count) (state .row) (state .again) (state .known) (state .greatest) gs rows
         → Judges rows (onto [] (seen how gs)) (viewOf (how .separators) g) j)
         (segments′ levels′ : List ℕ) (r : Step)
         (settles : (how : How) (before : Tables) (s : Bytes) (gs : List Placed) (rows : List ℕ) (g more : Bytes)
-        → Settling how before s segments levels notes state gs rows g more j → Settles how before s notes segments′ levels′ r) where
-      settled : Settles how before s notes segments′ levels′ r
+        → Settling how before s segments levels layout state gs rows g more j → Settles how before s layout segments′ levels′ r) where
+      settled : Settles how before s layout segments′ levels′ r
       settled =
           settles how before s (stands .gs) (stands .rows) (good .segment) (good .more) (record {
             fit = fit;
@@ -170,8 +170,8 @@ module _ {how : How} {s : Bytes} {specials : List Bool} {queue starts : List ℕ
 
       -- the answer
       pub settled-done : (a : Answer) → r ≡ Done a → Read nonconformance how s before a (record { segments = segments′; levels = levels′ })
-      settled-done a e = subst (λ (x : Step). Settles how before s notes segments′ levels′ x) e settled
+      settled-done a e = subst (λ (x : Step). Settles how before s layout segments′ levels′ x) e settled
 
       -- the next place
       pub settled-passed : (after : State) → r ≡ Passed after → Stands how before s segments′ levels′ (end + 1) after
-      settled-passed after e = subst (λ (x : Step). Settles how before s notes segments′ levels′ x) e settled
+      settled-passed after e = subst (λ (x : Step). Settles how before s layout segments′ levels′ x) e settled

@@ -18,7 +18,7 @@ use Rattle.rows.specs.Tags.{tag, tags, tagNumber}
 use Rattle.rows.proofs.TagList.{tag-of-number}
 use Rattle.elements.specs.Data.{rulesHL}
 use Rattle.elements.specs.Checks.{Keeps}
-use Rattle.elements.specs.Rules.{ruleOf, headed, tooManyChecks, missingChecks, unfitChecks, noteChecks, checksBy, ruledChecks}
+use Rattle.elements.specs.Rules.{ruleOf, headed, tooManyChecks, missingChecks, unfitChecks, noteChecks, checksBy, ruledChecks, presentAt}
 use Rattle.levels.specs.Levels.{Claim, claimOf}
 use Rattle.levels.specs.internal.Everyone.{Everyone}
 use Rattle.levels.proofs.Depth.{Within4, depth-at-most-4}
@@ -33,7 +33,7 @@ use Rattle.finding.specs.internal.TablesHold.{HlBytes}
 -- the third element of an HL is there
 third-present : (v : View) → Keeps (checksBy rulesHL v) → T (present (elementOf v 3))
 third-present v k =
-    let a = keeps-split (tooManyChecks rulesHL v ++ missingChecks rulesHL v ++ unfitChecks rulesHL v) (noteChecks (rulesHL .notes) v) k .0 in
+    let a = keeps-split (tooManyChecks rulesHL v ++ missingChecks rulesHL v ++ unfitChecks rulesHL v) (noteChecks (rulesHL .notes) (presentAt v)) k .0 in
     let b = keeps-split (tooManyChecks rulesHL v ++ missingChecks rulesHL v) (unfitChecks rulesHL v) a .0 in
     let c = keeps-split (tooManyChecks rulesHL v) (missingChecks rulesHL v) b .1 in
     let d =

@@ -1,4 +1,4 @@
--- The next segment judged by right notes, after what the reader stands at: each way that `judge` goes says what the rules say.
+-- The next segment judged by its layout, after what the reader stands at: each way that `judge` goes says what the rules say.
 -- Assumes nothing.
 use Prim.Native.Nat.{ℕ, suc, _+_, _-_, _≤_, _<_}
 use mathlib.Core.Path.{_≡_, refl, sym, ap, subst, _∙_}
@@ -22,15 +22,14 @@ use Rattle.numbering.specs.RowAfter.{RowAfter}
 use Rattle.rows.specs.Rows.{Viable, list842}
 use Rattle.rows.specs.RowList.{tagOf, rowAt}
 use Rattle.rows.proofs.Viability.{viable-iff}
-use Rattle.elements.specs.Types.{valueOf, numberOf}
+use Rattle.types.specs.Types.{valueOf, numberOf}
 use Rattle.elements.specs.Checks.{Check, Keeps, firstBroken}
 use Rattle.elements.specs.Rules.{endChecks, ruledChecks}
-use Rattle.elements.specs.Noted.{notedView, RightNotes}
-use Rattle.elements.specs.Post.{notedElement}
+use Rattle.elements.specs.internal.Layouts.{layoutView, elementIn}
 use Rattle.elements.specs.declared.verdict.Verdict.{Verdict}
 use Rattle.elements.specs.declared.verdict.Verdict.the-variants.{Holds, Broken as Faulty}
-use Rattle.elements.proofs.Verdicts.{keeps-holds}
-use Rattle.elements.proofs.Right.{ruled-right, text-right}
+use Rattle.elements.proofs.FirstBroken.{keeps-holds}
+use Rattle.elements.proofs.OwnView.{LaidOut, ruled-own, text-own}
 use Rattle.levels.specs.Levels.{Claim, claimOf, textOf}
 use Rattle.levels.specs.Rules.{levelChecks}
 use Rattle.gate.specs.Profile.{nonconformance}
@@ -46,36 +45,36 @@ use Rattle.finding.specs.internal.Knows.{Knows}
 use Rattle.finding.specs.internal.TableLevels.{tableLevels}
 use Rattle.reading.specs.declared.judging.Judgement.{Judgement}
 use Rattle.reading.specs.declared.judging.Judgement.the-variants.{Broken, Plain}
-use Rattle.reading.specs.declared.judging.Notes.{Notes}
+use Rattle.elements.specs.declared.layout.Layout.{Layout}
 use Rattle.reading.specs.declared.judging.State.{State}
 use Rattle.reading.proofs.reader.RuleOrder.{unknown-tag, bad-end, no-row, bad-element, bad-level, bad-closing, no-level, no-closing, its-level, its-closing, all-kept}
 use Rattle.gate.proofs.reading.ElementTexts.{tag-of-view, hl-claim, se-count, se-control}
 use Rattle.reading.proofs.reader.OpeningControl.{control-of-first, counted-number}
 use Rattle.reading.proofs.reader.Standings.{history-long}
 
-module _ {how : How} {s : Bytes} {starts : List ℕ} {notes : Notes} {g more : Bytes} (nt : Noted how s starts notes g more) where
-  -- the notes are right, as the element rules take them
-  right : RightNotes (how .separators) s (notes .at) g starts (notes .end) (notes .count) (notes .plain)
+module _ {how : How} {s : Bytes} {starts : List ℕ} {layout : Layout} {g more : Bytes} (nt : Noted how s starts layout g more) where
+  -- the layout is right, as the element rules take them
+  right : LaidOut (how .separators) s g starts layout
   right = record {
     here = ap (take (length g)) (nt .whole) ∙ take-append-seam g (how .separators .terminator ∷ more);
     ends = nt .place;
-    inside = omega (arith, nt .place, length-drop (notes .at) s, ap length (nt .whole) ∙ length-append g (how .separators .terminator ∷ more));
+    inside = omega (arith, nt .place, length-drop (layout .at) s, ap length (nt .whole) ∙ length-append g (how .separators .terminator ∷ more));
     counted = omega (arith, nt .elements);
     started = λ k l h. nt .begins k h l;
-    plainly = λ e. nt .single (rw e tt);
+    singly = λ e. nt .single (rw e tt);
   }
 
-  -- the segment is what the notes name
-  segment-is : segmentOf s notes ≡ g
+  -- the segment is what the layout name
+  segment-is : segmentOf s layout ≡ g
   segment-is =
-      let e : notes .end - notes .at ≡ length g = ap (λ (x : ℕ). x - notes .at) (nt .place) ∙ add-sub-cancel-left (notes .at) (length g) in
+      let e : layout .end - layout .at ≡ length g = ap (λ (x : ℕ). x - layout .at) (nt .place) ∙ add-sub-cancel-left (layout .at) (length g) in
       rw e (right .here)
 
   -- its elements
-  text-is : (k : ℕ) → k ≤ 31 → notedElement s starts (notes .end) (notes .count) k ≡ getD (pieces (how .separators .element) g) k []
-  text-is k h = text-right right k h
+  text-is : (k : ℕ) → k ≤ 31 → elementIn s starts layout k ≡ getD (pieces (how .separators .element) g) k []
+  text-is k h = text-own right k h
 
-  tag-is : Fitted (how .separators) → tagNumber (notedElement s starts (notes .end) (notes .count) 0) ≡ tagIn (viewOf (how .separators) g)
+  tag-is : Fitted (how .separators) → tagNumber (elementIn s starts layout 0) ≡ tagIn (viewOf (how .separators) g)
   tag-is fit = ap tagNumber (text-is 0 (omega arith)) ∙ sym (tag-of-view (how .separators) fit g)
 
 -- an SE's row comes behind another row
@@ -93,16 +92,16 @@ verdict-cases Holds f g = f refl
 verdict-cases (Faulty n e) f g = g n e refl
 
 -- 4
-pub judges-tag : {how : How} {s : Bytes} {starts : List ℕ} {notes : Notes} {g more : Bytes} (rows : List ℕ) (h : List View) (t : ℕ) → 34 ≤ t
-    → t ≡ tagNumber (notedElement s starts (notes .end) (notes .count) 0) → Fitted (how .separators) → Noted how s starts notes g more
+pub judges-tag : {how : How} {s : Bytes} {starts : List ℕ} {layout : Layout} {g more : Bytes} (rows : List ℕ) (h : List View) (t : ℕ) → 34 ≤ t
+    → t ≡ tagNumber (elementIn s starts layout 0) → Fitted (how .separators) → Noted how s starts layout g more
     → Judges rows h (viewOf (how .separators) g) (Broken 4 0)
 judges-tag {how} {g = g} rows h t l noted fit nt =
     unknown-tag nonconformance rows h (viewOf (how .separators) g) (nt .data-only) (rw (← (noted ∙ tag-is nt fit)) l)
 
 module _ {how : How} {before : Tables} {s : Bytes} {segments levels : List ℕ} {at count row : ℕ} {again : Bool} {known greatest : ℕ} {gs : List Placed} {rows : List ℕ}
-    {starts : List ℕ} {notes : Notes} {g more : Bytes} (fit : Fitted (how .separators)) (nt : Noted how s starts notes g more)
+    {starts : List ℕ} {layout : Layout} {g more : Bytes} (fit : Fitted (how .separators)) (nt : Noted how s starts layout g more)
     (st : Standing how before s segments levels at count row again known greatest gs rows) (t : ℕ)
-    (tag-noted : t ≡ tagNumber (notedElement s starts (notes .end) (notes .count) 0)) where
+    (tag-noted : t ≡ tagNumber (elementIn s starts layout 0)) where
   abbrev v : View
   v = viewOf (how .separators) g
 
@@ -117,14 +116,14 @@ module _ {how : How} {before : Tables} {s : Bytes} {segments levels : List ℕ} 
     known-tag = rw (← tag-known) small
 
     -- 6
-    pub judges-end : T (not (notes .ended)) → (j : Judgement) → j ≡ brokenBy (firstBroken (endChecks (viewOf (how .separators) (segmentOf s notes)))) → Judges rows h v j
+    pub judges-end : T (not (layout .ended)) → (j : Judgement) → j ≡ brokenBy (firstBroken (endChecks (viewOf (how .separators) (segmentOf s layout)))) → Judges rows h v j
     judges-end open-end j is =
         rw (is, segment-is nt)
         (verdict-cases (firstBroken (endChecks v))
         (λ e. absurd (nt .unkept open-end (keeps-holds (endChecks v) .0 e)))
         (λ n k e. rw e (bad-end nonconformance rows h v (nt .data-only) known-tag n k e)))
 
-    module _ (ended : T (notes .ended)) (x : ℕ) {table : List ℕ} (kept : NextTable table) (after : RowAfter table row again t x) where
+    module _ (ended : T (layout .ended)) (x : ℕ) {table : List ℕ} (kept : NextTable table) (after : RowAfter table row again t x) where
       ends : Keeps (endChecks v)
       ends = nt .kept ended
 
@@ -139,19 +138,19 @@ module _ {how : How} {before : Tables} {s : Bytes} {segments levels : List ℕ} 
         fits : Fits rows (tagIn v) x
         fits = one-fits .fits some
 
-        ruled-is : firstBroken (ruledChecks (nonconformance .elements) t (notedView s starts (notes .end) (notes .count) (notes .plain) (how .separators .component)))
+        ruled-is : firstBroken (ruledChecks (nonconformance .elements) t (layoutView s starts layout (how .separators .component)))
             ≡ firstBroken (ruledChecks (nonconformance .elements) (tagIn v) v)
-        ruled-is = ruled-right (right nt) t ∙ ap (λ (k : ℕ). firstBroken (ruledChecks (nonconformance .elements) k v)) tag-known
+        ruled-is = ruled-own (right nt) t ∙ ap (λ (k : ℕ). firstBroken (ruledChecks (nonconformance .elements) k v)) tag-known
 
         -- 9, 8, 10, 11
         pub judges-element : (d : Verdict)
-            → d ≡ firstBroken (ruledChecks (nonconformance .elements) t (notedView s starts (notes .end) (notes .count) (notes .plain) (how .separators .component)))
+            → d ≡ firstBroken (ruledChecks (nonconformance .elements) t (layoutView s starts layout (how .separators .component)))
             → (n e : ℕ) → d ≡ Faulty n e → Judges rows h v (Broken n e)
         judges-element d is n e q = bad-element nonconformance rows h v (nt .data-only) known-tag ends x fits n e (sym ruled-is ∙ sym is ∙ q)
 
         module _ (elements : Keeps (ruledChecks (nonconformance .elements) (tagIn v) v)) where
           -- 12, 13, 14, 15 of an HL
-          its-claim : tagIn v ≡ tag "HL" → notedClaim s starts (notes .end) (notes .count) ≡ claimOf v
+          its-claim : tagIn v ≡ tag "HL" → notedClaim s starts layout ≡ claimOf v
           its-claim e =
               let a = text-is nt 1 (omega arith) in
               let b = text-is nt 2 (omega arith) in
@@ -204,27 +203,27 @@ module _ {how : How} {before : Tables} {s : Bytes} {segments levels : List ℕ} 
           some-before e = omega (arith, st .count-is, st .rows-are, late-row rows x (fits .viable) (fits .tagged ∙ e))
 
           its-closing-tests : tagIn v ≡ tag "SE"
-              → notedClosing s (how .separators .element) starts (notes .end) (notes .count) segments levels count known ≡ closingChecks nonconformance h v
+              → notedClosing s (how .separators .element) starts layout segments levels count known ≡ closingChecks nonconformance h v
           its-closing-tests e =
-              let total : numberOf (notedElement s starts (notes .end) (notes .count) 1) ≡ valueOf (textOf (elementOf v 1)) =
+              let total : numberOf (elementIn s starts layout 1) ≡ valueOf (textOf (elementOf v 1)) =
               ap numberOf (text-is nt 1 (omega arith) ∙ sym (se-count (how .separators) g elements e)) ∙ counted-number (how .separators) g elements e in
-              let control : notedElement s starts (notes .end) (notes .count) 2 ≡ textOf (elementOf v 2) =
+              let control : elementIn s starts layout 2 ≡ textOf (elementOf v 2) =
               text-is nt 2 (omega arith) ∙ sym (se-control (how .separators) g elements e) in
               let first = control-of-first how before s segments levels at count row again known greatest gs rows (some-before e) st in
               let long : suc count ≡ suc (length h) = omega (arith, history-long how gs, st .count-is) in
               rw (total, control, first, long, st .tells .levels-are) refl
 
-          -- what the notes and tables say of an HL and of an SE
+          -- what the layout and tables say of an HL and of an SE
           abbrev hl-says : Judgement
-          hl-says = byLevel x (keyOf (notedElement s starts (notes .end) (notes .count) 1))
-              (judged (nonconformance .levels) (tableLevels s (how .separators .element) segments levels known) (notedClaim s starts (notes .end) (notes .count)))
+          hl-says = byLevel x (keyOf (elementIn s starts layout 1))
+              (judged (nonconformance .levels) (tableLevels s (how .separators .element) segments levels known) (notedClaim s starts layout))
 
           abbrev se-says : Judgement
-          se-says = byClosing x (firstBroken (notedClosing s (how .separators .element) starts (notes .end) (notes .count) segments levels count known))
+          se-says = byClosing x (firstBroken (notedClosing s (how .separators .element) starts layout segments levels count known))
 
           -- what the late rules say
           judges-late : (state : State) → state .count ≡ count → state .known ≡ known
-              → Judges rows h v (lateJudgement (how .separators .element) s starts notes state segments levels t x)
+              → Judges rows h v (lateJudgement (how .separators .element) s starts layout state segments levels t x)
           unfolding tagNumber
           judges-late state counted levelled = rw (counted, levelled) (by (eqb t 12) (eqb t 33) refl refl)
             where
@@ -249,9 +248,9 @@ module _ {how : How} {before : Tables} {s : Bytes} {segments levels : List ℕ} 
 
         -- 12 to 16, where those hold
         pub judges-rest : (d : Verdict)
-            → d ≡ firstBroken (ruledChecks (nonconformance .elements) t (notedView s starts (notes .end) (notes .count) (notes .plain) (how .separators .component)))
+            → d ≡ firstBroken (ruledChecks (nonconformance .elements) t (layoutView s starts layout (how .separators .component)))
             → d ≡ Holds → (state : State) → state .count ≡ count → state .known ≡ known → state .greatest ≡ greatest
-            → (j : Judgement) → JudgesLate (how .separators .element) s starts notes state segments levels t x j → Judges rows h v j
+            → (j : Judgement) → JudgesLate (how .separators .element) s starts layout state segments levels t x j → Judges rows h v j
         judges-rest d is q state counted levelled bounded j says =
             let knows : Knows (record { levels = state .known; greatest = state .greatest }) (tableLevels s (how .separators .element) segments levels (state .known)) =
             rw (levelled, bounded, st .tells .levels-are) (st .knows) in

@@ -21,11 +21,11 @@ use Rattle.rows.specs.Tags.{tag, tagNumber}
 use Rattle.rows.specs.Rows.{list842}
 use Rattle.rows.specs.RowList.{tagOf, rowAt}
 use Rattle.rows.proofs.Viability.{viable-iff}
-use Rattle.elements.specs.Types.{valueOf, numberOf, fits}
+use Rattle.types.specs.Types.{valueOf, numberOf, fits}
 use Rattle.elements.specs.Data.{value, rulesSE}
 use Rattle.elements.specs.Checks.{Keeps}
-use Rattle.elements.specs.Rules.{ruleOf, headed, fitsSimple, tooManyChecks, missingChecks, unfitChecks, noteChecks, checksBy, ruledChecks}
-use Rattle.elements.specs.declared.types.Kind.the-variants.{N0}
+use Rattle.elements.specs.Rules.{ruleOf, headed, fitsSimple, tooManyChecks, missingChecks, unfitChecks, noteChecks, checksBy, ruledChecks, presentAt}
+use Rattle.types.specs.declared.kind.Kind.the-variants.{N0}
 use Rattle.levels.specs.Levels.{textOf}
 use Rattle.gate.specs.Profile.{nonconformance}
 use Rattle.gate.specs.Segments.{tagIn, seen, onto, opening}
@@ -67,7 +67,7 @@ control-of-first how before s segments levels at count row again known greatest 
 -- SE01 is one to ten digits, so its number is worked out
 first-there : (v : View) → Keeps (checksBy rulesSE v) → T (present (elementOf v 1))
 first-there v k =
-    let a = keeps-split (tooManyChecks rulesSE v ++ missingChecks rulesSE v ++ unfitChecks rulesSE v) (noteChecks (rulesSE .notes) v) k .0 in
+    let a = keeps-split (tooManyChecks rulesSE v ++ missingChecks rulesSE v ++ unfitChecks rulesSE v) (noteChecks (rulesSE .notes) (presentAt v)) k .0 in
     let b = keeps-split (tooManyChecks rulesSE v ++ missingChecks rulesSE v) (unfitChecks rulesSE v) a .0 in
     let c = keeps-split (tooManyChecks rulesSE v) (missingChecks rulesSE v) b .1 in
     let d =

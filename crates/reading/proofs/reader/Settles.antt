@@ -23,7 +23,7 @@ use Rattle.finding.specs.internal.Knows.{mostLevels}
 use Rattle.finding.specs.internal.Entries.{storedAt}
 use Rattle.reading.specs.declared.judging.Judgement.{Judgement}
 use Rattle.reading.specs.declared.judging.Judgement.the-variants.{Broken, Plain, Level, Last}
-use Rattle.reading.specs.declared.judging.Notes.{Notes}
+use Rattle.elements.specs.declared.layout.Layout.{Layout}
 use Rattle.reading.specs.declared.judging.State.{State}
 use Rattle.reading.specs.declared.settling.Step.{Step}
 use Rattle.gate.specs.Rules.{Sound}
@@ -38,8 +38,8 @@ pub no-room : (b : Bool) (n m : ℕ) → b ≡ ltb n m → not b ≡ true → m 
 no-room true n m e l = absurd (subst T (sym l) tt)
 no-room false n m e l = ltb-false n m (sym e)
 
-module _ {how : How} {before : Tables} {s : Bytes} {segments levels : List ℕ} {notes : Notes} {state : State} {gs : List Placed} {rows : List ℕ}
-    {g more : Bytes} {j : Judgement} (t : Settling how before s segments levels notes state gs rows g more j) where
+module _ {how : How} {before : Tables} {s : Bytes} {segments levels : List ℕ} {layout : Layout} {state : State} {gs : List Placed} {rows : List ℕ}
+    {g more : Bytes} {j : Judgement} (t : Settling how before s segments levels layout state gs rows g more j) where
   abbrev v : View
   v = viewOf (how .separators) g
 
@@ -47,30 +47,30 @@ module _ {how : How} {before : Tables} {s : Bytes} {segments levels : List ℕ} 
   h = onto [] (seen how gs)
 
   -- the same for what the judgement is
-  pub judged-so : (k : Judgement) → j ≡ k → Settling how before s segments levels notes state gs rows g more k
-  judged-so k q = subst (λ (x : Judgement). Settling how before s segments levels notes state gs rows g more x) q t
+  pub judged-so : (k : Judgement) → j ≡ k → Settling how before s segments levels layout state gs rows g more k
+  judged-so k q = subst (λ (x : Judgement). Settling how before s segments levels layout state gs rows g more x) q t
 
   -- what the judgement says
   says : (k : Judgement) → j ≡ k → Judges rows h v k
   says k q = subst (λ (x : Judgement). Judges rows h v x) q (t .right)
 
   -- how long the segment is
-  long : notes .end - notes .at ≡ length g
-  long = ap (λ (x : ℕ). x - notes .at) (t .place) ∙ add-sub-cancel-left (notes .at) (length g)
+  long : layout .end - layout .at ≡ length g
+  long = ap (λ (x : ℕ). x - layout .at) (t .place) ∙ add-sub-cancel-left (layout .at) (length g)
 
   -- where the next one starts
-  next-at : notes .at + length g + 1 ≡ notes .end + 1
+  next-at : layout .at + length g + 1 ≡ layout .end + 1
   next-at = omega (arith, t .place)
 
   -- 4 to 16
-  pub settles-broken : (n e : ℕ) → j ≡ Broken n e → (r : Step) → r ≡ refusedAt n notes state e → Settles how before s notes segments levels r
+  pub settles-broken : (n e : ℕ) → j ≡ Broken n e → (r : Step) → r ≡ refusedAt n layout state e → Settles how before s layout segments levels r
   settles-broken n e q r is =
       rw is
       (standing-refuses (t .standing) n e (inr (inl (record { segment = g; more = more; next = t .cut; first = says (Broken n e) q }))))
 
   -- 17
-  full : (row : ℕ) → Sound nonconformance rows h v row → (Room nonconformance before (v ∷ h) → ⊥) → (r : Step) → r ≡ refusedAt 17 notes state 0
-      → Settles how before s notes segments levels r
+  full : (row : ℕ) → Sound nonconformance rows h v row → (Room nonconformance before (v ∷ h) → ⊥) → (r : Step) → r ≡ refusedAt 17 layout state 0
+      → Settles how before s layout segments levels r
   full row sound none r is =
       rw is
       (standing-refuses (t .standing) 17 0 (inr (inr (record {
@@ -82,46 +82,46 @@ module _ {how : How} {before : Tables} {s : Bytes} {segments levels : List ℕ} 
         element-is = refl;
       }))))
 
-  pub full-plain : (row : ℕ) → j ≡ Plain row → length segments / 3 ≤ state .count → (r : Step) → r ≡ refusedAt 17 notes state 0
-      → Settles how before s notes segments levels r
+  pub full-plain : (row : ℕ) → j ≡ Plain row → length segments / 3 ≤ state .count → (r : Step) → r ≡ refusedAt 17 layout state 0
+      → Settles how before s layout segments levels r
   full-plain row q l = full row (says (Plain row) q .0) (no-segment-room (t .standing) g more (t .cut) (t .whole) l)
 
   pub full-level : (row parent depth code key : ℕ) → j ≡ Level row parent depth code key → length segments / 3 ≤ state .count → (r : Step)
-      → r ≡ refusedAt 17 notes state 0 → Settles how before s notes segments levels r
+      → r ≡ refusedAt 17 layout state 0 → Settles how before s layout segments levels r
   full-level row parent depth code key q l =
       full row (says (Level row parent depth code key) q .0) (no-segment-room (t .standing) g more (t .cut) (t .whole) l)
 
   pub full-levels : (row parent depth code key : ℕ) → j ≡ Level row parent depth code key → length levels / 4 ≤ state .known → (r : Step)
-      → r ≡ refusedAt 17 notes state 0 → Settles how before s notes segments levels r
+      → r ≡ refusedAt 17 layout state 0 → Settles how before s layout segments levels r
   full-levels row parent depth code key q l =
       let p = says (Level row parent depth code key) q in
       full row (p .0) (no-level-room (t .standing) g more (t .cut) (t .whole) (p .1) l)
 
-  pub full-last : (row : ℕ) → j ≡ Last row → length segments / 3 ≤ state .count → (r : Step) → r ≡ refusedAt 17 notes state 0
-      → Settles how before s notes segments levels r
+  pub full-last : (row : ℕ) → j ≡ Last row → length segments / 3 ≤ state .count → (r : Step) → r ≡ refusedAt 17 layout state 0
+      → Settles how before s layout segments levels r
   full-last row q l = full row (says (Last row) q .0) (no-segment-room (t .standing) g more (t .cut) (t .whole) l)
 
   -- passed
   pub settles-plain : (row : ℕ) → j ≡ Plain row → state .count < length segments / 3 → (segments′ : List ℕ)
-      → segments′ ≡ storedAt 3 segments (state .count) (notes .at ∷ (notes .end - notes .at) ∷ row ∷ []) → (after : State)
-      → after ≡ stateAfter state row (state .known) (state .greatest) → Stands how before s segments′ levels (notes .end + 1) after
+      → segments′ ≡ storedAt 3 segments (state .count) (layout .at ∷ (layout .end - layout .at) ∷ row ∷ []) → (after : State)
+      → after ≡ stateAfter state row (state .known) (state .greatest) → Stands how before s segments′ levels (layout .end + 1) after
   settles-plain row q room segments′ stored after is =
       let p = says (Plain row) q in
       rw (stored, is, long, ← next-at) (record {
-        gs = gs ++ (record { at = notes .at; segment = g } ∷ []);
+        gs = gs ++ (record { at = layout .at; segment = g } ∷ []);
         rows = rows ++ (row ∷ []);
         standing = standing-plain (t .standing) g more (t .cut) (t .whole) row (p .0) (p .1) (p .2) room;
       })
 
   pub settles-level : (row parent depth code key : ℕ) → j ≡ Level row parent depth code key → state .count < length segments / 3 → state .known < length levels / 4
-      → state .known ≤ mostLevels → (segments′ : List ℕ) → segments′ ≡ storedAt 3 segments (state .count) (notes .at ∷ (notes .end - notes .at) ∷ row ∷ []) → (levels′ : List ℕ)
+      → state .known ≤ mostLevels → (segments′ : List ℕ) → segments′ ≡ storedAt 3 segments (state .count) (layout .at ∷ (layout .end - layout .at) ∷ row ∷ []) → (levels′ : List ℕ)
       → levels′ ≡ storedAt 4 levels (state .known) ((state .count + 1) ∷ parent ∷ depth ∷ code ∷ []) → (after : State)
-      → after ≡ stateAfter state row (state .known + 1) (max (state .greatest) key) → Stands how before s segments′ levels′ (notes .end + 1) after
+      → after ≡ stateAfter state row (state .known + 1) (max (state .greatest) key) → Stands how before s segments′ levels′ (layout .end + 1) after
   settles-level row parent depth code key q room level-room few segments′ stored levels′ stored′ after is =
       let p = says (Level row parent depth code key) q in
       let number : suc (length h) ≡ state .count + 1 = omega (arith, history-long how gs, t .standing .count-is) in
       rw (stored, stored′, is, long, ← next-at) (record {
-        gs = gs ++ (record { at = notes .at; segment = g } ∷ []);
+        gs = gs ++ (record { at = layout .at; segment = g } ∷ []);
         rows = rows ++ (row ∷ []);
         standing =
             standing-level (t .standing) g more (t .cut) (t .whole) (t .fit) row (p .0) (p .1) (p .2) room level-room few _
@@ -130,8 +130,8 @@ module _ {how : How} {before : Tables} {s : Bytes} {segments levels : List ℕ} 
 
   -- accepted
   pub settles-last : (row : ℕ) → j ≡ Last row → state .count < length segments / 3 → (segments′ : List ℕ)
-      → segments′ ≡ storedAt 3 segments (state .count) (notes .at ∷ (notes .end - notes .at) ∷ row ∷ [])
-      → (r : Step) → r ≡ acceptedAt notes state → Settles how before s notes segments′ levels r
+      → segments′ ≡ storedAt 3 segments (state .count) (layout .at ∷ (layout .end - layout .at) ∷ row ∷ [])
+      → (r : Step) → r ≡ acceptedAt layout state → Settles how before s layout segments′ levels r
   settles-last row q room segments′ stored r is =
       let p = says (Last row) q in
       rw (is, stored, long, ← next-at)

@@ -22,7 +22,7 @@ use Rattle.gate.specs.declared.answer.Answer.the-variants.{Accepted, Refused}
 use Rattle.gate.specs.declared.how.How.{How}
 use Rattle.reading.specs.declared.judging.Judgement.{Judgement}
 use Rattle.reading.specs.declared.judging.Judgement.the-variants.{Plain, Level, Last}
-use Rattle.reading.specs.declared.judging.Notes.{Notes}
+use Rattle.elements.specs.declared.layout.Layout.{Layout}
 use Rattle.reading.specs.declared.judging.State.{State}
 use Rattle.reading.specs.declared.settling.Step.{Step}
 use Rattle.reading.specs.declared.settling.Step.the-variants.{Done, Passed}
@@ -33,12 +33,12 @@ stateAfter state row known greatest =
     record { count = state .count + 1; row = row; again = eqb row (state .row); known = known; greatest = greatest }
 
 -- a refusal at the segment
-abbrev pub refusedAt : ℕ → Notes → State → ℕ → Step
-refusedAt number notes state element = Done (Refused number (state .count + 1) (notes .at) element)
+abbrev pub refusedAt : ℕ → Layout → State → ℕ → Step
+refusedAt number layout state element = Done (Refused number (state .count + 1) (layout .at) element)
 
 -- acceptance with the segment as the last
-abbrev pub acceptedAt : Notes → State → Step
-acceptedAt notes state = Done (Accepted (state .count + 1) (state .known) (notes .end + 1))
+abbrev pub acceptedAt : Layout → State → Step
+acceptedAt layout state = Done (Accepted (state .count + 1) (state .known) (layout .end + 1))
 
 -- the bytes from `at` to `end`
 abbrev pub between : Bytes → ℕ → ℕ → Bytes
@@ -50,20 +50,20 @@ refusedBy Holds count at = Refused 5 (count + 1) at 0
 refusedBy (Broken number element) count at = Refused number (count + 1) at element
 
 -- the numbers are small, and no more records are counted than the tables have room for
-pub record InRoom (segments levels : List ℕ) (notes : Notes) (state : State) : Type 0 where
-  pub forward : notes .at ≤ notes .end
-  pub short : notes .end < 1048576
+pub record InRoom (segments levels : List ℕ) (layout : Layout) (state : State) : Type 0 where
+  pub forward : layout .at ≤ layout .end
+  pub short : layout .end < 1048576
   pub segments-fit : state .count ≤ length segments / 3
   pub levels-fit : state .known ≤ length levels / 4
 
 -- the reader stands before the segment g, which was cut, and the judgement is right
-pub record Settling (how : How) (before : Tables) (s : Bytes) (segments levels : List ℕ) (notes : Notes) (state : State) (gs : List Placed) (rows : List ℕ)
+pub record Settling (how : How) (before : Tables) (s : Bytes) (segments levels : List ℕ) (layout : Layout) (state : State) (gs : List Placed) (rows : List ℕ)
     (g more : Bytes) (judgement : Judgement) : Type 0 where
   pub fit : Fitted (how .separators)
-  pub standing : Standing how before s segments levels (notes .at) (state .count) (state .row) (state .again) (state .known) (state .greatest) gs rows
-  pub cut : cutBy how (drop (notes .at) s) ≡ Whole g more
-  pub whole : drop (notes .at) s ≡ g ++ how .separators .terminator ∷ more
-  pub place : notes .end ≡ notes .at + length g
+  pub standing : Standing how before s segments levels (layout .at) (state .count) (state .row) (state .again) (state .known) (state .greatest) gs rows
+  pub cut : cutBy how (drop (layout .at) s) ≡ Whole g more
+  pub whole : drop (layout .at) s ≡ g ++ how .separators .terminator ∷ more
+  pub place : layout .end ≡ layout .at + length g
   pub right : Judges rows (onto [] (seen how gs)) (viewOf (how .separators) g) judgement
 
 -- the reader stands behind the segment
@@ -73,22 +73,22 @@ pub record Stands (how : How) (before : Tables) (s : Bytes) (segments levels : L
   pub standing : Standing how before s segments levels at (state .count) (state .row) (state .again) (state .known) (state .greatest) gs rows
 
 -- the answer is right, or the reader stands behind the segment
-abbrev pub Settles : How → Tables → Bytes → Notes → List ℕ → List ℕ → Step → Type 0
-Settles how before s notes segments levels (Done answer) = Read nonconformance how s before answer (record { segments = segments; levels = levels })
-Settles how before s notes segments levels (Passed state) = Stands how before s segments levels (notes .end + 1) state
+abbrev pub Settles : How → Tables → Bytes → Layout → List ℕ → List ℕ → Step → Type 0
+Settles how before s layout segments levels (Done answer) = Read nonconformance how s before answer (record { segments = segments; levels = levels })
+Settles how before s layout segments levels (Passed state) = Stands how before s segments levels (layout .end + 1) state
 
 -- where the segment is so judged, the step is right, and so is what the tables hold afterwards
-abbrev pub SettlesBy : Judgement → Notes → State → (segments levels segments′ levels′ : List ℕ) → Step → Type 0
-SettlesBy judgement notes state segments levels segments′ levels′ r =
+abbrev pub SettlesBy : Judgement → Layout → State → (segments levels segments′ levels′ : List ℕ) → Step → Type 0
+SettlesBy judgement layout state segments levels segments′ levels′ r =
     (how : How) (before : Tables) (s : Bytes) (gs : List Placed) (rows : List ℕ) (g more : Bytes)
-    → Settling how before s segments levels notes state gs rows g more judgement → Settles how before s notes segments′ levels′ r
+    → Settling how before s segments levels layout state gs rows g more judgement → Settles how before s layout segments′ levels′ r
 
 -- of a segment that makes no level, of one that makes a level, and of the last; without a level the level table stays
-abbrev pub SettlesPlain : ℕ → Notes → State → (segments segments′ : List ℕ) → Step → Type 0
-SettlesPlain row notes state segments segments′ r = (levels : List ℕ) → SettlesBy (Plain row) notes state segments levels segments′ levels r
+abbrev pub SettlesPlain : ℕ → Layout → State → (segments segments′ : List ℕ) → Step → Type 0
+SettlesPlain row layout state segments segments′ r = (levels : List ℕ) → SettlesBy (Plain row) layout state segments levels segments′ levels r
 
-abbrev pub SettlesLevel : (row parent depth code key : ℕ) → Notes → State → (segments levels segments′ levels′ : List ℕ) → Step → Type 0
+abbrev pub SettlesLevel : (row parent depth code key : ℕ) → Layout → State → (segments levels segments′ levels′ : List ℕ) → Step → Type 0
 SettlesLevel row parent depth code key = SettlesBy (Level row parent depth code key)
 
-abbrev pub SettlesLast : ℕ → Notes → State → (segments segments′ : List ℕ) → Step → Type 0
-SettlesLast row notes state segments segments′ r = (levels : List ℕ) → SettlesBy (Last row) notes state segments levels segments′ levels r
+abbrev pub SettlesLast : ℕ → Layout → State → (segments segments′ : List ℕ) → Step → Type 0
+SettlesLast row layout state segments segments′ r = (levels : List ℕ) → SettlesBy (Last row) layout state segments levels segments′ levels r

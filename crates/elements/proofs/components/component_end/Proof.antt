@@ -3,7 +3,7 @@
 use Prim.Native.Nat.{_-_, _≤_}
 use lib.ListN.{length}
 use Rattle.text.proofs.Searching.{Passed, passed-none, passed-more}
-use Rattle.elements.proofs.Units.{upto-met, upto-end}
+use Rattle.elements.proofs.ComponentPass.{upto-met, upto-end}
 use native.Mathlib.Omega.{arith}
 use borrow.Author.Needs.{needs}
 use Rattle.elements.proofs.components.component_end.Statement.{statement}

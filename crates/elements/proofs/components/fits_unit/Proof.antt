@@ -2,7 +2,7 @@
 -- Assumes nothing.
 use mathlib.Core.Path.{_∙_}
 use denote.Ref.{now}
-use Rattle.elements.proofs.Units.{unit-empty, unit-first, unit-second, unit-third}
+use Rattle.elements.proofs.ComponentPass.{unit-empty, unit-first, unit-second, unit-third}
 use borrow.Author.Needs.{needs}
 use Rattle.elements.proofs.components.fits_unit.Statement.{statement}
 use Rattle.elements.proofs.components.fits_unit.Tie as tie

@@ -3,7 +3,7 @@
 use Prim.Native.Nat.{_-_}
 use mathlib.Core.Path.{sym, _∙_}
 use borrow.Author.Tests.{not-true, not-false}
-use Rattle.elements.proofs.Units.{Passes, passes-none, passes-unfit, passes-last, passes-more, passes-over}
+use Rattle.elements.proofs.ComponentPass.{Passes, passes-none, passes-unfit, passes-last, passes-more, passes-over}
 use native.Mathlib.Omega.{arith}
 use borrow.Author.Needs.{needs}
 use Rattle.elements.proofs.components.fits_units.Statement.{statement}

@@ -2,22 +2,22 @@
 -- Assumes nothing.
 use denote.Ref.{now}
 use borrow.Author.Tests.{not-true, not-false}
-use Rattle.elements.proofs.Units.{complete-absent, complete-simple, complete-plain, complete-pieces}
+use Rattle.elements.proofs.ComponentPass.{complete-absent, complete-simple, complete-single, complete-pieces}
 use borrow.Author.Needs.{needs}
 use Rattle.elements.proofs.components.is_complete.Statement.{statement}
 use Rattle.elements.proofs.components.is_complete.Tie as tie
 
 returns : tie.Need-returns
-returns c = complete-absent (c .before .before .args .rule) (c .before .before .args .separator) (c .before .before .args .plain)
+returns c = complete-absent (c .before .before .args .rule) (c .before .before .args .separator) (c .before .before .args .single)
     (now (c .before .before .args .p)) (c .before .if1 .taken)
 
 returns-2 : tie.Need-returns-2
 returns-2 c = complete-simple (c .before .before .before .args .rule) (c .before .before .before .args .separator)
-    (c .before .before .before .args .plain) (now (c .before .before .before .args .p)) (c .before .before .if1 .left) (not-true _ (c .if2 .taken))
+    (c .before .before .before .args .single) (now (c .before .before .before .args .p)) (c .before .before .if1 .left) (not-true _ (c .if2 .taken))
 
 returns-3 : tie.Need-returns-3
 returns-3 c = rw (c .if3 .taken)
-    (complete-plain (c .before .before .before .before .args .rule) (c .before .before .before .before .args .separator)
+    (complete-single (c .before .before .before .before .args .rule) (c .before .before .before .before .args .separator)
     (now (c .before .before .before .before .args .p)) (c .before .before .before .if1 .left) (not-false _ (c .before .if2 .left)))
 
 shared-slice-read-result : tie.Need-shared-slice-read-result

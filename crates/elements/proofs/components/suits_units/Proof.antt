@@ -2,7 +2,7 @@
 -- Assumes nothing.
 use mathlib.Core.Path.{_∙_}
 use denote.Ref.{now}
-use Rattle.elements.proofs.Units.{unit-alone}
+use Rattle.elements.proofs.ComponentPass.{unit-alone}
 use borrow.Author.Needs.{needs}
 use Rattle.elements.proofs.components.suits_units.Statement.{statement}
 use Rattle.elements.proofs.components.suits_units.Tie as tie

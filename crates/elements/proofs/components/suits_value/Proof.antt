@@ -4,7 +4,7 @@ use mathlib.Core.Path.{sym, _∙_}
 use denote.Ref.{now}
 use borrow.Author.Tests.{not-true, not-false}
 use Rattle.elements.specs.Data.{value}
-use Rattle.elements.proofs.Units.{simple-free, simple-cut}
+use Rattle.elements.proofs.ComponentPass.{simple-free, simple-cut}
 use borrow.Author.Needs.{needs}
 use Rattle.elements.proofs.components.suits_value.Statement.{statement}
 use Rattle.elements.proofs.components.suits_value.Tie as tie

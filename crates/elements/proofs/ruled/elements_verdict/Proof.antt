@@ -8,26 +8,26 @@ use lib.Dec.{eqb}
 use denote.Ref.{now}
 use borrow.Author.Tests.{not-true, not-false}
 use Rattle.text.specs.View.{Piece}
-use Rattle.elements.specs.Post.{rulesOf, notedAt, completeAt, suitsAt}
-use Rattle.elements.proofs.Judging.{Judged, judged-none, judged-first, judged-kept, judged-missing, judged-unfit, judged-all, complete-at, suits-at}
-use Rattle.elements.proofs.Noting.{element-at}
+use Rattle.elements.specs.internal.Layouts.{componentsIn}
+use Rattle.elements.specs.internal.Verdicts.{rulesOf, completeAt, suitsAt}
+use Rattle.elements.proofs.ElementPass.{Judged, judged-none, judged-first, judged-kept, judged-missing, judged-unfit, judged-all, complete-at, suits-at}
+use Rattle.elements.proofs.ByLayout.{element-at}
 use native.Mathlib.Omega.{arith}
 use borrow.Author.Needs.{needs}
 use Rattle.elements.proofs.ruled.elements_verdict.Statement.{statement}
 use Rattle.elements.proofs.ruled.elements_verdict.Tie as tie
 
 abbrev Inv-loop : tie.InvT-loop
-Inv-loop s starts end count plain component tag upto unfit₀ k₀ unfit k =
-    Judged (completeAt (rulesOf tag) (notedAt s starts end count plain component))
-    (suitsAt (rulesOf tag) (notedAt s starts end count plain component)) k
+Inv-loop s starts layout component tag upto unfit₀ k₀ unfit k =
+    Judged (completeAt (rulesOf tag) (componentsIn s starts layout component))
+    (suitsAt (rulesOf tag) (componentsIn s starts layout component)) k
     unfit × (k ≤ upto + 1)
 
 abbrev μ-loop : tie.MeasureT-loop
-μ-loop s starts end count plain component tag upto unfit₀ k₀ unfit k = upto + 1 - k
+μ-loop s starts layout component tag upto unfit₀ k₀ unfit k = upto + 1 - k
 
--- the elements by the notes
 abbrev at : tie.Start Inv-loop μ-loop → ℕ → Piece
-at c = notedAt (now (c .args .s)) (now (c .args .starts)) (c .args .end) (c .args .count) (c .args .plain) (c .args .component)
+at c = componentsIn (now (c .args .s)) (now (c .args .starts)) (c .args .layout) (c .args .component)
 
 -- what the two tests of element k find
 complete-here : (c : tie.After-is-complete Inv-loop μ-loop)
@@ -35,16 +35,16 @@ complete-here : (c : tie.After-is-complete Inv-loop μ-loop)
     (at (c .before .before .before .before .before .before)) (c .before .before .before .before .loop .k)
 complete-here c =
     c .is-complete .ensures
-    ∙ complete-at _ _ _ (c .before .before .rule-of .result) _ (c .before .before .rule-of .ensures)
-    (element-at _ _ _ _ _ _ _ _ (c .before .element .ensures))
+    ∙ complete-at _ _ _ (c .before .before .rule-of .result) _ (c .before .before .rule-of .ensures .same)
+    (element-at _ _ _ _ _ _ (c .before .early-element .ensures))
 
 suited-here : (c : tie.After-is-suited Inv-loop μ-loop)
     → c .is-suited .result ≡ suitsAt (rulesOf (c .before .before .before .before .before .before .before .before .args .tag))
     (at (c .before .before .before .before .before .before .before .before)) (c .before .before .before .before .before .before .loop .k)
 suited-here c =
     c .is-suited .ensures
-    ∙ suits-at _ _ _ (c .before .before .before .before .rule-of .result) _ (c .before .before .before .before .rule-of .ensures)
-    (element-at _ _ _ _ _ _ _ _ (c .before .before .before .element .ensures))
+    ∙ suits-at _ _ _ (c .before .before .before .before .rule-of .result) _ (c .before .before .before .before .rule-of .ensures .same)
+    (element-at _ _ _ _ _ _ (c .before .before .before .early-element .ensures))
 
 loop-holds : tie.Need-loop-holds Inv-loop μ-loop
 loop-holds c = (judged-none _ _, omega arith)
@@ -52,8 +52,8 @@ loop-holds c = (judged-none _ _, omega arith)
 rule-of-requires : tie.Need-rule-of-requires Inv-loop μ-loop
 rule-of-requires c κs = search needs
 
-element-requires : tie.Need-element-requires Inv-loop μ-loop
-element-requires c κs = search needs
+early-element-requires : tie.Need-early-element-requires Inv-loop μ-loop
+early-element-requires c κs = search needs
 
 is-complete-requires : tie.Need-is-complete-requires Inv-loop μ-loop
 is-complete-requires c κs = search needs
@@ -97,7 +97,7 @@ elements-verdict-spec =
     μ-loop
     loop-holds
     rule-of-requires
-    element-requires
+    early-element-requires
     is-complete-requires
     returns
     is-suited-requires

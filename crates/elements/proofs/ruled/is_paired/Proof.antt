@@ -1,7 +1,7 @@
 -- `is_paired` meets its contract: both or neither.
 -- Assumes nothing.
 use denote.Ref.{now}
-use Rattle.elements.specs.Post.{isThere}
+use Rattle.elements.specs.internal.Layouts.{thereIn}
 use Rattle.elements.proofs.Pairings.{paired-two}
 use borrow.Author.Needs.{needs}
 use Rattle.elements.proofs.ruled.is_paired.Statement.{statement}
@@ -18,8 +18,7 @@ is-there-requires-2 c κs = search needs
 
 returns : tie.Need-returns
 returns c = paired-two
-    (isThere (now (c .before .before .before .args .s)) (now (c .before .before .before .args .starts)) (c .before .before .before .args .end)
-    (c .before .before .before .args .count)) _ _ (c .before .is-there .ensures) (c .is-there2 .ensures)
+    (thereIn (now (c .before .before .before .args .s)) (now (c .before .before .before .args .starts)) (c .before .before .before .args .layout)) _ _ (c .before .is-there .ensures) (c .is-there2 .ensures)
 
 pub is-paired-spec : {M : Type 1} → statement M
 is-paired-spec = tie.close (tie.spec is-there-requires add-is-there is-there-requires-2 returns)

@@ -10,11 +10,11 @@ use borrow.Author.Needs.{needs}
 use Rattle.elements.proofs.ruled.is_there.Statement.{statement}
 use Rattle.elements.proofs.ruled.is_there.Tie as tie
 
-element-requires : tie.Need-element-requires
-element-requires c κs = search needs
+early-element-requires : tie.Need-early-element-requires
+early-element-requires c κs = search needs
 
 returns : tie.Need-returns
-returns c = ap (λ (p : List ℕ). not (eqb (length p) 0)) (c .element .ensures)
+returns c = ap (λ (p : List ℕ). not (eqb (length p) 0)) (c .early-element .ensures)
 
 pub is-there-spec : {M : Type 1} → statement M
-is-there-spec = tie.close (tie.spec element-requires returns)
+is-there-spec = tie.close (tie.spec early-element-requires returns)

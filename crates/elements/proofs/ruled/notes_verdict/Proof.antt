@@ -1,7 +1,8 @@
 -- `notes_verdict` meets its contract, tag by tag.
 -- Assumes nothing.
-use Rattle.elements.proofs.Ruling.{rules-N1, rules-DTM, rules-LIN, rules-NCA}
-use Rattle.elements.proofs.Profile.{no-notes}
+use Rattle.elements.proofs.RuleNumbers.{rules-N1, rules-DTM, rules-LIN, rules-NCA}
+use Rattle.elements.proofs.EveryTag.{no-notes}
+use Rattle.rows.specs.Tags.{tagNumber}
 use borrow.Author.Needs.{needs}
 use Rattle.elements.proofs.ruled.notes_verdict.Statement.{statement}
 use Rattle.elements.proofs.ruled.notes_verdict.Tie as tie
@@ -19,18 +20,23 @@ party-notes-requires-2 : tie.Need-party-notes-requires-2
 party-notes-requires-2 c κs = search needs
 
 returns : tie.Need-returns
+unfolding tagNumber
 returns c = rw (c .before .match .keys1, rules-N1) (c .party-notes .ensures)
 
 returns-2 : tie.Need-returns-2
+unfolding tagNumber
 returns-2 c = rw (c .before .match .keys2, rules-DTM) (c .date-notes .ensures)
 
 returns-3 : tie.Need-returns-3
+unfolding tagNumber
 returns-3 c = rw (c .before .match .keys3, rules-LIN) (c .item-notes .ensures)
 
 returns-4 : tie.Need-returns-4
+unfolding tagNumber
 returns-4 c = rw (c .before .match .keys4, rules-NCA) (c .party-notes2 .ensures)
 
 returns-5 : tie.Need-returns-5
+unfolding tagNumber
 returns-5 c = rw (no-notes (c .before .before .args .tag) (c .match .rest .0 .0 .0 .1) (c .match .rest .0 .0 .1) (c .match .rest .0 .1)
     (c .match .rest .1))
 

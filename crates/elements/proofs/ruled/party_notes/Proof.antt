@@ -8,14 +8,14 @@ use denote.Ref.{now}
 use borrow.Author.Tests.{not-true, not-false}
 use Rattle.elements.specs.Data.{Note, Paired, Required}
 use Rattle.elements.specs.Rules.{noteHolds}
-use Rattle.elements.specs.Post.{isThere}
+use Rattle.elements.specs.internal.Layouts.{thereIn}
 use Rattle.elements.proofs.Pairings.{required-two, note-broken, note-kept}
 use borrow.Author.Needs.{needs}
 use Rattle.elements.proofs.ruled.party_notes.Statement.{statement}
 use Rattle.elements.proofs.ruled.party_notes.Tie as tie
 
 abbrev there : tie.Start → ℕ → Bool
-there c = isThere (now (c .args .s)) (now (c .args .starts)) (c .args .end) (c .args .count)
+there c = thereIn (now (c .args .s)) (now (c .args .starts)) (c .args .layout)
 
 -- R0203 and the pair
 abbrev named : Note

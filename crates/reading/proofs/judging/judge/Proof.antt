@@ -30,7 +30,7 @@ returns-2 c = λ before gs rows g more fit nt st.
 judge-known-requires : tie.Need-judge-known-requires
 judge-known-requires c κs =
     let start = c .before .before .before .before .before .before .before in
-    let known : KnownTag _ _ (start .args .notes) _ = record { tagged = c .before .before .before .tag-of .ensures; listed = omega (arith, c .before .before .if1 .left); ended = of-not (start .args .notes .ended) (c .if2 .left) } in
+    let known : KnownTag _ _ (start .args .layout) _ = record { tagged = c .before .before .before .tag-of .ensures; listed = omega (arith, c .before .before .if1 .left); ended = of-not (start .args .layout .ended) (c .if2 .left) } in
     (start .pre .0, known)
 
 returns-3 : tie.Need-returns-3

@@ -6,14 +6,14 @@ use borrow.Author.Needs.{needs}
 use Rattle.reading.proofs.judging.tag_of.Statement.{statement}
 use Rattle.reading.proofs.judging.tag_of.Tie as tie
 
-noted-element-requires : tie.Need-noted-element-requires
-noted-element-requires c κs = search needs
+element-requires : tie.Need-element-requires
+element-requires c κs = search needs
 
 tag-number-requires : tie.Need-tag-number-requires
 tag-number-requires c κs = search needs
 
 returns : tie.Need-returns
-returns c = c .tag-number .ensures ∙ ap tagNumber (c .before .noted-element .ensures)
+returns c = c .tag-number .ensures ∙ ap tagNumber (c .before .element .ensures)
 
 pub tag-of-spec : {M : Type 1} → statement M
-tag-of-spec = tie.close (tie.spec noted-element-requires tag-number-requires returns)
+tag-of-spec = tie.close (tie.spec element-requires tag-number-requires returns)

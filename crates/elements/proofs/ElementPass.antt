@@ -1,0 +1,204 @@
+-- The pass over the elements: too many of them, the first that is incomplete, the first that does not suit.
+-- Assumes nothing.
+use Prim.Native.Nat.{ℕ, zero, suc, _+_, _≤_, _<_}
+use mathlib.Core.Path.{_≡_, refl, sym, ap, ap₂, _∙_}
+use mathlib.Core.Logic.{_⊎_, inl, inr, ⊎-elim, by-cases}
+use mathlib.Core.Bool.{Bool, true, false, not, _&&_, true≢false}
+use mathlib.Core.List.{_++_}
+use native.Mathlib.Omega.{arith}
+use native.Mathlib.Decide.{decLt}
+use lib.Dec.{leb, eqb}
+use lib.ListN.{length}
+use borrow.Author.Tests.{eqb-true, eqb-false, eq-eqb, leb-true, le-leb, lt-leb, not-true}
+use Rattle.text.specs.View.{Piece, empty}
+use Rattle.rows.specs.Tags.{tag}
+use Rattle.text.proofs.Tests.{and-first, and-second}
+use Rattle.elements.specs.Checks.{each, firstBroken}
+use Rattle.elements.specs.Data.{Shape, Simple, Composite, Element, Rules}
+use Rattle.elements.specs.Rules.{ruleOf, fewComponents, headed, fewBy, completeBy, suitsBy}
+use Rattle.elements.specs.internal.Verdicts.{elementBy, rulesOf, lastMust, completeAt, suitsAt, elementsVerdict}
+use Rattle.elements.specs.declared.rules.Rule.{Rule}
+use Rattle.elements.specs.declared.verdict.Verdict.{Verdict}
+use Rattle.elements.specs.declared.verdict.Verdict.the-variants.{Holds, Broken}
+use Rattle.elements.proofs.FirstBroken.{andThen, broken-append, each-holds, each-broken, each-upto, holds-each}
+use Rattle.elements.proofs.EveryTag.{few-but-five, few-empty, unneeded}
+use Rattle.elements.proofs.RuleNumbers.{rule-past, rules-NCA}
+
+-- two tests of each element, t before u: those below k pass t, and `unfit` is the first of them that fails u, or 0
+pub record Judged (t u : ℕ → Bool) (k unfit : ℕ) : Type 0 where
+  pub start : 1 ≤ k
+  pub complete : (j : ℕ) → 1 ≤ j → j < k → t j ≡ true
+  pub suited : (j : ℕ) → 1 ≤ j → j < k → (unfit ≡ 0) ⊎ (j < unfit) → u j ≡ true
+  pub found : (unfit ≡ 0 → ⊥) → (u unfit ≡ false) × (unfit < k)
+
+pub judged-none : (t u : ℕ → Bool) → Judged t u 1 0
+judged-none t u = record {
+  start = omega arith;
+  complete = λ j l m. absurd (omega arith);
+  suited = λ j l m o. absurd (omega arith);
+  found = λ n. absurd (n refl);
+}
+
+-- what holds below k and at k holds below k + 1
+below-next : (P : ℕ → Type 0) (k : ℕ) → ((j : ℕ) → 1 ≤ j → j < k → P j) → P k → (j : ℕ) → 1 ≤ j → j < k + 1 → P j
+below-next P k below here j l m =
+    by-cases (decLt j k) (λ less. below j l less) (λ not-less. let same : k ≡ j = omega arith in rw same at here)
+
+module _ {t u : ℕ → Bool} {k unfit : ℕ} (w : Judged t u k unfit) where
+  -- the first that does not suit
+  pub judged-first : t k ≡ true → eqb unfit 0 && not (u k) ≡ true → Judged t u (k + 1) k
+  judged-first c e =
+      let none : unfit ≡ 0 = eqb-true unfit 0 (and-first (eqb unfit 0) (not (u k)) e) in
+      let fails : u k ≡ false = not-true (u k) (and-second (eqb unfit 0) (not (u k)) e) in
+      record {
+        start = omega (arith, w .start);
+        complete = below-next (λ (j : ℕ). t j ≡ true) k (w .complete) c;
+        suited = λ j l m o. w .suited j l (⊎-elim (λ z. absurd (omega (arith, w .start))) (λ z. z) o) (inl none);
+        found = λ n. (fails, omega arith);
+      }
+
+  -- one that suits, or one behind the first that does not
+  pub judged-kept : t k ≡ true → eqb unfit 0 && not (u k) ≡ false → Judged t u (k + 1) unfit
+  judged-kept c e = record {
+    start = omega (arith, w .start);
+    complete = below-next (λ (j : ℕ). t j ≡ true) k (w .complete) c;
+    suited = below-next (λ (j : ℕ). (unfit ≡ 0) ⊎ (j < unfit) → u j ≡ true) k (w .suited) (⊎-elim suits behind);
+    found = λ n. (w .found n .0, omega (arith, w .found n .1));
+  }
+    where
+      by-test : (a b : Bool) → a ≡ true → a && not b ≡ false → b ≡ true
+      by-test true true p q = refl
+      by-test true false p q = absurd (true≢false q)
+      by-test false b p q = absurd (true≢false (sym p))
+
+      suits : unfit ≡ 0 → u k ≡ true
+      suits z = by-test (eqb unfit 0) (u k) (eq-eqb unfit 0 z) e
+
+      behind : k < unfit → u k ≡ true
+      behind l = absurd (omega (arith, w .found (λ z. omega arith) .1))
+
+  module _ (upto : ℕ) where
+    abbrev both : Verdict
+    both = firstBroken (each 8 1 upto t ++ each 10 1 upto u)
+
+    -- an element that is incomplete decides
+    pub judged-missing : k ≤ upto → t k ≡ false → Broken 8 k ≡ both
+    judged-missing l e =
+        sym
+        (broken-append (each 8 1 upto t) (each 10 1 upto u)
+        ∙ ap (λ (v : Verdict). andThen v (firstBroken (each 10 1 upto u))) (each-broken 8 1 upto k t (w .complete) (w .start) (omega arith) e))
+
+    module _ (over : upto < k) (near : k ≤ upto + 1) where
+      all-there : both ≡ firstBroken (each 10 1 upto u)
+      all-there =
+          broken-append (each 8 1 upto t) (each 10 1 upto u)
+          ∙ ap (λ (v : Verdict). andThen v (firstBroken (each 10 1 upto u))) (each-holds 8 1 upto t (λ j l m. w .complete j l (omega arith)))
+
+      pub judged-unfit : (unfit ≡ 0 → ⊥) → Broken 10 unfit ≡ both
+      judged-unfit n =
+          let f = w .found n in
+          sym
+          (all-there
+          ∙ each-broken 10 1 upto unfit u (λ j l m. w .suited j l (omega (arith, f .1)) (inr m)) (omega (arith, n)) (omega (arith, f .1)) (f .0))
+
+      pub judged-all : unfit ≡ 0 → Holds ≡ both
+      judged-all z = sym (all-there ∙ each-holds 10 1 upto u (λ j l m. w .suited j l (omega arith) (inl z)))
+
+-- what the code finds of element k
+module _ (rules : Rules) (at : ℕ → Piece) (k : ℕ) (rule : Rule) (p : Piece) (e : elementBy rule ≡ ruleOf rules k) (f : p ≡ at k) where
+  pub complete-at : completeBy (elementBy rule) p ≡ completeAt rules at k
+  unfolding completeAt
+  complete-at = ap₂ completeBy e f
+
+  pub suits-at : suitsBy (elementBy rule) p ≡ suitsAt rules at k
+  unfolding suitsAt
+  suits-at = ap₂ suitsBy e f
+
+-- past the last element that is there or has to be, all is well
+module _ (tag count upto : ℕ) (at : ℕ → Piece) (past : (k : ℕ) → count < k → at k ≡ empty) (far : count ≤ upto) where
+  pub suits-past : (k : ℕ) → upto < k → suitsAt (rulesOf tag) at k ≡ true
+  unfolding suitsAt
+  suits-past k l = rw (past k (omega arith))
+
+  pub complete-past : lastMust (rulesOf tag .elements) ≤ upto → (k : ℕ) → upto < k → completeAt (rulesOf tag) at k ≡ true
+  unfolding completeAt
+  complete-past enough k l =
+      rw (past k (omega arith), unneeded tag k (omega arith)) (absent (ruleOf (rulesOf tag) k .shape))
+    where
+      absent : (shape : Shape) → headed shape empty ≡ true
+      absent (Simple x) = refl
+      absent (Composite xs) = refl
+
+  pub elements-upto : lastMust (rulesOf tag .elements) ≤ upto → upto ≤ length (rulesOf tag .elements)
+      → elementsVerdict (rulesOf tag) at (length (rulesOf tag .elements)) ≡ elementsVerdict (rulesOf tag) at upto
+  elements-upto enough near =
+      let last = length (rulesOf tag .elements) in
+      let t = completeAt (rulesOf tag) at in
+      let u = suitsAt (rulesOf tag) at in
+      broken-append (each 8 1 last t) (each 10 1 last u)
+      ∙ ap₂ andThen (each-upto 8 1 upto last t near (λ k l m. complete-past enough k (omega arith)))
+      (each-upto 10 1 upto last u near (λ k l m. suits-past k (omega arith)))
+      ∙ sym (broken-append (each 8 1 upto t) (each 10 1 upto u))
+
+-- NCA05's components, counted by the code
+pub few-fifth : (t : ℕ) (p : Piece) → t ≡ tag "NCA" → leb (length p) 15 ≡ fewComponents (ruleOf (rulesOf t) 5 .shape) p
+few-fifth t p e = rw (e, rules-NCA)
+
+-- 9: NCA05 has too many components, or there is an element past the last
+module _ (tag count : ℕ) (at : ℕ → Piece) where
+  abbrev few : ℕ → Bool
+  few k = fewBy (rulesOf tag) k (at k)
+
+  abbrev last : ℕ
+  last = length (rulesOf tag .elements)
+
+  pub too-many-five : (count < 5 → at 5 ≡ empty) → fewComponents (ruleOf (rulesOf tag) 5 .shape) (at 5) ≡ false
+      → Broken 9 5 ≡ firstBroken (each 9 1 count few)
+  too-many-five past e =
+      sym (each-broken 9 1 count 5 few (λ j l m. before j m) (omega arith) (omega (arith, there)) (rw e (last-false (leb 5 last))))
+    where
+      last-false : (t : Bool) → t && false ≡ false
+      last-false true = refl
+      last-false false = refl
+
+      there : 5 ≤ count
+      there =
+          by-cases (decLt count 5)
+          (λ l. absurd (true≢false (sym (few-empty tag) ∙ ap (fewComponents (ruleOf (rulesOf tag) 5 .shape)) (sym (past l)) ∙ e))) (λ l. omega arith)
+
+      ruled : 5 ≤ last
+      ruled =
+          by-cases (decLt last 5)
+          (λ l. absurd (true≢false (ap (λ (r : Element). fewComponents (r .shape) (at 5)) (rule-past (rulesOf tag) 5 l) ∙ e))) (λ l. omega arith)
+
+      before : (j : ℕ) → j < 5 → few j ≡ true
+      before j m = rw (le-leb j last (omega (arith, ruled))) (few-but-five tag j (at j) (λ z. omega arith))
+
+  module _ (five : fewComponents (ruleOf (rulesOf tag) 5 .shape) (at 5) ≡ true) where
+    few-each : (j : ℕ) → fewComponents (ruleOf (rulesOf tag) j .shape) (at j) ≡ true
+    few-each j = by-test (eqb j 5) refl
+      where
+        by-test : (t : Bool) → eqb j 5 ≡ t → fewComponents (ruleOf (rulesOf tag) j .shape) (at j) ≡ true
+        by-test true e = rw (eqb-true j 5 e) five
+        by-test false e = few-but-five tag j (at j) (eqb-false j 5 e)
+
+    past-last : last < count → Broken 9 (last + 1) ≡ firstBroken (each 9 1 count few)
+    past-last l =
+        sym
+        (each-broken 9 1 count (last + 1) few (λ j p m. rw (le-leb j last (omega arith)) (few-each j)) (omega arith) (omega arith)
+        (rw (lt-leb (last + 1) last (omega arith))))
+
+    pub too-many-past : (n : ℕ) → n ≡ last → n < count → Broken 9 (n + 1) ≡ firstBroken (each 9 1 count few)
+    too-many-past n e l = rw e (past-last (rw e at l))
+
+    pub few-all : count ≤ last → Holds ≡ firstBroken (each 9 1 count few)
+    few-all l = sym (each-holds 9 1 count few (λ j p m. rw (le-leb j last (omega arith)) (few-each j)))
+
+-- where 9 is silent there are no more elements than rules
+pub few-count : (tag count : ℕ) (at : ℕ → Piece) → firstBroken (each 9 1 count (λ (k : ℕ). fewBy (rulesOf tag) k (at k))) ≡ Holds
+    → count ≤ length (rulesOf tag .elements)
+few-count tag zero at e = omega arith
+few-count tag (suc count) at e =
+    leb-true (suc count) (length (rulesOf tag .elements))
+    (and-first (leb (suc count) (length (rulesOf tag .elements))) (fewComponents (ruleOf (rulesOf tag) (suc count) .shape) (at (suc count)))
+    (holds-each 9 1 (suc count) (λ (k : ℕ). fewBy (rulesOf tag) k (at k)) e (suc count) (omega arith) (omega arith)))

@@ -1,0 +1,7 @@
+-- Contracts among the functions of this crate. No rule is stated with anything here.
+-- Assumes nothing.
+pub mod Layouts
+pub mod Components
+pub mod Verdicts
+pub mod Table
+pub mod Usual

@@ -1,0 +1,6 @@
+// The six types of document 01, and whether a value is of a type and a length.
+mod dates;
+pub mod digits;
+pub mod kind;
+pub mod quick;
+pub mod values;
