@@ -7,6 +7,7 @@ ghost use Rattle.reading.specs.internal.SpecialBytes.{isSpecialIn, Speci
 ghost use Rattle.reading.specs.internal.Queue.{bit, Indexed, Window, Ready};
 ghost use Rattle.reading.specs.internal.Cutting.{Cuts, Stops};
 ghost use Rattle.text.specs.Separators.{Fitted};
+use elements::layout::Layout;
 use text::separators::Separators;
 
 // What the bytes hold next.
@@ -15,17 +16,15 @@ pub(crate) enum Next {
     Open,
     // A terminator at this place, and before it a byte that is neither data nor separator.
     Bad(usize),
-    // A segment: the place of its terminator, how many elements it has, whether no component separator stands in it, whether it has an
-    // element and neither the last element nor a last component is empty, and what is left of the queue.
-    Segment {
-        end: usize,
-        count: usize,
-        plain: bool,
-        ended: bool,
-        head: usize,
-        tail: usize,
-        seen: usize,
-    },
+    // A segment, by its layout, and what is left of the queue behind it.
+    Segment { layout: Layout, left: Left },
+}
+
+// What is left of the queue: the entries from `head` up to `tail`, which are the special places from here as far as `seen`.
+pub(crate) struct Left {
+    pub head: usize,
+    pub tail: usize,
+    pub seen: usize,
 }
 
 // The bytes from `from` to `last` get this entry.
@@ -131,18 +130,19 @@ pub(crate) fn next_segment(
     specials: &[bool; 256],
     separators: Separators,
     at: usize,
-    mut head: usize,
-    mut tail: usize,
-    mut seen: usize,
+    left: Left,
     queue: &mut [usize; 72],
     starts: &mut [usize; 33],
 ) -> Next
     requires { ⌜ SpecialTable separators (now specials) ⌝ }
     requires { ⌜ Fitted separators ⌝ }
-    requires { ⌜ Ready (now specials) (now s) at (now queue) head tail seen ⌝ }
+    requires { ⌜ Ready (now specials) (now s) at (now queue) (left .head) (left .tail) (left .seen) ⌝ }
     requires { ⌜ length (now starts) ≡ 33 ⌝ }
     ensures { λ r. ⌜ Cuts separators (now (specials .entry)) (now (s .entry)) at (now (queue .exit)) (now (starts .exit)) r ⌝ }
 {
+    let mut head = left.head;
+    let mut tail = left.tail;
+    let mut seen = left.seen;
     let mut count: usize = 0;
     let mut ended = true;
     let mut start = at;
@@ -161,15 +161,15 @@ pub(crate) fn next_segment(
                 continue;
             }
             if byte == separators.terminator {
-                return Next::Segment {
+                let layout = Layout {
+                    at,
                     end: place,
                     count,
-                    plain: behind == at,
+                    single: behind == at,
                     ended: ended & (place != behind) & (place != start) & (count != 0),
-                    head,
-                    tail,
-                    seen,
                 };
+                let left = Left { head, tail, seen };
+                return Next::Segment { layout, left };
             }
             if byte != separators.component {
                 return stop(s, place, separators.terminator);

@@ -1,7 +1,7 @@
 // Reading one transaction, segment after segment.
 ghost use mathlib.Core.Path.{_≡_};
 ghost use mathlib.Core.List.{List};
-ghost use Prim.Native.Nat.{ℕ, _≤_};
+ghost use Prim.Native.Nat.{ℕ, _+_, _≤_};
 ghost use lib.ListN.{length};
 ghost use Rattle.text.specs.Bytes.{Bytes};
 ghost use Rattle.text.specs.View.{viewOf};
@@ -12,15 +12,16 @@ ghost use Rattle.elements.specs.Rules.{byteChecks};
 ghost use Rattle.reading.specs.internal.SpecialBytes.{SpecialTable};
 ghost use Rattle.gate.specs.Profile.{nonconformance};
 ghost use Rattle.gate.specs.Records.{Tables};
+ghost use Rattle.gate.specs.declared.answer.Answer.the-variants.{Refused};
 ghost use Rattle.gate.specs.Reads.{limit, Read, Reads};
 ghost use Rattle.reading.specs.internal.Settling.{between, refusedBy};
 use crate::cutting;
+use crate::cutting::Left;
 use crate::cutting::Next;
 use crate::judging;
 use crate::judging::State;
 use crate::settling;
 use crate::settling::Step;
-use elements::layout::Layout;
 use elements::segment;
 use elements::verdict::Verdict;
 use gate::answer::Answer;
@@ -29,6 +30,19 @@ use numbering::next;
 
 // The longest input.
 pub const LIMIT: usize = 1048576;
+
+// A refusal that names no element, behind `count` segments.
+fn refused(number: usize, count: usize, at: usize) -> Answer
+    requires { ⌜ count ≤ 9000000000000000000 ⌝ }
+    ensures { λ r. ⌜ r ≡ Refused number (count + 1) at 0 ⌝ }
+{
+    Answer::Refused {
+        number,
+        segment: count + 1,
+        byte: at,
+        element: 0,
+    }
+}
 
 // Rule 5 broken by the segment from `at` to `end`, behind `count` segments: the answer with its element.
 fn bad_bytes(s: &[u8], how: How, at: usize, end: usize, count: usize) -> Answer
@@ -44,12 +58,7 @@ fn bad_bytes(s: &[u8], how: How, at: usize, end: usize, count: usize) -> Answer
             byte: at,
             element,
         },
-        Verdict::Holds => Answer::Refused {
-            number: 5,
-            segment: count + 1,
-            byte: at,
-            element: 0,
-        },
+        Verdict::Holds => refused(5, count, at),
     }
 }
 
@@ -72,9 +81,11 @@ fn read_on(
     let mut queue: [usize; 72] = [0; 72];
     let mut starts: [usize; 33] = [0; 33];
     let mut at: usize = 0;
-    let mut head: usize = 0;
-    let mut tail: usize = 0;
-    let mut seen: usize = 0;
+    let mut left = Left {
+        head: 0,
+        tail: 0,
+        seen: 0,
+    };
     let mut state = State {
         count: 0,
         row: 0,
@@ -88,39 +99,20 @@ fn read_on(
             specials,
             how.separators,
             at,
-            head,
-            tail,
-            seen,
+            left,
             &mut queue,
             &mut starts,
         ) {
             Next::Open => {
-                return Answer::Refused {
-                    number: 3,
-                    segment: state.count + 1,
-                    byte: at,
-                    element: 0,
-                };
+                return refused(3, state.count, at);
             }
             Next::Bad(end) => {
                 return bad_bytes(s, how, at, end, state.count);
             }
             Next::Segment {
-                end,
-                count,
-                plain,
-                ended,
-                head: left,
-                tail: upto,
-                seen: known,
+                layout,
+                left: behind,
             } => {
-                let layout = Layout {
-                    at,
-                    end,
-                    count,
-                    single: plain,
-                    ended,
-                };
                 let judgement = judging::judge(
                     s,
                     how,
@@ -137,10 +129,8 @@ fn read_on(
                     }
                     Step::Passed(next) => {
                         state = next;
-                        at = end + 1;
-                        head = left;
-                        tail = upto;
-                        seen = known;
+                        at = layout.end + 1;
+                        left = behind;
                     }
                 }
             }

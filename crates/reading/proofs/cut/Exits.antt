@@ -1,7 +1,7 @@
 -- The ways out of the walk of `next_segment`: at a terminator, at a bad byte, and where the bytes are used up.
 -- Assumes nothing.
 use Prim.Native.Nat.{ℕ, suc, _+_, _≤_, _<_}
-use mathlib.Core.Path.{_≡_, sym, ap, _∙_}
+use mathlib.Core.Path.{_≡_, refl, sym, ap, _∙_}
 use mathlib.Core.Logic.{by-cases}
 use mathlib.Core.Bool.{Bool, not, _&&_}
 use mathlib.Core.List.{List, [], _∷_, _++_, append-assoc, append-nil, head-eq-of-cons-eq}
@@ -19,7 +19,7 @@ use Rattle.text.specs.declared.separators.Separators.{Separators}
 use Rattle.text.proofs.Bools.{both, first-of, second-of, apart}
 use Rattle.text.proofs.Pieces.{pieces-free, pieces-closed}
 use Rattle.text.proofs.View.{free-append}
-use Rattle.reading.specs.internal.Cutting.{BadSegment, GoodSegment, Cuts, Stops}
+use Rattle.reading.specs.internal.Cutting.{BadSegment, CutAs, GoodSegment, Cuts, Stops}
 use Rattle.elements.proofs.PresentPieces.{some as filled}
 use Rattle.reading.specs.declared.cutting.Next.{Next}
 use Rattle.reading.specs.declared.cutting.Next.the-variants.{Open, Bad, Segment}
@@ -129,11 +129,10 @@ module _ {q : Separators} {table : List Bool} {s : Bytes} {at : ℕ} {queue star
         (rw (filled-by final here start (piece-place w some)) (e .last-filled))
         (rw (ne-eqb count 0 (λ z. omega arith)) tt)
 
-    -- the terminator: the bytes up to it are the segment
-    pub at-end : getD s here 0 ≡ q .terminator → GoodSegment q table s at queue starts here count (eqb behind at) tested (head + 1) tail seen
-    at-end e = record {
-      segment = passed;
-      more = drop (here + 1) s;
+    -- the terminator: the bytes up to it are the segment, and this is its layout
+    laid-out : getD s here 0 ≡ q .terminator
+        → CutAs q s starts (record { at = at; end = here; count = count; single = eqb behind at; ended = tested }) passed (drop (here + 1) s)
+    laid-out e = record {
       whole = rw (← byte-there w some (q .terminator) e) passed-whole;
       free = passed-free;
       place = passed-long;
@@ -146,8 +145,13 @@ module _ {q : Separators} {table : List Bool} {s : Bytes} {at : ℕ} {queue star
           free-append (q .component) (closed (q .element) (w .gone)) final (w .alone z .0) (piece-alone w some z);
       kept = λ t. rw passed-pieces (ends-kept (q .component) (w .gone) final (tested-ended t));
       unkept = λ t h. T-not tested t (ended-tested (ends-told (q .component) (w .gone) final (rw passed-pieces at h)));
-      ready = next-ready w some;
     }
+
+    -- what is left of the queue serves the next cut
+    pub at-end : getD s here 0 ≡ q .terminator
+        → GoodSegment q table s at queue starts (record { at = at; end = here; count = count; single = eqb behind at; ended = tested })
+        (record { head = head + 1; tail = tail; seen = seen })
+    at-end e = record { segment = passed; more = drop (here + 1) s; at-is = refl; laid = laid-out e; ready = next-ready w some }
 
     module _ (no-e : getD s here 0 ≡ q .element → ⊥) (no-c : getD s here 0 ≡ q .component → ⊥)
         (no-t : getD s here 0 ≡ q .terminator → ⊥) where
@@ -173,7 +177,7 @@ module _ {q : Separators} {table : List Bool} {s : Bytes} {at : ℕ} {queue star
       pub at-bad : (r : Next) → Stops s here (q .terminator) r → Cuts q table s at queue starts r
       at-bad Open f = rw passed-whole (free-append (q .terminator) passed (drop here s) passed-free f)
       at-bad (Bad end) m = spoilt end m
-      at-bad (Segment end count plain ended head tail seen) f = absurd f
+      at-bad (Segment layout left) f = absurd f
 
   -- all bytes are seen, and the queue is used up
   pub at-last : tail ≤ head → length s ≤ seen → Free (q .terminator) (drop at s)

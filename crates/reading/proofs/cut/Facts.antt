@@ -11,8 +11,9 @@ use Rattle.text.specs.Pieces.{Free}
 use Rattle.text.specs.Cut.{Whole, Stop, cutOf}
 use Rattle.text.specs.declared.separators.Separators.{Separators}
 use Rattle.text.proofs.DocumentCut.{cut-whole, cut-none}
+use Rattle.elements.specs.declared.layout.Layout.{Layout}
 use Rattle.reading.specs.internal.Queue.{left, Ready}
-use Rattle.reading.specs.internal.Cutting.{BadSegment, GoodSegment}
+use Rattle.reading.specs.internal.Cutting.{BadSegment, CutAs}
 use Rattle.reading.proofs.cut.Index.{listed-none}
 
 -- before anything is seen, an empty queue is ready
@@ -27,12 +28,11 @@ open-stops q s at f = cut-none q (drop at s) f
 pub bad-cut : {q : Separators} {s : Bytes} {at end : ℕ} (b : BadSegment q s at end) → cutOf q (drop at s) ≡ Whole (b .segment) (b .more)
 bad-cut {q} b = ap (cutOf q) (b .whole) ∙ cut-whole q (b .segment) (b .more) (b .free)
 
-module _ {q : Separators} {table : List Bool} {s : Bytes} {at : ℕ} {queue starts : List ℕ} {end count : ℕ} {plain ended : Bool} {head tail seen : ℕ}
-    (g : GoodSegment q table s at queue starts end count plain ended head tail seen) where
+module _ {q : Separators} {s : Bytes} {starts : List ℕ} {layout : Layout} {segment more : Bytes} (laid : CutAs q s starts layout segment more) where
   -- a segment is cut off whole
-  pub good-cut : cutOf q (drop at s) ≡ Whole (g .segment) (g .more)
-  good-cut = ap (cutOf q) (g .whole) ∙ cut-whole q (g .segment) (g .more) (g .free)
+  pub laid-cut : cutOf q (drop (layout .at) s) ≡ Whole segment more
+  laid-cut = ap (cutOf q) (laid .whole) ∙ cut-whole q segment more (laid .free)
 
   -- its terminator is within the bytes
-  pub end-inside : end < length s
-  end-inside = omega (arith, g .place, length-drop at s, simp length-append at (ap length (g .whole)))
+  pub end-inside : layout .end < length s
+  end-inside = omega (arith, laid .place, length-drop (layout .at) s, simp length-append at (ap length (laid .whole)))

@@ -21,8 +21,8 @@ use Rattle.gate.specs.Records.{Tables}
 use Rattle.gate.specs.Reads.{Read}
 use Rattle.reading.specs.internal.Standing.{Standing}
 use Rattle.reading.specs.internal.Cutting.{Cuts, BadSegment, GoodSegment}
-use Rattle.reading.specs.internal.Judgements.{Inside, Noted, Judges}
-use Rattle.reading.specs.internal.Settling.{between, refusedBy, InRoom, Settling, Stands, Settles}
+use Rattle.reading.specs.internal.Judgements.{Inside, JudgesNext}
+use Rattle.reading.specs.internal.Settling.{between, refusedBy, InRoom, Settling, Stands, Settles, SettlesBy}
 use Rattle.reading.specs.internal.Loop.{Going}
 use Rattle.gate.specs.declared.answer.Answer.{Answer}
 use Rattle.gate.specs.declared.answer.Answer.the-variants.{Refused}
@@ -33,16 +33,17 @@ use Rattle.elements.specs.declared.layout.Layout.{Layout}
 use Rattle.reading.specs.declared.judging.State.{State}
 use Rattle.reading.specs.declared.settling.Step.{Step}
 use Rattle.reading.specs.declared.settling.Step.the-variants.{Done, Passed}
+use Rattle.reading.specs.declared.cutting.Left.{Left}
 use Rattle.reading.specs.declared.cutting.Next.{Next}
 use Rattle.reading.specs.declared.cutting.Next.the-variants.{Open, Bad, Segment}
 use Rattle.reading.proofs.reader.RuleOrder.{bad-bytes}
-use Rattle.reading.proofs.cut.Facts.{ready-first, open-stops, bad-cut, good-cut, end-inside}
+use Rattle.reading.proofs.cut.Facts.{ready-first, open-stops, bad-cut, laid-cut, end-inside}
 use Rattle.reading.proofs.reader.JudgeSteps.{verdict-cases}
 use Rattle.reading.proofs.reader.Standings.{standing-start, standing-refuses, segments-long, levels-long, history-long}
 
 -- at the start
 pub going-start : (how : How) (s : Bytes) (specials : List Bool) (before : Tables) (queue starts : List ℕ) → length queue ≡ 72 → length starts ≡ 33
-    → Going how s specials before (before .segments) (before .levels) queue starts 0 0 0 0 (record { count = 0; row = 0; again = false; known = 0; greatest = 0 })
+    → Going how s specials before (before .segments) (before .levels) queue starts 0 (record { head = 0; tail = 0; seen = 0 }) (record { count = 0; row = 0; again = false; known = 0; greatest = 0 })
 going-start how s specials before queue starts q r = record {
   stands = record { gs = []; rows = []; standing = standing-start how before s };
   ready = ready-first specials s queue q;
@@ -108,64 +109,42 @@ module _ {how : How} {s : Bytes} {before : Tables} {segments levels : List ℕ} 
 
 -- a segment that was cut and has data bytes
 pub cut-good : {how : How} {s : Bytes} {specials : List Bool} {queue starts : List ℕ} {at : ℕ} (next : Next) → Cuts (how .separators) specials s at queue starts next
-    → {end count : ℕ} {plain ended : Bool} {head tail ahead : ℕ} → next ≡ Segment end count plain ended head tail ahead
-    → GoodSegment (how .separators) specials s at queue starts end count plain ended head tail ahead
+    → {layout : Layout} {left : Left} → next ≡ Segment layout left → GoodSegment (how .separators) specials s at queue starts layout left
 cut-good {how} {s} {specials} {queue} {starts} {at} next cuts is = subst (λ (n : Next). Cuts (how .separators) specials s at queue starts n) is cuts
 
-module _ {how : How} {s : Bytes} {specials : List Bool} {queue starts : List ℕ} {at end count : ℕ} {plain ended : Bool} {head tail ahead : ℕ}
-    (good : GoodSegment (how .separators) specials s at queue starts end count plain ended head tail ahead) where
-  abbrev layout : Layout
-  layout = record { at = at; end = end; count = count; single = plain; ended = ended }
+module _ {how : How} {s : Bytes} {specials : List Bool} {queue starts : List ℕ} {at : ℕ} {layout : Layout} {left : Left}
+    (good : GoodSegment (how .separators) specials s at queue starts layout left) where
+  pub good-forward : at ≤ layout .end
+  good-forward = omega (arith, good .laid .place, good .at-is)
 
-  noted : Noted how s starts layout (good .segment) (good .more)
-  noted = record {
-    whole = good .whole;
-    free = good .free;
-    place = good .place;
-    data-only = good .data-only;
-    elements = good .elements;
-    begins = good .begins;
-    room = good .room;
-    single = good .single;
-    kept = good .kept;
-    unkept = good .unkept;
-  }
-
-  pub good-forward : at ≤ end
-  good-forward = omega (arith, good .place)
-
-  pub good-within : end < length s
-  good-within = end-inside good
+  pub good-within : layout .end < length s
+  good-within = end-inside (good .laid)
 
   pub good-inside : Inside s layout
-  good-inside = record { forward = good-forward; within = omega (arith, good-within) }
+  good-inside = record { forward = omega (arith, good .laid .place); within = omega (arith, good-within) }
 
   module _ {before : Tables} {segments levels : List ℕ} {state : State} (stands : Stands how before s segments levels at state) where
     pub in-room : length s ≤ 1048576 → InRoom segments levels layout state
     in-room l = record {
-      forward = good-forward;
+      forward = omega (arith, good .laid .place);
       short = omega (arith, good-within);
       segments-fit = segments-within stands;
       levels-fit = levels-within stands;
     }
 
     -- `settle` on what `judge` said
-    module _ (fit : Fitted (how .separators)) (j : Judgement)
-        (judged : (before : Tables) (gs : List Placed) (rows : List ℕ) (g more : Bytes) → Fitted (how .separators) → Noted how s starts layout g more
-        → Standing how before s segments levels at (state .count) (state .row) (state .again) (state .known) (state .greatest) gs rows
-        → Judges rows (onto [] (seen how gs)) (viewOf (how .separators) g) j)
-        (segments′ levels′ : List ℕ) (r : Step)
-        (settles : (how : How) (before : Tables) (s : Bytes) (gs : List Placed) (rows : List ℕ) (g more : Bytes)
-        → Settling how before s segments levels layout state gs rows g more j → Settles how before s layout segments′ levels′ r) where
+    module _ (fit : Fitted (how .separators)) (j : Judgement) (judged : JudgesNext how s starts layout state segments levels j)
+        (segments′ levels′ : List ℕ) (r : Step) (settles : SettlesBy j layout state segments levels segments′ levels′ r) where
       settled : Settles how before s layout segments′ levels′ r
       settled =
-          settles how before s (stands .gs) (stands .rows) (good .segment) (good .more) (record {
+          let here : Stands how before s segments levels (layout .at) state = rw (good .at-is) stands in
+          settles how before s (here .gs) (here .rows) (good .segment) (good .more) (record {
             fit = fit;
-            standing = stands .standing;
-            cut = good-cut good;
-            whole = good .whole;
-            place = good .place;
-            right = judged before (stands .gs) (stands .rows) (good .segment) (good .more) fit noted (stands .standing);
+            standing = here .standing;
+            cut = laid-cut (good .laid);
+            whole = good .laid .whole;
+            place = good .laid .place;
+            right = judged before (here .gs) (here .rows) (good .segment) (good .more) fit (good .laid) (here .standing);
           })
 
       -- the answer
@@ -173,5 +152,5 @@ module _ {how : How} {s : Bytes} {specials : List Bool} {queue starts : List ℕ
       settled-done a e = subst (λ (x : Step). Settles how before s layout segments′ levels′ x) e settled
 
       -- the next place
-      pub settled-passed : (after : State) → r ≡ Passed after → Stands how before s segments′ levels′ (end + 1) after
+      pub settled-passed : (after : State) → r ≡ Passed after → Stands how before s segments′ levels′ (layout .end + 1) after
       settled-passed after e = subst (λ (x : Step). Settles how before s layout segments′ levels′ x) e settled

@@ -37,7 +37,8 @@ use Rattle.gate.specs.Segments.{tagIn, isHL, isSE, seen, onto, levelsIn}
 use Rattle.gate.specs.Rules.{closingChecks}
 use Rattle.gate.specs.Records.{Tables}
 use Rattle.reading.specs.internal.Standing.{Standing}
-use Rattle.reading.specs.internal.Judgements.{notedClaim, notedClosing, segmentOf, brokenBy, byLevel, byClosing, lateJudgement, JudgesLate, Noted, Judges}
+use Rattle.reading.specs.internal.Cutting.{CutAs}
+use Rattle.reading.specs.internal.Judgements.{notedClaim, notedClosing, segmentOf, brokenBy, byLevel, byClosing, lateJudgement, JudgesLate, Judges}
 use Rattle.gate.specs.declared.how.How.{How}
 use Rattle.levels.specs.internal.Answers.{judged}
 use Rattle.finding.specs.internal.Keys.{keyOf}
@@ -52,7 +53,7 @@ use Rattle.gate.proofs.reading.ElementTexts.{tag-of-view, hl-claim, se-count, s
 use Rattle.reading.proofs.reader.OpeningControl.{control-of-first, counted-number}
 use Rattle.reading.proofs.reader.Standings.{history-long}
 
-module _ {how : How} {s : Bytes} {starts : List ℕ} {layout : Layout} {g more : Bytes} (nt : Noted how s starts layout g more) where
+module _ {how : How} {s : Bytes} {starts : List ℕ} {layout : Layout} {g more : Bytes} (nt : CutAs (how .separators) s starts layout g more) where
   -- the layout is right, as the element rules take them
   right : LaidOut (how .separators) s g starts layout
   right = record {
@@ -93,13 +94,13 @@ verdict-cases (Faulty n e) f g = g n e refl
 
 -- 4
 pub judges-tag : {how : How} {s : Bytes} {starts : List ℕ} {layout : Layout} {g more : Bytes} (rows : List ℕ) (h : List View) (t : ℕ) → 34 ≤ t
-    → t ≡ tagNumber (elementIn s starts layout 0) → Fitted (how .separators) → Noted how s starts layout g more
+    → t ≡ tagNumber (elementIn s starts layout 0) → Fitted (how .separators) → CutAs (how .separators) s starts layout g more
     → Judges rows h (viewOf (how .separators) g) (Broken 4 0)
 judges-tag {how} {g = g} rows h t l noted fit nt =
     unknown-tag nonconformance rows h (viewOf (how .separators) g) (nt .data-only) (rw (← (noted ∙ tag-is nt fit)) l)
 
 module _ {how : How} {before : Tables} {s : Bytes} {segments levels : List ℕ} {at count row : ℕ} {again : Bool} {known greatest : ℕ} {gs : List Placed} {rows : List ℕ}
-    {starts : List ℕ} {layout : Layout} {g more : Bytes} (fit : Fitted (how .separators)) (nt : Noted how s starts layout g more)
+    {starts : List ℕ} {layout : Layout} {g more : Bytes} (fit : Fitted (how .separators)) (nt : CutAs (how .separators) s starts layout g more)
     (st : Standing how before s segments levels at count row again known greatest gs rows) (t : ℕ)
     (tag-noted : t ≡ tagNumber (elementIn s starts layout 0)) where
   abbrev v : View

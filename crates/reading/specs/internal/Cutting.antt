@@ -12,9 +12,11 @@ use Rattle.text.specs.View.{viewOf}
 use Rattle.text.specs.Lookup.{pieceSpan}
 use Rattle.text.specs.internal.Search.{FirstAt}
 use Rattle.text.specs.declared.separators.Separators.{Separators}
+use Rattle.elements.specs.declared.layout.Layout.{Layout}
 use Rattle.elements.specs.Checks.{Keeps}
 use Rattle.elements.specs.Rules.{byteChecks, endChecks}
 use Rattle.reading.specs.internal.Queue.{Ready}
+use Rattle.reading.specs.declared.cutting.Left.{Left}
 use Rattle.reading.specs.declared.cutting.Next.{Next}
 use Rattle.reading.specs.declared.cutting.Next.the-variants.{Open, Bad, Segment}
 
@@ -27,36 +29,38 @@ pub record BadSegment (q : Separators) (s : Bytes) (at end : ℕ) : Type 0 where
   pub place : end ≡ at + length segment
   pub broken : Keeps (byteChecks (viewOf q segment)) → ⊥
 
--- from `at` on stands a segment with its terminator at `end`, and its bytes are data and separators
-pub record GoodSegment (q : Separators) (table : List Bool) (s : Bytes) (at : ℕ) (queue starts : List ℕ) (end count : ℕ) (plain ended : Bool)
-    (head tail seen : ℕ) : Type 0 where
-  pub segment : Bytes
-  pub more : Bytes
-  pub whole : drop at s ≡ segment ++ q .terminator ∷ more
+-- the layout is that of the segment, which stands in the bytes with its terminator and has data bytes alone
+pub record CutAs (q : Separators) (s : Bytes) (starts : List ℕ) (layout : Layout) (segment more : Bytes) : Type 0 where
+  pub whole : drop (layout .at) s ≡ segment ++ q .terminator ∷ more
   pub free : Free (q .terminator) segment
-  pub place : end ≡ at + length segment
+  pub place : layout .end ≡ layout .at + length segment
   pub data-only : Keeps (byteChecks (viewOf q segment))
   -- its elements, and where they start, of the tag and the first 32
-  pub elements : length (pieces (q .element) segment) ≡ count + 1
-  pub begins : (k : ℕ) → k ≤ 32 → k ≤ count → getD starts k 0 ≡ at + pieceSpan (q .element) segment k .start
+  pub elements : length (pieces (q .element) segment) ≡ layout .count + 1
+  pub begins : (k : ℕ) → k ≤ 32 → k ≤ layout .count → getD starts k 0 ≡ layout .at + pieceSpan (q .element) segment k .start
   pub room : length starts ≡ 33
   -- no component separator stands in it
-  pub single : T plain → Free (q .component) segment
+  pub single : T (layout .single) → Free (q .component) segment
   -- rule 6, both ways
-  pub kept : T ended → Keeps (endChecks (viewOf q segment))
-  pub unkept : T (not ended) → Keeps (endChecks (viewOf q segment)) → ⊥
-  -- what is left of the queue serves the next cut
-  pub ready : Ready table s (end + 1) queue head tail seen
+  pub kept : T (layout .ended) → Keeps (endChecks (viewOf q segment))
+  pub unkept : T (not (layout .ended)) → Keeps (endChecks (viewOf q segment)) → ⊥
+
+-- from `at` on stands a segment of this layout, and what is left of the queue serves the next cut
+pub record GoodSegment (q : Separators) (table : List Bool) (s : Bytes) (at : ℕ) (queue starts : List ℕ) (layout : Layout) (left : Left) : Type 0 where
+  pub segment : Bytes
+  pub more : Bytes
+  pub at-is : layout .at ≡ at
+  pub laid : CutAs q s starts layout segment more
+  pub ready : Ready table s (layout .end + 1) queue (left .head) (left .tail) (left .seen)
 
 -- what `next_segment` answers
 abbrev pub Cuts : Separators → List Bool → Bytes → ℕ → List ℕ → List ℕ → Next → Type 0
 Cuts q table s at queue starts Open = Free (q .terminator) (drop at s)
 Cuts q table s at queue starts (Bad end) = BadSegment q s at end
-Cuts q table s at queue starts (Segment end count plain ended head tail seen) =
-    GoodSegment q table s at queue starts end count plain ended head tail seen
+Cuts q table s at queue starts (Segment layout left) = GoodSegment q table s at queue starts layout left
 
 -- what `stop` answers: the first terminator from `from` on, or that there is none
 abbrev pub Stops : Bytes → ℕ → ℕ → Next → Type 0
 Stops s from terminator Open = Free terminator (drop from s)
 Stops s from terminator (Bad end) = FirstAt s from terminator end
-Stops s from terminator (Segment end count plain ended head tail seen) = ⊥
+Stops s from terminator (Segment layout left) = ⊥

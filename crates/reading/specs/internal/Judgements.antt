@@ -28,6 +28,7 @@ use Rattle.gate.specs.Profile.{nonconformance}
 use Rattle.gate.specs.Segments.{isHL, isSE, seen, onto, levelsIn}
 use Rattle.gate.specs.Rules.{rules, FirstBroken, Sound}
 use Rattle.gate.specs.Records.{Tables}
+use Rattle.reading.specs.internal.Cutting.{CutAs}
 use Rattle.reading.specs.internal.Standing.{Standing}
 use Rattle.gate.specs.declared.how.How.{How}
 use Rattle.finding.specs.internal.Keys.{keyOf}
@@ -106,19 +107,6 @@ abbrev pub JudgesLate : ℕ → Bytes → List ℕ → Layout → State → List
 JudgesLate separator s starts layout state segments levels tag row r =
     Knows (record { levels = state .known; greatest = state .greatest }) (tableLevels s separator segments levels (state .known)) → r ≡ lateJudgement separator s starts layout state segments levels tag row
 
--- the layout is of the segment g, which was cut and has data bytes
-pub record Noted (how : How) (s : Bytes) (starts : List ℕ) (layout : Layout) (g more : Bytes) : Type 0 where
-  pub whole : drop (layout .at) s ≡ g ++ how .separators .terminator ∷ more
-  pub free : Free (how .separators .terminator) g
-  pub place : layout .end ≡ layout .at + length g
-  pub data-only : Keeps (byteChecks (viewOf (how .separators) g))
-  pub elements : length (pieces (how .separators .element) g) ≡ layout .count + 1
-  pub begins : (k : ℕ) → k ≤ 32 → k ≤ layout .count → getD starts k 0 ≡ layout .at + pieceSpan (how .separators .element) g k .start
-  pub room : length starts ≡ 33
-  pub single : T (layout .single) → Free (how .separators .component) g
-  pub kept : T (layout .ended) → Keeps (endChecks (viewOf (how .separators) g))
-  pub unkept : T (not (layout .ended)) → Keeps (endChecks (viewOf (how .separators) g)) → ⊥
-
 -- what a judgement says of the segment with the view v, after the segments h and their rows
 abbrev pub Judges : List ℕ → List View → View → Judgement → Type 0
 Judges rows h v (Broken number element) = FirstBroken (rules nonconformance rows h v) number element
@@ -133,7 +121,7 @@ Judges rows h v (Last r) = Sound nonconformance rows h v r × (isHL v ≡ false)
 -- where the layout is right and the reader stands before the segment, the judgement says what the rules say
 abbrev pub JudgesNext : How → Bytes → List ℕ → Layout → State → (segments levels : List ℕ) → Judgement → Type 0
 JudgesNext how s starts layout state segments levels r =
-    (before : Tables) (gs : List Placed) (rows : List ℕ) (g more : Bytes) → Fitted (how .separators) → Noted how s starts layout g more
+    (before : Tables) (gs : List Placed) (rows : List ℕ) (g more : Bytes) → Fitted (how .separators) → CutAs (how .separators) s starts layout g more
     → Standing how before s segments levels (layout .at) (state .count) (state .row) (state .again) (state .known) (state .greatest) gs rows
     → Judges rows (onto [] (seen how gs)) (viewOf (how .separators) g) r
 

@@ -10,10 +10,11 @@ use Rattle.gate.specs.Records.{Tables}
 use Rattle.reading.specs.internal.Queue.{Ready}
 use Rattle.reading.specs.internal.Settling.{Stands}
 use Rattle.gate.specs.declared.how.How.{How}
+use Rattle.reading.specs.declared.cutting.Left.{Left}
 use Rattle.reading.specs.declared.judging.State.{State}
 
-pub record Going (how : How) (s : Bytes) (specials : List Bool) (before : Tables) (segments levels queue starts : List ℕ) (at head tail seen : ℕ)
+pub record Going (how : How) (s : Bytes) (specials : List Bool) (before : Tables) (segments levels queue starts : List ℕ) (at : ℕ) (left : Left)
     (state : State) : Type 0 where
   pub stands : Stands how before s segments levels at state
-  pub ready : Ready specials s at queue head tail seen
+  pub ready : Ready specials s at queue (left .head) (left .tail) (left .seen)
   pub room : length starts ≡ 33

@@ -11,19 +11,19 @@ use Rattle.reading.proofs.cutting.next_segment.Statement.{statement}
 use Rattle.reading.proofs.cutting.next_segment.Tie as tie
 
 abbrev Inv-loop2 : tie.InvT-loop2
-Inv-loop2 s specials separators at head₀ tail seen queue starts₀ count₀ ended₀ start₀ behind₀ head starts count ended start behind =
+Inv-loop2 s specials separators at queue starts₀ head₀ tail seen count₀ ended₀ start₀ behind₀ starts head count ended start behind =
     Walk separators specials s at queue starts head tail seen count ended start behind
 
 abbrev μ-loop2 : tie.MeasureT-loop2
-μ-loop2 s specials separators at head₀ tail seen queue starts₀ count₀ ended₀ start₀ behind₀ head starts count ended start behind =
+μ-loop2 s specials separators at queue starts₀ head₀ tail seen count₀ ended₀ start₀ behind₀ starts head count ended start behind =
     tail - head
 
 abbrev Inv-loop : tie.InvT-loop
-Inv-loop s specials separators at head₀ tail₀ seen₀ queue₀ starts₀ count₀ ended₀ start₀ behind₀ head tail seen queue starts count ended start behind =
+Inv-loop s specials separators at queue₀ starts₀ head₀ tail₀ seen₀ count₀ ended₀ start₀ behind₀ queue starts head tail seen count ended start behind =
     Walk separators specials s at queue starts head tail seen count ended start behind
 
 abbrev μ-loop : tie.MeasureT-loop
-μ-loop s specials separators at head₀ tail₀ seen₀ queue₀ starts₀ count₀ ended₀ start₀ behind₀ head tail seen queue starts count ended start behind =
+μ-loop s specials separators at queue₀ starts₀ head₀ tail₀ seen₀ count₀ ended₀ start₀ behind₀ queue starts head tail seen count ended start behind =
     length s - seen
 
 element-write-starts : tie.Need-element-write-starts Inv-loop2 μ-loop2 Inv-loop μ-loop

@@ -28,14 +28,19 @@ add-t14 c = search needs
 enum-told : tie.Need-enum-told
 enum-told c = search needs
 
-add-t15 : tie.Need-add-t15
-add-t15 c = search needs
+refused-requires : tie.Need-refused-requires
+refused-requires c κs = search needs
 
 returns : tie.Need-returns
-returns c = ap (λ (d : Verdict). refusedBy d (c .before .before .before .before .before .before .args .count) (c .before .before .before .before .before .before .args .at)) (sym (c .before .number .given .1) ∙ c .before .before .before .byte-verdict .ensures)
+returns c =
+    let a = c .before .before .before .before .before .before .args in
+    ap (λ (d : Verdict). refusedBy d (a .count) (a .at)) (sym (c .before .number .given .1) ∙ c .before .before .before .byte-verdict .ensures)
 
 returns-2 : tie.Need-returns-2
-returns-2 c = ap (λ (d : Verdict). refusedBy d (c .before .before .before .before .before .args .count) (c .before .before .before .before .before .args .at)) (sym (c .enum-told .given .1) ∙ c .before .before .byte-verdict .ensures)
+returns-2 c =
+    let a = c .before .before .before .before .before .before .args in
+    c .refused .ensures
+    ∙ ap (λ (d : Verdict). refusedBy d (a .count) (a .at)) (sym (c .before .enum-told .given .1) ∙ c .before .before .before .byte-verdict .ensures)
 
 pub bad-bytes-spec : {M : Type 1} → statement M
 bad-bytes-spec =
@@ -48,6 +53,6 @@ bad-bytes-spec =
     enum-known-number
     add-t14
     enum-told
-    add-t15
+    refused-requires
     returns
     returns-2)
