@@ -10,7 +10,7 @@ use native.Mathlib.Omega.{arith}
 use native.Mathlib.Decide.{decLt}
 use lib.Dec.{eqb}
 use lib.ListN.{getD}
-use borrow.Author.Tests.{ne-eqb, le-leb, lt-leb, le-ltb, lt-ltb}
+use borrow.Author.Tests.{eq-eqb, ne-eqb, le-leb, lt-leb, le-ltb, lt-ltb}
 use Rattle.text.proofs.Bools.{cond-same}
 use Rattle.text.proofs.Tables.{tab, tab-at}
 use Rattle.rows.specs.Tags.{tag, tagNumber}
@@ -131,17 +131,17 @@ module _ {table : List ℕ} {r : ℕ} {again : Bool} {t : ℕ} where
           (sym (after-entry table r again t lo hi ht ∙ rw (lt-leb 128 (standsAt table r t) h) e))
 
       -- a third of a row of maximum 2
-      pub third-refused : again ≡ true → eqb (standsAt table r t) r ≡ true → eqb (maxOf r) 2 ≡ true → RowAfter table r again t 0
-      third-refused p q s = by-entry 0 (rw (p, q, s))
+      pub third-refused : again ≡ true → standsAt table r t ≡ r → eqb (maxOf r) 2 ≡ true → RowAfter table r again t 0
+      third-refused p q s = by-entry 0 (rw (p, eq-eqb (standsAt table r t) r q, s))
 
       -- a row of another maximum once more
-      pub other-maximum : again ≡ true → eqb (standsAt table r t) r ≡ true → eqb (maxOf r) 2 ≡ false
+      pub other-maximum : again ≡ true → standsAt table r t ≡ r → eqb (maxOf r) 2 ≡ false
           → RowAfter table r again t (standsAt table r t)
-      other-maximum p q s = by-entry (standsAt table r t) (rw (p, q, s))
+      other-maximum p q s = by-entry (standsAt table r t) (rw (p, eq-eqb (standsAt table r t) r q, s))
 
       -- another row after one that stands right behind itself
-      pub other-row : again ≡ true → eqb (standsAt table r t) r ≡ false → RowAfter table r again t (standsAt table r t)
-      other-row p q = by-entry (standsAt table r t) (rw (p, q))
+      pub other-row : again ≡ true → (standsAt table r t ≡ r → ⊥) → RowAfter table r again t (standsAt table r t)
+      other-row p q = by-entry (standsAt table r t) (rw (p, ne-eqb (standsAt table r t) r q))
 
       -- any row after one that stands once
       pub first-time : again ≡ false → RowAfter table r again t (standsAt table r t)

@@ -4,7 +4,7 @@ use mathlib.Core.Path.{sym, _∙_}
 use mathlib.Core.Logic.{⊎-elim}
 use native.Mathlib.Omega.{arith}
 use borrow.Author.Needs.{needs}
-use borrow.Author.Tests.{leb-true, leb-false}
+use borrow.Author.Tests.{eqb-true, eqb-false, leb-true, leb-false}
 use Prim.Native.Nat.{_≤_, _<_}
 use Rattle.numbering.proofs.Lookup.{start-st, start-other, row-outside, tag-outside, no-row, third-refused, other-maximum, other-row, first-time}
 use Rattle.numbering.proofs.next.row_after.Statement.{statement}
@@ -44,7 +44,7 @@ returns-5 c =
     let n = c .before .before .before .before in
     let k = n .before .before in
     third-refused (low k) (high k) (tag-in k) (n .if5 .left) (c .before .before .before .if6 .taken)
-    (c .before .before .if7 .taken) (sym (c .before .at-most-two .ensures) ∙ c .if8 .taken)
+    (omega (arith, eqb-true, c .before .before .if7 .taken)) (sym (c .before .at-most-two .ensures) ∙ c .if8 .taken)
 
 returns-6 : tie.Need-returns-6
 returns-6 c =
@@ -52,9 +52,9 @@ returns-6 c =
     let k = n .before .before in
     let h = n .if5 .left in
     ⊎-elim
-    (λ w. other-maximum (low k) (high k) (tag-in k) h (w .0 .taken) (w .1 .taken) (sym (w .2 .ensures) ∙ w .3 .left))
+    (λ w. other-maximum (low k) (high k) (tag-in k) h (w .0 .taken) (omega (arith, eqb-true, w .1 .taken)) (sym (w .2 .ensures) ∙ w .3 .left))
     (⊎-elim
-    (λ w. other-row (low k) (high k) (tag-in k) h (w .0 .taken) (w .1 .left))
+    (λ w. other-row (low k) (high k) (tag-in k) h (w .0 .taken) (λ e. omega (arith, eqb-false, w .1 .left)))
     (λ w. first-time (low k) (high k) (tag-in k) h (w .left)))
     (c .if6 .came)
 
