@@ -1,4 +1,4 @@
--- A usual segment: where each element passes its quick test or may be absent, 9, 8 and 10 are silent, and the notes decide.
+-- A usual segment: where each element passes its quick test or may be absent, 9, 8 and 10 are silent.
 -- Assumes nothing.
 use Prim.Native.Nat.{ℕ, zero, suc, _+_, _≤_, _<_}
 use mathlib.Core.Path.{_≡_, refl, sym, ap, _∙_}
@@ -17,11 +17,11 @@ use Rattle.types.specs.Types.{fits}
 use Rattle.types.specs.internal.Quick.{fitsQuickly}
 use Rattle.types.specs.declared.kind.Kind.{Kind}
 use Rattle.types.proofs.QuickFits.{quickly-fits}
-use Rattle.elements.specs.Data.{Shape, Simple, Composite, firstUnit, units, nonconformance}
+use Rattle.elements.specs.Data.{Shape, Simple, Composite, firstUnit, units}
 use Rattle.elements.specs.Checks.{each, firstBroken}
-use Rattle.elements.specs.Rules.{ruleOf, fewComponents, noteChecks, ruledChecks}
-use Rattle.elements.specs.internal.Layouts.{elementIn, thereIn, componentsIn, layoutView}
-use Rattle.elements.specs.internal.Verdicts.{rulesOf, lastMust, manyVerdict, completeAt, suitsAt, elementsVerdict}
+use Rattle.elements.specs.Rules.{ruleOf, fewComponents}
+use Rattle.elements.specs.internal.Layouts.{elementIn, componentsIn}
+use Rattle.elements.specs.internal.Verdicts.{rulesOf, lastMust, manyVerdict, completeAt, suitsAt, elementsVerdict, earlyVerdict}
 use Rattle.elements.specs.internal.Usual.{simple, Suits, SuitsAt, FromOne, Suiting}
 use Rattle.elements.specs.declared.layout.Layout.{Layout}
 use Rattle.elements.specs.declared.verdict.Verdict.{Verdict}
@@ -29,7 +29,7 @@ use Rattle.elements.specs.declared.verdict.Verdict.the-variants.{Holds}
 use Rattle.elements.proofs.FirstBroken.{andThen, broken-append, each-holds}
 use Rattle.elements.proofs.EveryTag.{few-empty}
 use Rattle.elements.proofs.ElementPass.{few-all}
-use Rattle.elements.proofs.RuleOrder.{decide-notes}
+use Rattle.elements.proofs.RuleOrder.{early-elements}
 
 -- what a quick test passes suits its rule; nothing suits a rule that does not ask for it
 asked : (m : Bool) → (not m || true) && true ≡ true
@@ -124,8 +124,6 @@ module _ (s : Bytes) (starts : List ℕ) (layout : Layout) (tag : ℕ) (w : Suit
       (each-holds 8 1 (w .upto) (completeAt (rulesOf tag) at) complete)
       ∙ each-holds 10 1 (w .upto) (suitsAt (rulesOf tag) at) suited
 
-  -- so the notes decide
-  pub notes-decide : firstBroken (noteChecks (rulesOf tag .notes) (thereIn s starts layout))
-      ≡ firstBroken (ruledChecks nonconformance tag (layoutView s starts layout component))
-  notes-decide =
-      decide-notes s starts layout component tag (λ z. omega (arith, w .near, w .some)) few (w .upto) (w .far) (w .enough) (w .near) (sym elements)
+  -- so the three rules are silent
+  pub usual-silent : Holds ≡ earlyVerdict (rulesOf tag) at (layout .count)
+  usual-silent = sym elements ∙ early-elements s starts layout component tag (w .upto) few (w .far) (w .enough) (w .near)

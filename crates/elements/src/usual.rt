@@ -90,8 +90,7 @@ fn usual_st(s: &[u8], starts: &[usize; 33], layout: Layout) -> bool
 {
     let set = layout::early_element(s, starts, layout, 1);
     let control = layout::early_element(s, starts, layout, 2);
-    value_suits(Kind::Set842, 3, 3, set)
-        & text_suits(control, true, 4, 9)
+    value_suits(Kind::Set842, 3, 3, set) & text_suits(control, true, 4, 9)
 }
 
 // The first four elements of N1.
@@ -115,9 +114,7 @@ fn usual_dtm(s: &[u8], starts: &[usize; 33], layout: Layout) -> bool
     let code = layout::early_element(s, starts, layout, 1);
     let date = layout::early_element(s, starts, layout, 2);
     let time = layout::early_element(s, starts, layout, 3);
-    id_suits(code, true, 3, 3)
-        & date_suits(date, false, 8, 8)
-        & time_suits(time, false, 4, 8)
+    id_suits(code, true, 3, 3) & date_suits(date, false, 8, 8) & time_suits(time, false, 4, 8)
 }
 
 // The first four elements of HL.
@@ -140,8 +137,7 @@ fn usual_nte(s: &[u8], starts: &[usize; 33], layout: Layout) -> bool
 {
     let code = layout::early_element(s, starts, layout, 1);
     let text = layout::early_element(s, starts, layout, 2);
-    id_suits(code, false, 3, 3)
-        & text_suits(text, true, 1, 80)
+    id_suits(code, false, 3, 3) & text_suits(text, true, 1, 80)
 }
 
 // The first five elements of NCA.
@@ -166,8 +162,7 @@ fn usual_se(s: &[u8], starts: &[usize; 33], layout: Layout) -> bool
 {
     let total = layout::early_element(s, starts, layout, 1);
     let control = layout::early_element(s, starts, layout, 2);
-    value_suits(Kind::N0, 1, 10, total)
-        & text_suits(control, true, 4, 9)
+    value_suits(Kind::N0, 1, 10, total) & text_suits(control, true, 4, 9)
 }
 
 // Whether all elements of a segment with that tag do, where it has no more than the first few.

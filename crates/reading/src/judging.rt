@@ -14,7 +14,6 @@ use elements::layout;
 use elements::layout::Layout;
 use elements::ruled;
 use elements::segment;
-use types::digits;
 use elements::verdict::Verdict;
 use levels::filling;
 use levels::judging::Judged;
@@ -22,6 +21,7 @@ use levels::keys;
 use rows::next;
 use rows::tags;
 use text::lookup;
+use types::digits;
 
 // What the rules say of the next segment.
 pub(crate) enum Judgement {
@@ -220,13 +220,7 @@ fn judge_known(
     if row == 0 {
         return Judgement::Broken(7, 0);
     }
-    match ruled::ruled_verdict(
-        s,
-        starts,
-        layout,
-        how.separators.component,
-        tag,
-    ) {
+    match ruled::ruled_verdict(s, starts, layout, how.separators.component, tag) {
         Verdict::Broken(number, element) => Judgement::Broken(number, element),
         Verdict::Holds => judge_late(s, how, starts, layout, state, segments, levels, tag, row),
     }

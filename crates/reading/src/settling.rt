@@ -5,9 +5,9 @@ ghost use lib.ListN.{length};
 ghost use Rattle.reading.specs.Settling.{stateAfter, refusedAt, acceptedAt, InRoom, SettlesBy, SettlesPlain, SettlesLevel, SettlesLast};
 use crate::answer::Answer;
 use crate::judging::Judgement;
-use elements::layout::Layout;
 use crate::judging::State;
 use crate::storing;
+use elements::layout::Layout;
 
 // What became of the next segment.
 pub(crate) enum Step {
@@ -73,7 +73,13 @@ fn pass_plain(row: u8, layout: Layout, state: State, segments: &mut [u64]) -> St
     if !storing::segment_room(segments, state.count) {
         return refusal(17, layout, state, 0);
     }
-    storing::put_segment(segments, state.count, layout.at, layout.end - layout.at, row);
+    storing::put_segment(
+        segments,
+        state.count,
+        layout.at,
+        layout.end - layout.at,
+        row,
+    );
     Step::Passed(after(state, row, state.known, state.greatest))
 }
 
@@ -98,7 +104,13 @@ fn pass_level(
     if !storing::level_room(levels, state.known) {
         return refusal(17, layout, state, 0);
     }
-    storing::put_segment(segments, state.count, layout.at, layout.end - layout.at, row);
+    storing::put_segment(
+        segments,
+        state.count,
+        layout.at,
+        layout.end - layout.at,
+        row,
+    );
     storing::put_level(levels, state.known, state.count + 1, parent, depth, code);
     let greatest = greater(state.greatest, key);
     Step::Passed(after(state, row, state.known + 1, greatest))
@@ -114,7 +126,13 @@ fn close(row: u8, layout: Layout, state: State, segments: &mut [u64]) -> Step
     if !storing::segment_room(segments, state.count) {
         return refusal(17, layout, state, 0);
     }
-    storing::put_segment(segments, state.count, layout.at, layout.end - layout.at, row);
+    storing::put_segment(
+        segments,
+        state.count,
+        layout.at,
+        layout.end - layout.at,
+        row,
+    );
     acceptance(layout, state)
 }
 

@@ -18,6 +18,7 @@ use Rattle.types.specs.declared.kind.Kind.{Kind}
 pub fails-second : (a c : Bool) → a && false && c ≡ false
 fails-second true c = refl
 fails-second false c = refl
+
 -- three bytes, one by one
 pub same-three : (s : Bytes) (a b c : ℕ) → length s ≡ 3
     → eqb (getD s 0 0) a && eqb (getD s 1 0) b && eqb (getD s 2 0) c ≡ same s (a ∷ b ∷ c ∷ [])

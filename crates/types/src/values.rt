@@ -113,4 +113,3 @@ pub fn fits(kind: Kind, least: usize, most: usize, value: &[u8]) -> bool
     }
     is_of(kind, value)
 }
-
