@@ -130,6 +130,10 @@ pub then-assoc : (u v w : Verdict) → andThen (andThen u v) w ≡ andThen u (an
 then-assoc Holds v w = refl
 then-assoc (Broken n e) v w = refl
 
+pub first-holds : (v w : Verdict) → andThen v w ≡ Holds → v ≡ Holds
+first-holds Holds w e = refl
+first-holds (Broken n k) w e = e
+
 -- the same test along a list
 abbrev pub eachOf : {A : Type 0} → ℕ → ℕ → (A → Bool) → List A → List Check
 eachOf n a f [] = []

@@ -12,14 +12,14 @@ use Rattle.elements.specs.Checks.{Check, check, each, firstBroken}
 use Rattle.elements.specs.Data.{Note, Rules, nonconformance}
 use Rattle.elements.specs.Rules.{tooManyChecks, missingChecks, unfitChecks, noteChecks, checksBy, ruledChecks, fewBy, presentAt}
 use Rattle.elements.specs.internal.Layouts.{layoutView, thereIn, componentsIn}
-use Rattle.elements.specs.internal.Verdicts.{rulesOf, lastMust, completeAt, suitsAt, elementsVerdict}
+use Rattle.elements.specs.internal.Verdicts.{rulesOf, lastMust, completeAt, suitsAt, elementsVerdict, earlyVerdict}
 use Rattle.elements.specs.declared.verdict.Verdict.{Verdict}
 use Rattle.elements.specs.declared.verdict.Verdict.the-variants.{Holds, Broken}
 use Rattle.elements.specs.declared.layout.Layout.{Layout}
-use Rattle.elements.proofs.FirstBroken.{andThen, broken-append, then-assoc}
+use Rattle.elements.proofs.FirstBroken.{andThen, broken-append, then-assoc, first-holds}
 use Rattle.elements.proofs.ByLayout.{components-empty, element-past, view-count, view-at, at-present}
 use Rattle.elements.proofs.EveryTag.{ruled-by, ruled-none}
-use Rattle.elements.proofs.ElementPass.{elements-upto}
+use Rattle.elements.proofs.ElementPass.{elements-upto, few-count}
 
 module _ (s : Bytes) (starts : List ℕ) (layout : Layout) where
   abbrev there : ℕ → Bool
@@ -98,31 +98,47 @@ module _ (s : Bytes) (starts : List ℕ) (layout : Layout) where
       pub decide-plain : length (rulesOf tag .elements) ≡ 0 → Holds ≡ whole
       decide-plain e = sym (ap firstBroken (ruled-none tag view e))
 
+      abbrev eightTen : Verdict
+      eightTen = elementsVerdict (rulesOf tag) at (length (rulesOf tag .elements))
+
+      abbrev notes : Verdict
+      notes = firstBroken (noteChecks (rulesOf tag .notes) there)
+
+      abbrev early : Verdict
+      early = earlyVerdict (rulesOf tag) at (layout .count)
+
+      early-is : early ≡ andThen nine eightTen
+      unfolding earlyVerdict
+      early-is =
+          broken-append (each 9 1 (layout .count) (λ (k : ℕ). fewBy (rulesOf tag) k (at k)))
+          (each 8 1 (length (rulesOf tag .elements)) (completeAt (rulesOf tag) at) ++ each 10 1 (length (rulesOf tag .elements)) (suitsAt (rulesOf tag) at))
+
+      -- 9 decides among them, or is silent and leaves it to 8 and 10 of the elements up to one that reaches far enough
+      pub early-many : (n e : ℕ) → Broken n e ≡ nine → Broken n e ≡ early
+      early-many n e q = sym (early-is ∙ ap (λ (v : Verdict). andThen v eightTen) (sym q))
+
+      pub early-elements : (upto : ℕ) → Holds ≡ nine → layout .count ≤ upto → lastMust (rulesOf tag .elements) ≤ upto
+          → upto ≤ length (rulesOf tag .elements) → elementsVerdict (rulesOf tag) at upto ≡ early
+      early-elements upto few far enough near =
+          sym
+          (early-is ∙ ap₂ andThen (sym few) (elements-upto tag (layout .count) upto at at-past far enough near))
+
+      -- where they are silent, there are no more elements than rules
+      pub early-few : Holds ≡ early → layout .count ≤ length (rulesOf tag .elements)
+      early-few q = few-count tag (layout .count) at (first-holds nine eightTen (sym early-is ∙ sym q))
+
       module _ (ruled : length (rulesOf tag .elements) ≡ 0 → ⊥) where
         grouped : whole
             ≡ andThen nine
             (andThen (elementsVerdict (rulesOf tag) at (length (rulesOf tag .elements))) (firstBroken (noteChecks (rulesOf tag .notes) there)))
         grouped = ap firstBroken (ruled-by tag view ruled) ∙ checks-found (rulesOf tag)
 
-        -- 9 decides
-        pub decide-many : (n e : ℕ) → Broken n e ≡ nine → Broken n e ≡ whole
-        decide-many n e q = sym (grouped ∙ ap (λ (v : Verdict). andThen v rest) (sym q))
-          where
-            rest : Verdict
-            rest = andThen (elementsVerdict (rulesOf tag) at (length (rulesOf tag .elements))) (firstBroken (noteChecks (rulesOf tag .notes) there))
+        early-notes : whole ≡ andThen early (firstBroken (noteChecks (rulesOf tag .notes) there))
+        early-notes = grouped ∙ sym (then-assoc nine eightTen notes) ∙ ap (λ (v : Verdict). andThen v notes) (sym early-is)
 
-        module _ (few : Holds ≡ nine) (upto : ℕ) (far : (layout .count) ≤ upto) (enough : lastMust (rulesOf tag .elements) ≤ upto)
-            (near : upto ≤ length (rulesOf tag .elements)) where
-          after-nine : whole ≡ andThen (elementsVerdict (rulesOf tag) at upto) (firstBroken (noteChecks (rulesOf tag .notes) there))
-          after-nine =
-              grouped
-              ∙ ap₂ (λ (v w : Verdict). andThen v (andThen w (firstBroken (noteChecks (rulesOf tag .notes) there)))) (sym few)
-              (elements-upto tag (layout .count) upto at at-past far enough near)
+        -- 9, 8 or 10 decides; where all three are silent, 11 does
+        pub decide-early : (n e : ℕ) → Broken n e ≡ early → Broken n e ≡ whole
+        decide-early n e q = sym (early-notes ∙ ap (λ (v : Verdict). andThen v notes) (sym q))
 
-          -- 8 or 10 decides; 11 does
-          pub decide-elements : (n e : ℕ) → Broken n e ≡ elementsVerdict (rulesOf tag) at upto → Broken n e ≡ whole
-          decide-elements n e q =
-              sym (after-nine ∙ ap (λ (v : Verdict). andThen v (firstBroken (noteChecks (rulesOf tag .notes) there))) (sym q))
-
-          pub decide-notes : Holds ≡ elementsVerdict (rulesOf tag) at upto → firstBroken (noteChecks (rulesOf tag .notes) there) ≡ whole
-          decide-notes q = sym (after-nine ∙ ap (λ (v : Verdict). andThen v (firstBroken (noteChecks (rulesOf tag .notes) there))) (sym q))
+        pub decide-notes : Holds ≡ early → notes ≡ whole
+        decide-notes q = sym (early-notes ∙ ap (λ (v : Verdict). andThen v notes) (sym q))

@@ -1,9 +1,9 @@
--- A usual segment: where each element passes its quick test or may be absent, 9, 8 and 10 are silent, and the notes decide.
+-- A usual segment: where each element passes its quick test or may be absent, 9, 8 and 10 are silent.
 -- Assumes nothing.
 use Prim.Native.Nat.{ℕ, zero, suc, _+_, _≤_, _<_}
 use mathlib.Core.Path.{_≡_, refl, sym, ap, _∙_}
 use mathlib.Core.Logic.{by-cases}
-use mathlib.Core.Bool.{Bool, true, false, not, cond, _&&_, _||_, true≢false}
+use mathlib.Core.Bool.{Bool, true, false, not, _&&_, _||_, true≢false}
 use mathlib.Core.List.{List, [], _∷_}
 use native.Mathlib.Omega.{arith}
 use native.Mathlib.Decide.{decLt}
@@ -17,57 +17,48 @@ use Rattle.types.specs.Types.{fits}
 use Rattle.types.specs.internal.Quick.{fitsQuickly}
 use Rattle.types.specs.declared.kind.Kind.{Kind}
 use Rattle.types.proofs.QuickFits.{quickly-fits}
-use Rattle.elements.specs.Data.{Value, Shape, Simple, Composite, Element, value, firstUnit, unitValues, nonconformance}
+use Rattle.elements.specs.Data.{Shape, Simple, Composite, firstUnit, units}
 use Rattle.elements.specs.Checks.{each, firstBroken}
-use Rattle.elements.specs.Rules.{ruleOf, fewComponents, noteChecks, ruledChecks}
-use Rattle.elements.specs.internal.Layouts.{elementIn, thereIn, componentsIn, layoutView}
-use Rattle.elements.specs.internal.Verdicts.{elementBy, Renders, rulesOf, lastMust, manyVerdict, completeAt, suitsAt, elementsVerdict}
-use Rattle.elements.specs.internal.Usual.{Suits, SuitsAt, FromOne, Suiting}
+use Rattle.elements.specs.Rules.{ruleOf, fewComponents}
+use Rattle.elements.specs.internal.Layouts.{elementIn, componentsIn}
+use Rattle.elements.specs.internal.Verdicts.{rulesOf, lastMust, manyVerdict, completeAt, suitsAt, elementsVerdict, earlyVerdict}
+use Rattle.elements.specs.internal.Usual.{simple, Suits, SuitsAt, FromOne, Suiting}
 use Rattle.elements.specs.declared.layout.Layout.{Layout}
-use Rattle.elements.specs.declared.rules.Rule.{Rule}
 use Rattle.elements.specs.declared.verdict.Verdict.{Verdict}
 use Rattle.elements.specs.declared.verdict.Verdict.the-variants.{Holds}
 use Rattle.elements.proofs.FirstBroken.{andThen, broken-append, each-holds}
 use Rattle.elements.proofs.EveryTag.{few-empty}
 use Rattle.elements.proofs.ElementPass.{few-all}
-use Rattle.elements.proofs.RuleOrder.{decide-notes}
+use Rattle.elements.proofs.RuleOrder.{early-elements}
 
--- a part with a byte that fits the rule's value suits the rule, of a composite as its first component
-asked : (m : Bool) {t : Bool} → t ≡ true → (not m || true) && t ≡ true
-asked true e = e
-asked false e = e
+-- what a quick test passes suits its rule; nothing suits a rule that does not ask for it
+asked : (m : Bool) → (not m || true) && true ≡ true
+asked true = refl
+asked false = refl
 
-fits-suit : (needed composite : Bool) (kind : Kind) (least most : ℕ) (p : Bytes) → (length p ≡ 0 → ⊥)
-    → (composite ≡ true → value kind least most ≡ firstUnit) → fits kind least most p ≡ true
-    → Suits (record { must = needed; shape = cond composite (Composite unitValues) (Simple (value kind least most)) }) p
-fits-suit needed composite kind least most [] n f e = absurd (n refl)
-fits-suit needed true kind least most (b ∷ p) n f e =
-    let some = le-leb 1 (suc (length p)) (omega arith) in
-    let unit : fits (firstUnit .kind) (firstUnit .least) (firstUnit .most) (b ∷ p) ≡ true =
-    ap (λ (v : Value). fits (v .kind) (v .least) (v .most) (b ∷ p)) (sym (f refl)) ∙ e in
-    record { complete = asked needed some; suited = rw (ne-eqb (suc (length p)) 0 (omega arith), unit) }
-fits-suit needed false kind least most (b ∷ p) n f e = record { complete = asked needed refl; suited = e }
+module _ (needed : Bool) (kind : Kind) (least most : ℕ) where
+  pub fits-suits : (p : Bytes) → (length p ≡ 0 → ⊥) → fits kind least most p ≡ true → Suits (simple needed kind least most) p
+  fits-suits [] n e = absurd (n refl)
+  fits-suits (b ∷ p) n e = record { complete = asked needed; suited = e }
 
--- no bytes suit a rule that does not ask for them
-absent-suits : (e : Element) → not (e .must) ≡ true → Suits e []
-absent-suits e n = by-shape (e .shape) refl
-  where
-    by-shape : (shape : Shape) → e .shape ≡ shape → Suits e []
-    by-shape (Simple x) f = record { complete = rw (n, f); suited = refl }
-    by-shape (Composite xs) f = record { complete = rw (n, f); suited = refl }
+  pub absent-suits : (p : Bytes) → length p ≡ 0 → not needed ≡ true → Suits (simple needed kind least most) p
+  absent-suits [] l e = record { complete = rw e; suited = refl }
+  absent-suits (b ∷ p) l e = absurd (omega arith)
 
-module _ (e : Element) (r : Rule) (p : Bytes) (renders : Renders e r) where
-  pub suits-absent : length p ≡ 0 → not (r .must) ≡ true → Suits e p
-  suits-absent l n = rw (← renders .same) (none p l)
-    where
-      none : (p : Bytes) → length p ≡ 0 → Suits (elementBy r) p
-      none [] l = absent-suits (elementBy r) n
-      none (b ∷ p) l = absurd (omega arith)
+  pub quick-suits : (p : Bytes) (x : Bool) → (length p ≡ 0 → ⊥) → x ≡ fitsQuickly kind least most p → x ≡ true
+      → Suits (simple needed kind least most) p
+  quick-suits p x n e t = fits-suits p n (quickly-fits kind least most p (sym e ∙ t))
 
-  pub suits-quick : (length p ≡ 0 → ⊥) → fitsQuickly (r .kind) (r .least) (r .most) p ≡ true → Suits e p
-  suits-quick n q =
-      rw (← renders .same)
-      (fits-suit (r .must) (r .composite) (r .kind) (r .least) (r .most) p n (renders .first) (quickly-fits (r .kind) (r .least) (r .most) p q))
+pub no-unit : (p : Bytes) → length p ≡ 0 → Suits units p
+no-unit [] l = record { complete = refl; suited = refl }
+no-unit (b ∷ p) l = absurd (omega arith)
+
+pub one-unit : (p : Bytes) (x : Bool) → (length p ≡ 0 → ⊥) → x ≡ fitsQuickly (firstUnit .kind) (firstUnit .least) (firstUnit .most) p → x ≡ true
+    → Suits units p
+one-unit [] x n e t = absurd (n refl)
+one-unit (b ∷ p) x n e t =
+    let unit = quickly-fits (firstUnit .kind) (firstUnit .least) (firstUnit .most) (b ∷ p) (sym e ∙ t) in
+    record { complete = le-leb 1 (suc (length p)) (omega arith); suited = rw (ne-eqb (suc (length p)) 0 (omega arith), unit) }
 
 -- one more of the first numbers
 pub one-more : (P : ℕ → Type 0) (n : ℕ) (x y : Bool) → (x ≡ true → FromOne P n) → (y ≡ true → P (suc n)) → x && y ≡ true → FromOne P (suc n)
@@ -133,8 +124,6 @@ module _ (s : Bytes) (starts : List ℕ) (layout : Layout) (tag : ℕ) (w : Suit
       (each-holds 8 1 (w .upto) (completeAt (rulesOf tag) at) complete)
       ∙ each-holds 10 1 (w .upto) (suitsAt (rulesOf tag) at) suited
 
-  -- so the notes decide
-  pub notes-decide : firstBroken (noteChecks (rulesOf tag .notes) (thereIn s starts layout))
-      ≡ firstBroken (ruledChecks nonconformance tag (layoutView s starts layout component))
-  notes-decide =
-      decide-notes s starts layout component tag (λ z. omega (arith, w .near, w .some)) few (w .upto) (w .far) (w .enough) (w .near) (sym elements)
+  -- so the three rules are silent
+  pub usual-silent : Holds ≡ earlyVerdict (rulesOf tag) at (layout .count)
+  usual-silent = sym elements ∙ early-elements s starts layout component tag (w .upto) few (w .far) (w .enough) (w .near)

@@ -1,13 +1,13 @@
 // The rules of a ruled segment, by its layout.
 ghost use mathlib.Core.Path.{_≡_};
-ghost use Prim.Native.Nat.{_+_, _≤_, _<_};
+ghost use Prim.Native.Nat.{_+_, _<_};
 ghost use mathlib.Core.List.{[], _∷_};
 ghost use lib.ListN.{length};
 ghost use Rattle.elements.specs.Checks.{firstBroken};
 ghost use Rattle.elements.specs.Data.{Paired, Required, pairsFrom, rulesDTM, nonconformance};
 ghost use Rattle.elements.specs.Rules.{ruleOf, fewComponents, noteHolds, noteChecks, ruledChecks};
 ghost use Rattle.elements.specs.internal.Layouts.{thereIn, componentsIn, layoutView};
-ghost use Rattle.elements.specs.internal.Verdicts.{rulesOf, manyVerdict, elementsVerdict, Greater};
+ghost use Rattle.elements.specs.internal.Verdicts.{rulesOf, manyVerdict, elementsVerdict, earlyVerdict, Greater};
 ghost use Rattle.elements.specs.internal.Table.{extentOf};
 use crate::components;
 use crate::layout;
@@ -185,8 +185,8 @@ fn reach(count: usize, needed: usize) -> usize
     count
 }
 
-// Answers 9, 8 and 10, then 11, of a segment with that tag and rules that reach so far.
-fn rules_verdict(
+// Answers 9, 8 and 10 of a segment with that tag and rules that reach so far. Of a usual segment all three are silent.
+fn early_verdict(
     s: &[u8],
     starts: &[usize; 33],
     layout: Layout,
@@ -195,23 +195,22 @@ fn rules_verdict(
     extent: Extent,
 ) -> Verdict
     requires { ⌜ extent ≡ extentOf tag ⌝ }
-    requires { ⌜ 1 ≤ extent .last ⌝ }
     ensures { λ r. ⌜
-        r ≡ firstBroken (ruledChecks nonconformance tag
-        (layoutView (now (s .entry)) (now (starts .entry)) layout component))
+        r ≡ earlyVerdict (rulesOf tag)
+        (componentsIn (now (s .entry)) (now (starts .entry)) layout component) (layout .count)
         ⌝ }
 {
+    if layout.single & usual::usual(s, starts, layout, tag) {
+        return Verdict::Holds;
+    }
     if let Verdict::Broken(n, e) = too_many(s, starts, layout, component, tag, extent.last) {
         return Verdict::Broken(n, e);
     }
     let upto = reach(layout.count, extent.needed);
-    if let Verdict::Broken(n, e) = elements_verdict(s, starts, layout, component, tag, upto) {
-        return Verdict::Broken(n, e);
-    }
-    notes_verdict(s, starts, layout, tag)
+    elements_verdict(s, starts, layout, component, tag, upto)
 }
 
-// Answers 9, 8, 10 and 11 of a segment with that tag. In a usual segment the notes alone are left to be asked.
+// Answers 9, 8, 10 and 11 of a segment with that tag.
 pub fn ruled_verdict(
     s: &[u8],
     starts: &[usize; 33],
@@ -228,8 +227,8 @@ pub fn ruled_verdict(
     if extent.last == 0 {
         return Verdict::Holds;
     }
-    if layout.single & usual::usual(s, starts, layout, tag) {
-        return notes_verdict(s, starts, layout, tag);
+    if let Verdict::Broken(n, e) = early_verdict(s, starts, layout, component, tag, extent) {
+        return Verdict::Broken(n, e);
     }
-    rules_verdict(s, starts, layout, component, tag, extent)
+    notes_verdict(s, starts, layout, tag)
 }

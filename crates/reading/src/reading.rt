@@ -22,6 +22,7 @@ use crate::judging;
 use crate::judging::State;
 use crate::settling;
 use crate::settling::Step;
+use elements::layout::Layout;
 use elements::segment;
 use elements::verdict::Verdict;
 use gate::answer::Answer;

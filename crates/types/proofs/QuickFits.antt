@@ -12,7 +12,7 @@ use Rattle.text.specs.Bytes.{Bytes, between}
 use Rattle.text.proofs.Bools.{and-assoc, and-true, and-false}
 use Rattle.text.proofs.Tests.{and-first, and-second}
 use Rattle.types.specs.Types.{isNumber, figures, daysIn, isDate, isTime, isOf, sizeOf, fits}
-use Rattle.types.specs.internal.Quick.{isIdByte, isShortId, isEarlyDate, isShortTime, isQuick, fitsQuickly}
+use Rattle.types.specs.internal.Quick.{isIdByte, isShortId, isEarlyDate, isShortTime, isSized, isQuick, fitsQuickly}
 use Rattle.types.specs.declared.kind.Kind.{Kind}
 use Rattle.types.specs.declared.kind.Kind.the-variants.{AN, ID, Set842, N0, R, DT, TM}
 use Rattle.types.proofs.Reals.{digits-count, digits-real}
@@ -114,37 +114,25 @@ quick-of TM s l e = and-second (eqb (length s) 4) (isOf TM s) e
 
 -- the length, and then the type
 module _ (kind : Kind) (least most : ℕ) (s : Bytes) where
-  pub quickly-none : length s ≡ 0 → false ≡ fitsQuickly kind least most s
+  pub quickly-not : isSized least most s ≡ false → false ≡ fitsQuickly kind least most s
   unfolding fitsQuickly
-  quickly-none l = rw l
+  quickly-not e = rw e
 
-  pub quickly-short : length s < least → false ≡ fitsQuickly kind least most s
+  pub quickly-is : isSized least most s ≡ true → isQuick kind s ≡ fitsQuickly kind least most s
   unfolding fitsQuickly
-  quickly-short l = rw (lt-leb least (length s) l, and-false (leb 1 (length s)))
-
-  pub quickly-long : most < length s → false ≡ fitsQuickly kind least most s
-  unfolding fitsQuickly
-  quickly-long l = rw (lt-leb (length s) most l, and-false (leb least (length s)), and-false (leb 1 (length s)))
-
-  pub quickly-by : (length s ≡ 0 → ⊥) → least ≤ length s → length s ≤ most → isQuick kind s ≡ fitsQuickly kind least most s
-  unfolding fitsQuickly
-  quickly-by n l m = rw (le-leb 1 (length s) (omega arith), le-leb least (length s) l, le-leb (length s) most m)
-
-  pub quickly-some : fitsQuickly kind least most s ≡ true → 1 ≤ length s
-  unfolding fitsQuickly
-  quickly-some e =
-      leb-true 1 (length s)
-      (and-first (leb 1 (length s)) (between least most (length s))
-      (and-first (leb 1 (length s) && between least most (length s)) (isQuick kind s) e))
+  quickly-is e = rw e
 
   pub quickly-fits : fitsQuickly kind least most s ≡ true → fits kind least most s ≡ true
-  unfolding fitsQuickly
+  unfolding fitsQuickly isSized
   quickly-fits e =
-      let quick = and-second (leb 1 (length s) && between least most (length s)) (isQuick kind s) e in
-      let sized =
-      and-second (leb 1 (length s)) (between least most (length s))
-      (and-first (leb 1 (length s) && between least most (length s)) (isQuick kind s) e) in
-      sym (fits-by kind least most s (length s) (quick-size kind s quick)
-      (leb-true least (length s) (and-first (leb least (length s)) (leb (length s) most) sized))
-      (leb-true (length s) most (and-second (leb least (length s)) (leb (length s) most) sized)))
-      ∙ quick-of kind s (quickly-some e) quick
+      let n = length s in
+      let sized = and-first (leb 1 n && leb least n && leb n most) (isQuick kind s) e in
+      let quick = and-second (leb 1 n && leb least n && leb n most) (isQuick kind s) e in
+      let low = and-first (leb 1 n && leb least n) (leb n most) sized in
+      sym (fits-by kind least most s n (quick-size kind s quick) (leb-true least n (and-second (leb 1 n) (leb least n) low))
+      (leb-true n most (and-second (leb 1 n && leb least n) (leb n most) sized)))
+      ∙ quick-of kind s (leb-true 1 n (and-first (leb 1 n) (leb least n) low)) quick
+
+pub text-sized : (least most : ℕ) (s : Bytes) → isSized least most s ≡ fitsQuickly AN least most s
+unfolding fitsQuickly
+text-sized least most s = sym (and-true (isSized least most s))

@@ -1,10 +1,9 @@
 // Quick tests of values: each admits the usual values of its type by a few comparisons, and no other value that does not fit.
 ghost use mathlib.Core.Path.{_≡_};
-ghost use Rattle.text.specs.Bytes.{Bytes};
-ghost use Rattle.types.specs.internal.Quick.{isIdByte, isShortId, isEarlyDate, isShortTime, isQuick, fitsQuickly};
+ghost use Rattle.types.specs.internal.Quick.{isIdByte, isShortId, isEarlyDate, isShortTime, isSized, fitsQuickly};
+ghost use Rattle.types.specs.declared.kind.Kind.the-variants.{AN, ID, R, DT, TM};
 use crate::dates;
 use crate::digits;
-use crate::kind::Kind;
 use crate::values;
 
 // A capital letter or a digit.
@@ -56,33 +55,56 @@ fn is_short_time(value: &[u8]) -> bool
     dates::is_time(value)
 }
 
-// Whether a value of at least one byte is a usual one of the type. An R is one of digits alone.
-fn is_quick(kind: Kind, value: &[u8]) -> bool
-    ensures { λ r. ⌜ r ≡ isQuick kind (now (value .entry)) ⌝ }
+// Whether the value has a byte, and a length from least to most.
+fn is_sized(value: &[u8], least: usize, most: usize) -> bool
+    ensures { λ r. ⌜ r ≡ isSized least most (now (value .entry)) ⌝ }
 {
-    match kind {
-        Kind::AN => true,
-        Kind::ID => is_short_id(value),
-        Kind::Set842 => values::is_842(value),
-        Kind::N0 => digits::is_number(value),
-        Kind::R => digits::is_number(value),
-        Kind::DT => is_early_date(value),
-        Kind::TM => is_short_time(value),
-    }
+    (1 <= value.len()) & (least <= value.len()) & (value.len() <= most)
 }
 
-// Whether the value is a usual one of the type and has a length from least to most.
-pub fn fits_quickly(kind: Kind, least: usize, most: usize, value: &[u8]) -> bool
-    ensures { λ r. ⌜ r ≡ fitsQuickly kind least most (now (value .entry)) ⌝ }
+// Any bytes, of a length from least to most.
+pub fn text(value: &[u8], least: usize, most: usize) -> bool
+    ensures { λ r. ⌜ r ≡ fitsQuickly AN least most (now (value .entry)) ⌝ }
 {
-    if value.len() == 0 {
+    is_sized(value, least, most)
+}
+
+// An ID of up to three bytes, of a length from least to most.
+pub fn short_id(value: &[u8], least: usize, most: usize) -> bool
+    ensures { λ r. ⌜ r ≡ fitsQuickly ID least most (now (value .entry)) ⌝ }
+{
+    if !is_sized(value, least, most) {
         return false;
     }
-    if value.len() < least {
+    is_short_id(value)
+}
+
+// An R of digits alone, of a length from least to most.
+pub fn digits_alone(value: &[u8], least: usize, most: usize) -> bool
+    ensures { λ r. ⌜ r ≡ fitsQuickly R least most (now (value .entry)) ⌝ }
+{
+    if !is_sized(value, least, most) {
         return false;
     }
-    if most < value.len() {
+    digits::is_number(value)
+}
+
+// A date with a day up to the 28th, of a length from least to most.
+pub fn early_date(value: &[u8], least: usize, most: usize) -> bool
+    ensures { λ r. ⌜ r ≡ fitsQuickly DT least most (now (value .entry)) ⌝ }
+{
+    if !is_sized(value, least, most) {
         return false;
     }
-    is_quick(kind, value)
+    is_early_date(value)
+}
+
+// A time in hours and minutes, of a length from least to most.
+pub fn short_time(value: &[u8], least: usize, most: usize) -> bool
+    ensures { λ r. ⌜ r ≡ fitsQuickly TM least most (now (value .entry)) ⌝ }
+{
+    if !is_sized(value, least, most) {
+        return false;
+    }
+    is_short_time(value)
 }

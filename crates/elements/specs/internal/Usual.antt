@@ -2,15 +2,20 @@
 -- Assumes nothing.
 use Prim.Native.Nat.{ℕ, zero, suc, _≤_}
 use mathlib.Core.Path.{_≡_}
-use mathlib.Core.Bool.{true}
+use mathlib.Core.Bool.{Bool, true}
 use mathlib.Core.List.{List, [], _∷_}
 use lib.ListN.{length}
 use Rattle.text.specs.Bytes.{Bytes}
-use Rattle.elements.specs.Data.{Element}
+use Rattle.types.specs.declared.kind.Kind.{Kind}
+use Rattle.elements.specs.Data.{Simple, Element, value}
 use Rattle.elements.specs.Rules.{ruleOf, completeBy, suitsBy}
 use Rattle.elements.specs.internal.Layouts.{elementIn}
 use Rattle.elements.specs.internal.Verdicts.{rulesOf, lastMust}
 use Rattle.elements.specs.declared.layout.Layout.{Layout}
+
+-- the rule of an element of one value
+abbrev pub simple : Bool → Kind → ℕ → ℕ → Element
+simple needed kind least most = record { must = needed; shape = Simple (value kind least most) }
 
 -- an element of one component is complete, and suits its rule
 pub record Suits (e : Element) (p : Bytes) : Type 0 where

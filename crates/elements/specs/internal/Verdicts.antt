@@ -5,6 +5,7 @@ use mathlib.Core.Path.{_≡_}
 use mathlib.Core.Bool.{Bool, true, cond}
 use mathlib.Core.List.{List, [], _∷_, _++_}
 use lib.Dec.{eqb}
+use lib.ListN.{length}
 use Rattle.text.specs.View.{Piece}
 use Rattle.elements.specs.Data.{Simple, Composite, Element, Rules, value, firstUnit, unitValues, nonconformance}
 use Rattle.elements.specs.Checks.{each, firstBroken}
@@ -47,6 +48,12 @@ suitsAt rules at k = suitsBy (ruleOf rules k) (at k)
 
 abbrev pub elementsVerdict : Rules → (ℕ → Piece) → ℕ → Verdict
 elementsVerdict rules at upto = firstBroken (each 8 1 upto (completeAt rules at) ++ each 10 1 upto (suitsAt rules at))
+
+-- 9, 8 and 10 of a segment with `count` elements
+unfoldable pub earlyVerdict : Rules → (ℕ → Piece) → ℕ → Verdict
+earlyVerdict rules at count =
+    firstBroken (each 9 1 count (λ (k : ℕ). fewBy rules k (at k))
+    ++ (each 8 1 (length (rules .elements)) (completeAt rules at) ++ each 10 1 (length (rules .elements)) (suitsAt rules at)))
 
 -- r is the greater of the two
 pub record Greater (a b r : ℕ) : Type 0 where

@@ -36,5 +36,8 @@ isQuick DT s = isEarlyDate s
 isQuick TM s = isShortTime s
 
 -- it has a byte, and the least and the most length
+unfoldable pub isSized : ℕ → ℕ → Bytes → Bool
+isSized least most s = leb 1 (length s) && leb least (length s) && leb (length s) most
+
 unfoldable pub fitsQuickly : Kind → ℕ → ℕ → Bytes → Bool
-fitsQuickly kind least most s = leb 1 (length s) && between least most (length s) && isQuick kind s
+fitsQuickly kind least most s = isSized least most s && isQuick kind s

@@ -1,53 +1,70 @@
--- `ruled_verdict` meets its contract: no rules, a usual shape, or rule by rule.
+-- `ruled_verdict` meets its contract: no rules, one of 9, 8 and 10, or the notes.
 -- Assumes nothing.
-use mathlib.Core.Path.{sym, ap, _∙_}
-use native.Mathlib.Omega.{arith}
-use Rattle.elements.proofs.RuleOrder.{decide-plain}
+use Prim.Native.Nat.{ℕ}
+use mathlib.Core.Path.{_≡_, sym, ap, _∙_}
+use lib.ListN.{length}
 use denote.Ref.{now}
-use Rattle.text.proofs.Tests.{and-first, and-second}
+use Rattle.elements.specs.internal.Layouts.{componentsIn}
+use Rattle.elements.specs.internal.Verdicts.{rulesOf, earlyVerdict}
 use Rattle.elements.specs.internal.Table.{extentOf}
-use Rattle.elements.specs.internal.Usual.{Suiting}
 use Rattle.elements.specs.declared.rules.Extent.{Extent}
+use Rattle.elements.specs.declared.verdict.Verdict.the-variants.{Holds}
 use Rattle.elements.proofs.EveryTag.{last-small}
-use Rattle.elements.proofs.UsualSegments.{notes-decide}
+use Rattle.elements.proofs.RuleOrder.{decide-plain, decide-early, decide-notes, early-few}
+use native.Mathlib.Omega.{arith}
 use borrow.Author.Needs.{needs}
 use Rattle.elements.proofs.ruled.ruled_verdict.Statement.{statement}
 use Rattle.elements.proofs.ruled.ruled_verdict.Tie as tie
+
+last : (c : tie.After-struct-known) → c .before .extent-of .result .last ≡ length ((rulesOf (c .before .before .before .args .tag)) .elements)
+unfolding extentOf
+last c = ap (λ (x : Extent). x .last) (c .before .extent-of .ensures)
+
+ruled : (c : tie.Else1) → length ((rulesOf (c .before .before .before .before .args .tag)) .elements) ≡ 0 → ⊥
+ruled c z = c .if1 .left (last (c .before) ∙ z)
+
+silent : (c : tie.After-enum-told) → Holds ≡ earlyVerdict (rulesOf (c .before .before .before .before .before .before .before .args .tag))
+    (componentsIn (now (c .before .before .before .before .before .before .before .args .s))
+    (now (c .before .before .before .before .before .before .before .args .starts)) (c .before .before .before .before .before .before .before .args .layout)
+    (c .before .before .before .before .before .before .before .args .component)) (c .before .before .before .before .before .before .before .args .layout .count)
+silent c = sym (c .enum-told .given .1) ∙ c .before .before .early-verdict .ensures
 
 extent-of-requires : tie.Need-extent-of-requires
 extent-of-requires c κs = search needs
 
 returns : tie.Need-returns
 unfolding extentOf
-returns c = decide-plain _ _ _ _ _ (sym (ap (λ (x : Extent). x .last) (c .before .before .extent-of .ensures)) ∙ c .if1 .taken)
+returns c = decide-plain _ _ _ _ _ (sym (last (c .before)) ∙ c .if1 .taken)
 
-usual-requires : tie.Need-usual-requires
-usual-requires c κs = search needs
+early-verdict-requires : tie.Need-early-verdict-requires
+early-verdict-requires c κs = search needs
 
--- a usual segment, with no component separator
-usual-here : (c : tie.Then2) → Suiting (now (c .before .before .before .before .before .before .before .args .s))
-    (now (c .before .before .before .before .before .before .before .args .starts)) (c .before .before .before .before .before .before .before .args .layout)
-    (c .before .before .before .before .before .before .before .args .tag)
-usual-here c = c .before .before .usual .ensures
-    (and-second (c .before .before .before .before .before .before .before .args .layout .single) (c .before .before .usual .result) (c .if2 .taken))
+enum-known-n : tie.Need-enum-known-n
+enum-known-n c = search needs
+
+returns-2 : tie.Need-returns-2
+returns-2 c = decide-early _ _ _ _ _ (ruled (c .before .before .before .before)) _ _ (sym (c .before .n .given .1) ∙ c .before .before .before .early-verdict .ensures)
+
+enum-told : tie.Need-enum-told
+enum-told c = search needs
 
 notes-verdict-requires : tie.Need-notes-verdict-requires
 notes-verdict-requires c κs =
-    let w = usual-here c in
-    omega (arith, w .far, w .near, last-small (c .before .before .before .before .before .before .before .args .tag))
-
-returns-2 : tie.Need-returns-2
-returns-2 c =
-    c .notes-verdict .ensures
-    ∙ notes-decide _ _ _ _ (usual-here (c .before)) (and-first _ (c .before .before .before .usual .result) (c .before .if2 .taken)) _
-
-rules-verdict-requires : tie.Need-rules-verdict-requires
-rules-verdict-requires c κs = (c .before .before .before .before .before .extent-of .ensures, omega (arith, c .before .before .before .if1 .left))
+    let start = c .before .before .before .before .before .before .before in
+    omega (arith, early-few _ _ _ _ _ (silent c), last-small (start .args .tag))
 
 returns-3 : tie.Need-returns-3
-returns-3 c = c .rules-verdict .ensures
+returns-3 c = c .notes-verdict .ensures ∙ decide-notes _ _ _ _ _ (ruled (c .before .before .before .before)) (silent (c .before))
 
 pub ruled-verdict-spec : {M : Type 1} → statement M
 ruled-verdict-spec =
     tie.close
-    (tie.spec extent-of-requires returns usual-requires notes-verdict-requires returns-2 rules-verdict-requires returns-3)
+    (tie.spec
+    extent-of-requires
+    returns
+    early-verdict-requires
+    enum-known-n
+    returns-2
+    enum-told
+    notes-verdict-requires
+    returns-3)

@@ -1,3 +1,5 @@
+-- `is_early_date` meets its contract: eight digits, a month, and a day that every month has.
+-- Assumes nothing.
 use mathlib.Core.Path.{_≡_, sym, _∙_}
 use mathlib.Core.Bool.{true}
 use denote.Ref.{now}
@@ -10,30 +12,24 @@ use borrow.Author.Needs.{needs}
 use Rattle.types.proofs.quick.is_early_date.Statement.{statement}
 use Rattle.types.proofs.quick.is_early_date.Tie as tie
 
--- src/quick.rt:39:9
 digits : (c : tie.Else2) → isNumber (now (c .before .before .before .before .args .value)) ≡ true
 digits c = sym (c .before .is-number .ensures) ∙ not-false (c .before .is-number .result) (c .if2 .left)
 
 returns : tie.Need-returns
 returns c = early-length (now (c .before .before .args .value)) (c .if1 .taken)
 
--- src/quick.rt:41:9
 is-number-requires : tie.Need-is-number-requires
 is-number-requires c κs = search needs
 
--- src/quick.rt:42:9
 returns-2 : tie.Need-returns-2
 returns-2 c = early-digits (now (c .before .before .before .before .args .value)) (sym (c .before .is-number .ensures) ∙ not-true (c .before .is-number .result) (c .if2 .taken))
 
--- src/quick.rt:44:9
 figures-requires : tie.Need-figures-requires
 figures-requires c κs = written _ _ _ (digits c) (omega arith) (omega arith)
 
--- src/quick.rt:45:9
 figures-requires-2 : tie.Need-figures-requires-2
 figures-requires-2 c κs = written _ _ _ (digits (c .before)) (omega arith) (omega arith)
 
--- src/quick.rt:35:1
 returns-3 : tie.Need-returns-3
 returns-3 c = early-day (now (c .before .before .before .before .before .before .args .value)) (c .before .before .before .before .if1 .left) (digits (c .before .before)) _ _ (c .before .figures .ensures)
     (c .figures2 .ensures)

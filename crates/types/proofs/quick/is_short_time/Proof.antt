@@ -1,3 +1,5 @@
+-- `is_short_time` meets its contract: a time of four digits.
+-- Assumes nothing.
 use mathlib.Core.Path.{_∙_}
 use denote.Ref.{now}
 use Rattle.types.proofs.QuickFits.{time-other, time-four}
@@ -6,15 +8,12 @@ use borrow.Author.Needs.{needs}
 use Rattle.types.proofs.quick.is_short_time.Statement.{statement}
 use Rattle.types.proofs.quick.is_short_time.Tie as tie
 
--- src/quick.rt:54:9
 returns : tie.Need-returns
 returns c = time-other (now (c .before .before .args .value)) (c .if1 .taken)
 
--- src/quick.rt:56:5
 is-time-requires : tie.Need-is-time-requires
 is-time-requires c κs = search needs
 
--- src/quick.rt:50:1
 returns-2 : tie.Need-returns-2
 returns-2 c = c .is-time .ensures ∙ time-four (now (c .before .before .before .args .value)) (c .before .if1 .left)
 
