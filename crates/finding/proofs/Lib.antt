@@ -9,3 +9,4 @@ pub mod StoredLevels
 pub mod KeyLaws
 pub mod NearLevels
 pub mod KnownLevels
+pub mod Once

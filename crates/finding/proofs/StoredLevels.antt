@@ -84,7 +84,7 @@ later-placed m k h (l ∷ ls) a = (omega (arith, a .0), later-placed m k h ls (a
 
 module _ (s : Bytes) (separator : ℕ) {segments levels segments′ levels′ : List ℕ} {m n : ℕ} (old-segments : SameRecords segmentWidth segments segments′ m)
     (old-levels : SameRecords levelWidth levels levels′ n) where
-  -- level k is told as before, by the same records
+  -- level k is as before, by the same records
   same-level : (k : ℕ) → k ≤ n → tableLevel s separator segments levels k .segment ≤ m
       → tableLevel s separator segments′ levels′ k ≡ tableLevel s separator segments levels k
   same-level k h placed =
@@ -107,7 +107,7 @@ module _ (s : Bytes) (separator : ℕ) {segments levels segments′ levels′ : 
 
 module _ {s : Bytes} {separator : ℕ} {segments levels segments′ levels′ : List ℕ} {m n : ℕ} {ls : List Level}
     (t : TablesHold s separator segments levels m n ls) (old-segments : SameRecords segmentWidth segments segments′ m) (old-levels : SameRecords levelWidth levels levels′ n) where
-  -- the levels are told again
+  -- the levels are the same
   levels-again : levelsUpTo s separator segments′ levels′ n ≡ ls
   levels-again =
       let old : levelsUpTo s separator segments levels n ≡ ls = sym (levels-in-room s separator segments levels n (t .room)) ∙ t .levels-are in

@@ -29,7 +29,7 @@ module _ (s : Bytes) (separator : ℕ) (segments levels : List ℕ) where
   upto-length zero = refl
   upto-length (suc n) = ap suc (upto-length n)
 
-  -- the level with a number is the one that was told of by it
+  -- the level with a number is the one of its record
   pub upto-at : (n k : ℕ) → 1 ≤ k → k ≤ n → levelAt k (upTo n) ≡ level k
   upto-at zero k low high = absurd (omega arith)
   upto-at (suc n) k low high =

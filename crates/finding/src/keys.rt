@@ -6,7 +6,7 @@ ghost use Rattle.finding.specs.internal.Keys.{keyOf};
 const SIX_BYTES: usize = 281474976710656;
 
 // The last seven bytes as the digits of a number, so that names that count upwards have greater and greater keys.
-pub fn id_key(id: &[u8]) -> usize
+pub(crate) fn id_key(id: &[u8]) -> usize
     ensures { λ r. ⌜ r ≡ keyOf (now (id .entry)) ⌝ }
 {
     let mut key: usize = 0;

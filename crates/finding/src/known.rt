@@ -6,7 +6,7 @@ use crate::search;
 use crate::tables;
 ghost use mathlib.Core.Path.{_≡_};
 ghost use Prim.Native.Nat.{max};
-ghost use Rattle.finding.specs.internal.Knows.{knownNone, knownAfter, IsNew, Finds};
+ghost use Rattle.finding.specs.internal.Knows.{knownAfter, IsNew, Finds};
 
 // How many levels there are, and what spares a search among them: a number that is at least the key of every HL01.
 pub struct Known {
@@ -19,14 +19,10 @@ impl Known {
     const MOST: usize = 9000000000000000000;
 
     // Before the first level.
-    pub fn none() -> Known
-        ensures { λ r. ⌜ r ≡ knownNone ⌝ }
-    {
-        Known {
-            levels: 0,
-            greatest: 0,
-        }
-    }
+    pub const NONE: Known = Known {
+        levels: 0,
+        greatest: 0,
+    };
 
     // One level more, with that HL01.
     pub fn after(self, id: &[u8]) -> Known

@@ -1,7 +1,7 @@
 // Finding levels in lent bytes and the two lent tables: which level has an HL01, what a parent says to its children, whether all marks
 // are filled.
 pub mod filling;
-pub mod keys;
+mod keys;
 pub mod known;
 mod marks;
 mod near;

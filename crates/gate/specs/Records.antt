@@ -9,18 +9,12 @@ use Rattle.levels.specs.Levels.{recordsOf}
 use Rattle.gate.specs.Profile.{Profile}
 use Rattle.gate.specs.Segments.{seen, onto, levelsIn}
 use Rattle.gate.specs.declared.how.How.{How}
+use Rattle.levels.specs.Widths.{segmentWidth, levelWidth}
 
 -- the two tables
 pub record Tables : Type 0 where
   pub segments : List ℕ
   pub levels : List ℕ
-
--- how many numbers a record has
-abbrev pub segmentWidth : ℕ
-segmentWidth = 3
-
-abbrev pub levelWidth : ℕ
-levelWidth = 4
 
 -- where a segment starts, how long it is up to its terminator, and its row; after the segments before it
 abbrev pub segmentRecord : List View → View → Placed → ℕ → List ℕ

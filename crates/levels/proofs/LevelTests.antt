@@ -4,7 +4,7 @@ use Prim.Native.Nat.{_≤_}
 use mathlib.Core.Path.{_≡_}
 use mathlib.Core.Bool.{Bool, true, false, cond, not}
 use mathlib.Core.List.{List}
-use lib.Dec.{T, eqb, eqb→eq, leb, leb→le, le→leb}
+use lib.Dec.{T, eqb→eq, leb, leb→le, le→leb}
 use Rattle.text.specs.Bytes.{bytes, same}
 use Rattle.text.proofs.Bools.{both, first-of, second-of, equal-eqb, or-else, else-or, cond-cases}
 use Rattle.elements.specs.Checks.{Check, Keeps}

@@ -14,7 +14,6 @@ use elements::ruled;
 use elements::segment;
 use elements::verdict::Verdict;
 use finding::filling;
-use finding::keys;
 use finding::known::Known;
 use gate::how::How;
 use levels::judging::Judged;
@@ -30,21 +29,25 @@ pub(crate) enum Judgement {
     Broken(usize, usize),
     // Its row; it makes no level and does not close the transaction.
     Plain(u8),
-    // Its row, the parent, depth and code of the level that it makes, and the key of its HL01.
-    Level(u8, usize, usize, usize, usize),
+    // Its row, the parent, depth and code of the level that it makes, and what is known of the levels then.
+    Level {
+        row: u8,
+        parent: usize,
+        depth: usize,
+        code: usize,
+        known: Known,
+    },
     // The row of the SE that closes the transaction.
     Last(u8),
 }
 
-// What the reader carries from segment to segment: how many segments were passed, the last row, how many levels there are, whether the row
-// stands for the second time in a row, and a number that no key of an HL01 is above. The two small fields stand apart, since they are
-// copied faster so.
+// What the reader carries from segment to segment: how many segments were passed, the last row, what is known of their levels, and
+// whether the row stands for the second time in a row. The two small fields stand apart, since they are copied faster so.
 pub(crate) struct State {
     pub count: usize,
     pub row: u8,
-    pub known: usize,
+    pub known: Known,
     pub again: bool,
-    pub greatest: usize,
 }
 
 // The number of the segment's tag.
@@ -71,22 +74,27 @@ fn judge_hl(
     let parent = layout::element(s, starts, layout, 2);
     let code = layout::element(s, starts, layout, 3);
     let mark = layout::element(s, starts, layout, 4);
-    let key = keys::id_key(id);
+    let known = state.known;
     match placing::judge_level(
         s,
         separator,
         segments,
         levels,
-        Known {
-            levels: state.known,
-            greatest: state.greatest,
-        },
+        known,
         id,
         parent,
         code,
         mark,
     ) {
-        Judged::Entitled(above, depth, number) => Judgement::Level(row, above, depth, number, key),
+        Judged::Entitled(above, depth, number) => {
+            Judgement::Level {
+                row,
+                parent: above,
+                depth,
+                code: number,
+                known: known.after(id),
+            }
+        }
         Judged::Refused(number, element) => Judgement::Broken(number, element),
     }
 }
@@ -176,7 +184,7 @@ fn judge_late(
             segments,
             levels,
             state.count,
-            state.known,
+            state.known.levels,
         ) {
             Verdict::Holds => Judgement::Last(row),
             Verdict::Broken(number, element) => Judgement::Broken(number, element),

@@ -25,6 +25,7 @@ use crate::settling::Step;
 use elements::layout::Layout;
 use elements::segment;
 use elements::verdict::Verdict;
+use finding::known::Known;
 use gate::answer::Answer;
 use gate::how::How;
 use numbering::next;
@@ -91,8 +92,7 @@ fn read_on(
         count: 0,
         row: 0,
         again: false,
-        known: 0,
-        greatest: 0,
+        known: Known::NONE,
     };
     loop {
         match cutting::next_segment(

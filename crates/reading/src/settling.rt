@@ -1,12 +1,13 @@
 // What a judgement does: the answer where the reading ends, else the records of the segment, stored where there is room.
 ghost use mathlib.Core.Path.{_≡_};
-ghost use Prim.Native.Nat.{_/_, _≤_, _<_, max};
+ghost use Prim.Native.Nat.{_/_, _≤_, _<_};
 ghost use lib.ListN.{length};
 ghost use Rattle.reading.specs.internal.Settling.{stateAfter, refusedAt, acceptedAt, InRoom, SettlesBy, SettlesPlain, SettlesLevel, SettlesLast};
 use crate::judging::Judgement;
 use crate::judging::State;
 use crate::storing;
 use elements::layout::Layout;
+use finding::known::Known;
 use gate::answer::Answer;
 
 // What became of the next segment.
@@ -17,24 +18,16 @@ pub(crate) enum Step {
     Passed(State),
 }
 
-// The greater of the two.
-fn greater(a: usize, b: usize) -> usize
-    ensures { λ r. ⌜ r ≡ max a b ⌝ }
-{
-    if a < b { b } else { a }
-}
-
 // What the reader carries after one segment more.
-fn after(state: State, row: u8, known: usize, greatest: usize) -> State
+fn after(state: State, row: u8, known: Known) -> State
     requires { ⌜ state .count < 9000000000000000000 ⌝ }
-    ensures { λ r. ⌜ r ≡ stateAfter state row known greatest ⌝ }
+    ensures { λ r. ⌜ r ≡ stateAfter state row known ⌝ }
 {
     State {
         count: state.count + 1,
         row,
         again: row == state.row,
         known,
-        greatest,
     }
 }
 
@@ -59,7 +52,7 @@ fn acceptance(layout: Layout, state: State) -> Step
 {
     Step::Done(Answer::Accepted {
         segments: state.count + 1,
-        levels: state.known,
+        levels: state.known.levels,
         bytes: layout.end + 1,
     })
 }
@@ -73,14 +66,8 @@ fn pass_plain(row: u8, layout: Layout, state: State, segments: &mut [u64]) -> St
     if !storing::segment_room(segments, state.count) {
         return refusal(17, layout, state, 0);
     }
-    storing::put_segment(
-        segments,
-        state.count,
-        layout.at,
-        layout.end - layout.at,
-        row,
-    );
-    Step::Passed(after(state, row, state.known, state.greatest))
+    storing::put_segment(segments, state.count, layout.at, layout.end - layout.at, row);
+    Step::Passed(after(state, row, state.known))
 }
 
 // Passes a segment that makes a level, where there is room for both records.
@@ -89,31 +76,31 @@ fn pass_level(
     parent: usize,
     depth: usize,
     code: usize,
-    key: usize,
+    known: Known,
     layout: Layout,
     state: State,
     segments: &mut [u64],
     levels: &mut [u64],
 ) -> Step
     requires { ⌜ InRoom (now segments) (now levels) layout state ⌝ }
-    ensures { λ r. ⌜ SettlesLevel row parent depth code key layout state (now (segments .entry)) (now (levels .entry)) (now (segments .exit)) (now (levels .exit)) r ⌝ }
+    ensures { λ r. ⌜ SettlesLevel row parent depth code known layout state (now (segments .entry)) (now (levels .entry)) (now (segments .exit)) (now (levels .exit)) r ⌝ }
 {
     if !storing::segment_room(segments, state.count) {
         return refusal(17, layout, state, 0);
     }
-    if !storing::level_room(levels, state.known) {
+    if !storing::level_room(levels, state.known.levels) {
         return refusal(17, layout, state, 0);
     }
-    storing::put_segment(
-        segments,
-        state.count,
-        layout.at,
-        layout.end - layout.at,
-        row,
+    storing::put_segment(segments, state.count, layout.at, layout.end - layout.at, row);
+    storing::put_level(
+        levels,
+        state.known.levels,
+        state.count + 1,
+        parent,
+        depth,
+        code,
     );
-    storing::put_level(levels, state.known, state.count + 1, parent, depth, code);
-    let greatest = greater(state.greatest, key);
-    Step::Passed(after(state, row, state.known + 1, greatest))
+    Step::Passed(after(state, row, known))
 }
 
 // Accepts with this segment as the last, where there is room for its record.
@@ -150,13 +137,19 @@ pub(crate) fn settle(
     match judgement {
         Judgement::Broken(number, element) => refusal(number, layout, state, element),
         Judgement::Plain(row) => pass_plain(row, layout, state, segments),
-        Judgement::Level(row, parent, depth, code, key) => {
+        Judgement::Level {
+            row,
+            parent,
+            depth,
+            code,
+            known,
+        } => {
             pass_level(
                 row,
                 parent,
                 depth,
                 code,
-                key,
+                known,
                 layout,
                 state,
                 segments,

@@ -13,7 +13,7 @@ use Rattle.text.specs.Bytes.{Bytes, bytes, every, any, same}
 use Rattle.text.specs.Separators.{isDigit, isCapital, Fitted}
 use Rattle.text.specs.View.{View}
 use Rattle.text.specs.declared.separators.Separators.{Separators}
-use Rattle.text.proofs.Bools.{both, first-of, second-of, or-left, or-right, or-cases, not-passes}
+use Rattle.text.proofs.Bools.{first-of, second-of, or-left, or-right, or-cases, not-passes}
 use Rattle.text.proofs.Sames.{same-equal}
 use Rattle.text.proofs.Everys.{every-weaker}
 use Rattle.rows.specs.Tags.{tagNumber}

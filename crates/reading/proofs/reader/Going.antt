@@ -38,12 +38,13 @@ use Rattle.reading.specs.declared.cutting.Next.{Next}
 use Rattle.reading.specs.declared.cutting.Next.the-variants.{Open, Bad, Segment}
 use Rattle.reading.proofs.reader.RuleOrder.{bad-bytes}
 use Rattle.reading.proofs.cut.Facts.{ready-first, open-stops, bad-cut, laid-cut, end-inside}
+use Rattle.finding.specs.internal.Knows.{knownNone}
 use Rattle.reading.proofs.reader.JudgeSteps.{verdict-cases}
 use Rattle.reading.proofs.reader.Standings.{standing-start, standing-refuses, segments-long, levels-long, history-long}
 
 -- at the start
 pub going-start : (how : How) (s : Bytes) (specials : List Bool) (before : Tables) (queue starts : List ℕ) → length queue ≡ 72 → length starts ≡ 33
-    → Going how s specials before (before .segments) (before .levels) queue starts 0 (record { head = 0; tail = 0; seen = 0 }) (record { count = 0; row = 0; again = false; known = 0; greatest = 0 })
+    → Going how s specials before (before .segments) (before .levels) queue starts 0 (record { head = 0; tail = 0; seen = 0 }) (record { count = 0; row = 0; again = false; known = knownNone })
 going-start how s specials before queue starts q r = record {
   stands = record { gs = []; rows = []; standing = standing-start how before s };
   ready = ready-first specials s queue q;
@@ -60,8 +61,8 @@ module _ {how : How} {s : Bytes} {before : Tables} {segments levels : List ℕ} 
   pub segments-few : state .count ≤ length (before .segments) / 3
   segments-few = omega (arith, history-long how (stands .gs), stands .standing .count-is, stands .standing .passed .room .segments-fit)
 
-  levels-within : state .known ≤ length levels / 4
-  levels-within = omega (arith, levels-long (stands .standing), stands .standing .known-is, stands .standing .passed .room .levels-fit)
+  levels-within : state .known .levels ≤ length levels / 4
+  levels-within = omega (arith, levels-long (stands .standing), stands .standing .knows .counted, stands .standing .passed .room .levels-fit)
 
   -- the tables are as long as they were
   pub segments-same : length segments ≡ length (before .segments)

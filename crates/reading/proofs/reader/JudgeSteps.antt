@@ -30,7 +30,10 @@ use Rattle.elements.specs.declared.verdict.Verdict.{Verdict}
 use Rattle.elements.specs.declared.verdict.Verdict.the-variants.{Holds, Broken as Faulty}
 use Rattle.elements.proofs.FirstBroken.{keeps-holds}
 use Rattle.elements.proofs.OwnView.{LaidOut, ruled-own, text-own}
-use Rattle.levels.specs.Levels.{Claim, claimOf, textOf}
+use Rattle.levels.specs.Levels.{Claim, claimOf, textOf, levelOf}
+use Rattle.levels.proofs.LevelTests.{keeps-passes}
+use Rattle.finding.specs.declared.known.Known.{Known}
+use Rattle.finding.proofs.KnownLevels.{knows-after}
 use Rattle.levels.specs.Rules.{levelChecks}
 use Rattle.gate.specs.Profile.{nonconformance}
 use Rattle.gate.specs.Segments.{tagIn, isHL, isSE, seen, onto, levelsIn}
@@ -41,8 +44,7 @@ use Rattle.reading.specs.internal.Cutting.{CutAs}
 use Rattle.reading.specs.internal.Judgements.{notedClaim, notedClosing, segmentOf, brokenBy, byLevel, byClosing, lateJudgement, JudgesLate, Judges}
 use Rattle.gate.specs.declared.how.How.{How}
 use Rattle.levels.specs.internal.Answers.{judged}
-use Rattle.finding.specs.internal.Keys.{keyOf}
-use Rattle.finding.specs.internal.Knows.{Knows}
+use Rattle.finding.specs.internal.Knows.{Knows, mostLevels, knownAfter}
 use Rattle.finding.specs.internal.TableLevels.{tableLevels}
 use Rattle.reading.specs.declared.judging.Judgement.{Judgement}
 use Rattle.reading.specs.declared.judging.Judgement.the-variants.{Broken, Plain}
@@ -99,9 +101,9 @@ pub judges-tag : {how : How} {s : Bytes} {starts : List ℕ} {layout : Layout} {
 judges-tag {how} {g = g} rows h t l noted fit nt =
     unknown-tag nonconformance rows h (viewOf (how .separators) g) (nt .data-only) (rw (← (noted ∙ tag-is nt fit)) l)
 
-module _ {how : How} {before : Tables} {s : Bytes} {segments levels : List ℕ} {at count row : ℕ} {again : Bool} {known greatest : ℕ} {gs : List Placed} {rows : List ℕ}
+module _ {how : How} {before : Tables} {s : Bytes} {segments levels : List ℕ} {at count row : ℕ} {again : Bool} {known : Known} {gs : List Placed} {rows : List ℕ}
     {starts : List ℕ} {layout : Layout} {g more : Bytes} (fit : Fitted (how .separators)) (nt : CutAs (how .separators) s starts layout g more)
-    (st : Standing how before s segments levels at count row again known greatest gs rows) (t : ℕ)
+    (st : Standing how before s segments levels at count row again known gs rows) (t : ℕ)
     (tag-noted : t ≡ tagNumber (elementIn s starts layout 0)) where
   abbrev v : View
   v = viewOf (how .separators) g
@@ -163,9 +165,9 @@ module _ {how : How} {before : Tables} {s : Bytes} {segments levels : List ℕ} 
           unfolding tagNumber
           hl-no-se hl = rw (eqb→eq (tagIn v) 12 hl) tt
 
-          by-level : T (isHL v) → Judges rows h v (byLevel x (keyOf (claimOf v .id)) (judged (nonconformance .levels) (levelsIn nonconformance h) (claimOf v)))
+          by-level : known .levels ≤ mostLevels → T (isHL v) → Judges rows h v (byLevel x (knownAfter known (claimOf v .id)) (judged (nonconformance .levels) (levelsIn nonconformance h) (claimOf v)))
           unfolding judged
-          by-level hl =
+          by-level few hl =
               let checks = levelChecks (nonconformance .levels) (levelsIn nonconformance h) (claimOf v) in
               verdict-cases (firstBroken checks)
               (λ q.
@@ -176,7 +178,8 @@ module _ {how : How} {before : Tables} {s : Bytes} {segments levels : List ℕ} 
                 passes (isHL v) hl,
                 hl-no-se hl,
                 refl,
-                refl,
+                knows-after (st .knows) (omega (arith, st .knows .counted)) (levelOf (nonconformance .levels) (suc (length h)) (claimOf v) (levelsIn nonconformance h))
+                    (keeps-passes (nonconformance .levels) (levelsIn nonconformance h) (claimOf v) (keeps-holds checks .0 q) .new),
               ))
               (λ n k q. rw q (bad-level nonconformance rows h v (nt .data-only) known-tag ends x fits elements hl n k q))
 
@@ -204,36 +207,36 @@ module _ {how : How} {before : Tables} {s : Bytes} {segments levels : List ℕ} 
           some-before e = omega (arith, st .count-is, st .rows-are, late-row rows x (fits .viable) (fits .tagged ∙ e))
 
           its-closing-tests : tagIn v ≡ tag "SE"
-              → notedClosing s (how .separators .element) starts layout segments levels count known ≡ closingChecks nonconformance h v
+              → notedClosing s (how .separators .element) starts layout segments levels count (known .levels) ≡ closingChecks nonconformance h v
           its-closing-tests e =
               let total : numberOf (elementIn s starts layout 1) ≡ valueOf (textOf (elementOf v 1)) =
               ap numberOf (text-is nt 1 (omega arith) ∙ sym (se-count (how .separators) g elements e)) ∙ counted-number (how .separators) g elements e in
               let control : elementIn s starts layout 2 ≡ textOf (elementOf v 2) =
               text-is nt 2 (omega arith) ∙ sym (se-control (how .separators) g elements e) in
-              let first = control-of-first how before s segments levels at count row again known greatest gs rows (some-before e) st in
+              let first = control-of-first how before s segments levels at count row again known gs rows (some-before e) st in
               let long : suc count ≡ suc (length h) = omega (arith, history-long how gs, st .count-is) in
               rw (total, control, first, long, st .tells .levels-are) refl
 
           -- what the layout and tables say of an HL and of an SE
           abbrev hl-says : Judgement
-          hl-says = byLevel x (keyOf (elementIn s starts layout 1))
-              (judged (nonconformance .levels) (tableLevels s (how .separators .element) segments levels known) (notedClaim s starts layout))
+          hl-says = byLevel x (knownAfter known (elementIn s starts layout 1))
+              (judged (nonconformance .levels) (tableLevels s (how .separators .element) segments levels (known .levels)) (notedClaim s starts layout))
 
           abbrev se-says : Judgement
-          se-says = byClosing x (firstBroken (notedClosing s (how .separators .element) starts layout segments levels count known))
+          se-says = byClosing x (firstBroken (notedClosing s (how .separators .element) starts layout segments levels count (known .levels)))
 
           -- what the late rules say
-          judges-late : (state : State) → state .count ≡ count → state .known ≡ known
+          judges-late : known .levels ≤ mostLevels → (state : State) → state .count ≡ count → state .known ≡ known
               → Judges rows h v (lateJudgement (how .separators .element) s starts layout state segments levels t x)
           unfolding tagNumber
-          judges-late state counted levelled = rw (counted, levelled) (by (eqb t 12) (eqb t 33) refl refl)
+          judges-late few state counted levelled = rw (counted, levelled) (by (eqb t 12) (eqb t 33) refl refl)
             where
               by : (a b : Bool) → eqb t 12 ≡ a → eqb t 33 ≡ b → Judges rows h v (cond a hl-says (cond b se-says (Plain x)))
               by true b p q =
                   let e : tagIn v ≡ 12 = sym tag-known ∙ eqb→eq t 12 (rw p tt) in
                   rw (st .tells .levels-are)
-                  (subst (λ (c : Claim). Judges rows h v (byLevel x (keyOf (c .id)) (judged (nonconformance .levels) (levelsIn nonconformance h) c)))
-                  (sym (its-claim e)) (by-level (rw e tt)))
+                  (subst (λ (c : Claim). Judges rows h v (byLevel x (knownAfter known (c .id)) (judged (nonconformance .levels) (levelsIn nonconformance h) c)))
+                  (sym (its-claim e)) (by-level few (rw e tt)))
               by false true p q =
                   let e : tagIn v ≡ 33 = sym tag-known ∙ eqb→eq t 33 (rw q tt) in
                   subst (λ (cs : List Check). Judges rows h v (byClosing x (firstBroken cs))) (sym (its-closing-tests e)) (by-closing (rw e tt))
@@ -250,9 +253,9 @@ module _ {how : How} {before : Tables} {s : Bytes} {segments levels : List ℕ} 
         -- 12 to 16, where those hold
         pub judges-rest : (d : Verdict)
             → d ≡ firstBroken (ruledChecks (nonconformance .elements) t (layoutView s starts layout (how .separators .component)))
-            → d ≡ Holds → (state : State) → state .count ≡ count → state .known ≡ known → state .greatest ≡ greatest
+            → d ≡ Holds → (state : State) → state .count ≡ count → state .known ≡ known → known .levels ≤ mostLevels
             → (j : Judgement) → JudgesLate (how .separators .element) s starts layout state segments levels t x j → Judges rows h v j
-        judges-rest d is q state counted levelled bounded j says =
-            let knows : Knows (record { levels = state .known; greatest = state .greatest }) (tableLevels s (how .separators .element) segments levels (state .known)) =
-            rw (levelled, bounded, st .tells .levels-are) (st .knows) in
-            subst (λ (j : Judgement). Judges rows h v j) (sym (says knows)) (judges-late (keeps-holds (ruledChecks (nonconformance .elements) (tagIn v) v) .0 (sym ruled-is ∙ sym is ∙ q)) state counted levelled)
+        judges-rest d is q state counted levelled few j says =
+            let knows : Knows (state .known) (tableLevels s (how .separators .element) segments levels (state .known .levels)) =
+            rw (levelled, st .tells .levels-are) (st .knows) in
+            subst (λ (j : Judgement). Judges rows h v j) (sym (says knows)) (judges-late (keeps-holds (ruledChecks (nonconformance .elements) (tagIn v) v) .0 (sym ruled-is ∙ sym is ∙ q)) few state counted levelled)

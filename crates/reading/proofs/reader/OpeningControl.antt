@@ -36,6 +36,7 @@ use Rattle.reading.specs.internal.Judgements.{openingControl}
 use Rattle.gate.specs.declared.how.How.{How}
 use Rattle.gate.proofs.reading.Laws.{keeps-split, opening-onto, keeps-at}
 use Rattle.gate.proofs.reading.ElementTexts.{ruled-simple, se-rules, st-control}
+use Rattle.finding.specs.declared.known.Known.{Known}
 
 -- row 1 is ST's
 tag-1 : tagOf 1 ≡ tag "ST"
@@ -43,13 +44,13 @@ unfolding tagOf rowAt list842 tagNumber
 tag-1 = refl
 
 -- the ST's control number, where a segment was passed
-pub control-of-first : (how : How) (before : Tables) (s : Bytes) (segments levels : List ℕ) (at count row : ℕ) (again : Bool) (known greatest : ℕ)
-    (gs : List Placed) (rows : List ℕ) → 0 < count → Standing how before s segments levels at count row again known greatest gs rows
+pub control-of-first : (how : How) (before : Tables) (s : Bytes) (segments levels : List ℕ) (at count row : ℕ) (again : Bool) (known : Known)
+    (gs : List Placed) (rows : List ℕ) → 0 < count → Standing how before s segments levels at count row again known gs rows
     → openingControl s (how .separators .element) segments ≡ textOf (elementOf (opening (onto [] (seen how gs))) 2)
 unfolding openingControl
-control-of-first how before s segments levels at count row again known greatest [] rows some st = absurd (omega (arith, st .count-is))
-control-of-first how before s segments levels at count row again known greatest (g ∷ gs) [] some st = absurd (omega (arith, st .rows-are))
-control-of-first how before s segments levels at count row again known greatest (g ∷ gs) (r ∷ rows) some st =
+control-of-first how before s segments levels at count row again known [] rows some st = absurd (omega (arith, st .count-is))
+control-of-first how before s segments levels at count row again known (g ∷ gs) [] some st = absurd (omega (arith, st .rows-are))
+control-of-first how before s segments levels at count row again known (g ∷ gs) (r ∷ rows) some st =
     let q = how .separators in
     let l = st .passed .leads in
     let w : CutLaw (q .terminator) (cutBy how) s (Whole (g .segment) (l .0)) = subst (λ (c : Cut). CutLaw (q .terminator) (cutBy how) s c) (l .1) (cut-law q s) in

@@ -11,7 +11,8 @@ use Rattle.text.specs.Bytes.{Bytes}
 use Rattle.levels.specs.Profile.{nonconformance}
 use Rattle.levels.specs.Levels.{Claim, Level, called, levelAt}
 use Rattle.levels.specs.internal.Answers.{judged, judgedRoot, judgedChild, asParent}
-use Rattle.finding.specs.internal.Keys.{keyOf}
+use Rattle.finding.specs.declared.known.Known.{Known}
+use Rattle.finding.specs.internal.Knows.{knownAfter}
 use Rattle.levels.specs.declared.judging.Judged.{Judged}
 use Rattle.levels.specs.declared.judging.Judged.the-variants.{Refused}
 use Rattle.reading.specs.internal.Judgements.{byLevel}
@@ -42,11 +43,11 @@ module _ (ls : List Level) (c : Claim) (new : Bool) (tested : new ≡ eqb (calle
       placed-under named l m r is = is ∙ judged-child ls c fresh above found some named l m
 
 -- the answer as a judgement, where it is k, by elements that are equal to those judged
-pub hl-judged : (ls : List Level) (a a′ b b′ c c′ d d′ : Bytes) (row key : ℕ) (j k : Judged) → a ≡ a′ → b ≡ b′ → c ≡ c′ → d ≡ d′ → key ≡ keyOf a
+pub hl-judged : (ls : List Level) (a a′ b b′ c c′ d d′ : Bytes) (row : ℕ) (known after : Known) (j k : Judged) → a ≡ a′ → b ≡ b′ → c ≡ c′ → d ≡ d′ → after ≡ knownAfter known a
     → j ≡ judged nonconformance ls (record { id = a; parent = b; code = c; mark = d }) → j ≡ k
-    → byLevel row key k ≡ byLevel row (keyOf a′) (judged nonconformance ls (record { id = a′; parent = b′; code = c′; mark = d′ }))
-hl-judged ls a a′ b b′ c c′ d d′ row key j k p q r s keyed is so =
-    let keys : key ≡ keyOf a′ = keyed ∙ ap keyOf p in
+    → byLevel row after k ≡ byLevel row (knownAfter known a′) (judged nonconformance ls (record { id = a′; parent = b′; code = c′; mark = d′ }))
+hl-judged ls a a′ b b′ c c′ d d′ row known after j k p q r s e is so =
+    let knows : after ≡ knownAfter known a′ = e ∙ ap (knownAfter known) p in
     let answers : k ≡ judged nonconformance ls (record { id = a′; parent = b′; code = c′; mark = d′ }) =
     sym so ∙ is ∙ claims-same ls a a′ b b′ c c′ d d′ p q r s in
-    λ i. byLevel row (keys i) (answers i)
+    λ i. byLevel row (knows i) (answers i)

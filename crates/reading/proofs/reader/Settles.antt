@@ -1,6 +1,6 @@
 -- What `settle` answers in each of its cases is right.
 -- Assumes nothing.
-use Prim.Native.Nat.{ℕ, suc, _+_, _-_, _/_, _≤_, _<_, max}
+use Prim.Native.Nat.{ℕ, suc, _+_, _-_, _/_, _≤_, _<_}
 use mathlib.Core.Path.{_≡_, refl, sym, ap, subst, _∙_}
 use mathlib.Core.Logic.{inl, inr}
 use mathlib.Core.Bool.{Bool, true, false, not}
@@ -19,7 +19,7 @@ use Rattle.gate.specs.Records.{Tables, Room}
 use Rattle.reading.specs.internal.Judgements.{Judges}
 use Rattle.reading.specs.internal.Settling.{stateAfter, refusedAt, acceptedAt, Settling, Stands, Settles}
 use Rattle.gate.specs.declared.how.How.{How}
-use Rattle.finding.specs.internal.Knows.{mostLevels}
+use Rattle.finding.specs.declared.known.Known.{Known}
 use Rattle.finding.specs.internal.Entries.{storedAt}
 use Rattle.reading.specs.declared.judging.Judgement.{Judgement}
 use Rattle.reading.specs.declared.judging.Judgement.the-variants.{Broken, Plain, Level, Last}
@@ -86,15 +86,15 @@ module _ {how : How} {before : Tables} {s : Bytes} {segments levels : List ℕ} 
       → Settles how before s layout segments levels r
   full-plain row q l = full row (says (Plain row) q .0) (no-segment-room (t .standing) g more (t .cut) (t .whole) l)
 
-  pub full-level : (row parent depth code key : ℕ) → j ≡ Level row parent depth code key → length segments / 3 ≤ state .count → (r : Step)
+  pub full-level : (row parent depth code : ℕ) (known : Known) → j ≡ Level row parent depth code known → length segments / 3 ≤ state .count → (r : Step)
       → r ≡ refusedAt 17 layout state 0 → Settles how before s layout segments levels r
-  full-level row parent depth code key q l =
-      full row (says (Level row parent depth code key) q .0) (no-segment-room (t .standing) g more (t .cut) (t .whole) l)
+  full-level row parent depth code known q l =
+      full row (says (Level row parent depth code known) q .0) (no-segment-room (t .standing) g more (t .cut) (t .whole) l)
 
-  pub full-levels : (row parent depth code key : ℕ) → j ≡ Level row parent depth code key → length levels / 4 ≤ state .known → (r : Step)
+  pub full-levels : (row parent depth code : ℕ) (known : Known) → j ≡ Level row parent depth code known → length levels / 4 ≤ state .known .levels → (r : Step)
       → r ≡ refusedAt 17 layout state 0 → Settles how before s layout segments levels r
-  full-levels row parent depth code key q l =
-      let p = says (Level row parent depth code key) q in
+  full-levels row parent depth code known q l =
+      let p = says (Level row parent depth code known) q in
       full row (p .0) (no-level-room (t .standing) g more (t .cut) (t .whole) (p .1) l)
 
   pub full-last : (row : ℕ) → j ≡ Last row → length segments / 3 ≤ state .count → (r : Step) → r ≡ refusedAt 17 layout state 0
@@ -104,7 +104,7 @@ module _ {how : How} {before : Tables} {s : Bytes} {segments levels : List ℕ} 
   -- passed
   pub settles-plain : (row : ℕ) → j ≡ Plain row → state .count < length segments / 3 → (segments′ : List ℕ)
       → segments′ ≡ storedAt 3 segments (state .count) (layout .at ∷ (layout .end - layout .at) ∷ row ∷ []) → (after : State)
-      → after ≡ stateAfter state row (state .known) (state .greatest) → Stands how before s segments′ levels (layout .end + 1) after
+      → after ≡ stateAfter state row (state .known) → Stands how before s segments′ levels (layout .end + 1) after
   settles-plain row q room segments′ stored after is =
       let p = says (Plain row) q in
       rw (stored, is, long, ← next-at) (record {
@@ -113,19 +113,19 @@ module _ {how : How} {before : Tables} {s : Bytes} {segments levels : List ℕ} 
         standing = standing-plain (t .standing) g more (t .cut) (t .whole) row (p .0) (p .1) (p .2) room;
       })
 
-  pub settles-level : (row parent depth code key : ℕ) → j ≡ Level row parent depth code key → state .count < length segments / 3 → state .known < length levels / 4
-      → state .known ≤ mostLevels → (segments′ : List ℕ) → segments′ ≡ storedAt 3 segments (state .count) (layout .at ∷ (layout .end - layout .at) ∷ row ∷ []) → (levels′ : List ℕ)
-      → levels′ ≡ storedAt 4 levels (state .known) ((state .count + 1) ∷ parent ∷ depth ∷ code ∷ []) → (after : State)
-      → after ≡ stateAfter state row (state .known + 1) (max (state .greatest) key) → Stands how before s segments′ levels′ (layout .end + 1) after
-  settles-level row parent depth code key q room level-room few segments′ stored levels′ stored′ after is =
-      let p = says (Level row parent depth code key) q in
+  pub settles-level : (row parent depth code : ℕ) (known : Known) → j ≡ Level row parent depth code known → state .count < length segments / 3 → state .known .levels < length levels / 4
+      → (segments′ : List ℕ) → segments′ ≡ storedAt 3 segments (state .count) (layout .at ∷ (layout .end - layout .at) ∷ row ∷ []) → (levels′ : List ℕ)
+      → levels′ ≡ storedAt 4 levels (state .known .levels) ((state .count + 1) ∷ parent ∷ depth ∷ code ∷ []) → (after : State)
+      → after ≡ stateAfter state row known → Stands how before s segments′ levels′ (layout .end + 1) after
+  settles-level row parent depth code known q room level-room segments′ stored levels′ stored′ after is =
+      let p = says (Level row parent depth code known) q in
       let number : suc (length h) ≡ state .count + 1 = omega (arith, history-long how gs, t .standing .count-is) in
       rw (stored, stored′, is, long, ← next-at) (record {
         gs = gs ++ (record { at = layout .at; segment = g } ∷ []);
         rows = rows ++ (row ∷ []);
         standing =
-            standing-level (t .standing) g more (t .cut) (t .whole) (t .fit) row (p .0) (p .1) (p .2) room level-room few _
-            (ap (λ (n : ℕ). n ∷ parent ∷ depth ∷ code ∷ []) (sym number) ∙ p .3) key (p .4);
+            standing-level (t .standing) g more (t .cut) (t .whole) (t .fit) row (p .0) (p .1) (p .2) room level-room _
+            (ap (λ (n : ℕ). n ∷ parent ∷ depth ∷ code ∷ []) (sym number) ∙ p .3) known (p .4);
       })
 
   -- accepted

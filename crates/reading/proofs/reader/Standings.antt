@@ -1,6 +1,6 @@
 -- The reader from one segment to the next: what it knows at the start, after a segment that is passed, and where it stops.
 -- Assumes nothing.
-use Prim.Native.Nat.{ℕ, suc, _+_, _*_, _/_, _≤_, _<_, min, max}
+use Prim.Native.Nat.{ℕ, suc, _+_, _*_, _/_, _≤_, _<_}
 use mathlib.Core.Path.{_≡_, refl, sym, ap, subst, _∙_}
 use mathlib.Core.Bool.{Bool, true, false, not}
 use mathlib.Core.List.{List, [], _∷_, _++_, append-assoc}
@@ -18,7 +18,6 @@ use Rattle.rows.specs.Following.{Fits, lastOf, twice}
 use Rattle.elements.specs.Checks.{Keeps}
 use Rattle.levels.specs.Levels.{Level, called, levelOf, recordOf, recordsOf, claimOf}
 use Rattle.levels.specs.Rules.{levelChecks}
-use Rattle.finding.specs.internal.Keys.{keyOf}
 use Rattle.finding.specs.internal.Entries.{storedAt}
 use Rattle.levels.specs.internal.Everyone.{Everyone}
 use Rattle.levels.proofs.Depth.{Within4}
@@ -36,8 +35,9 @@ use Rattle.reading.proofs.reader.HlSegments.{hl-written, depths}
 use Rattle.gate.proofs.reading.RowOfSE.{last-snoc}
 use Rattle.gate.proofs.continuing.LevelNames.{levels-hl, levels-other}
 use Rattle.gate.proofs.reading.Reference.{passed-none, passed-more}
-use Rattle.finding.specs.internal.Knows.{mostLevels}
-use Rattle.finding.proofs.KnownLevels.{knows-none, knows-after}
+use Rattle.finding.proofs.KnownLevels.{knows-none}
+use Rattle.finding.specs.declared.known.Known.{Known}
+use Rattle.finding.specs.internal.Knows.{Knows, knownNone}
 use Rattle.finding.proofs.StoredLevels.{holds-none, holds-segment, holds-level}
 
 -- Tables with records in front
@@ -94,7 +94,7 @@ new-name h v e k =
     eqb→eq (called (claimOf v .id) (levelsIn nonconformance h)) 0 (kept .0)
 
 -- at the start
-pub standing-start : (how : How) (before : Tables) (s : Bytes) → Standing how before s (before .segments) (before .levels) 0 0 0 false 0 0 [] []
+pub standing-start : (how : How) (before : Tables) (s : Bytes) → Standing how before s (before .segments) (before .levels) 0 0 0 false knownNone [] []
 unfolding levelsIn
 standing-start how before s = record {
   passed = passed-none nonconformance how before s;
@@ -104,13 +104,12 @@ standing-start how before s = record {
   rows-are = refl;
   row-is = refl;
   again-is = refl;
-  known-is = refl;
   tells = holds-none s (how .separators .element) (before .segments) (before .levels);
   knows = knows-none;
 }
 
-module _ {how : How} {before : Tables} {s : Bytes} {segments levels : List ℕ} {at count row : ℕ} {again : Bool} {known greatest : ℕ} {gs : List Placed} {rows : List ℕ}
-    (st : Standing how before s segments levels at count row again known greatest gs rows) where
+module _ {how : How} {before : Tables} {s : Bytes} {segments levels : List ℕ} {at count row : ℕ} {again : Bool} {known : Known} {gs : List Placed} {rows : List ℕ}
+    (st : Standing how before s segments levels at count row again known gs rows) where
   abbrev before-views : List View
   before-views = onto [] (seen how gs)
 
@@ -180,20 +179,20 @@ module _ {how : How} {before : Tables} {s : Bytes} {segments levels : List ℕ} 
       levels-fit = rw (levels-other before-views v hl) (st .passed .room .levels-fit);
     }
 
-    pub room-level : isHL v ≡ true → count < length segments / 3 → known < length levels / 4 → Room nonconformance before (v ∷ before-views)
+    pub room-level : isHL v ≡ true → count < length segments / 3 → known .levels < length levels / 4 → Room nonconformance before (v ∷ before-views)
     room-level hl l m = record {
       segments-fit = omega (arith, segments-long, history-long how gs, st .count-is);
-      levels-fit = rw (levels-hl before-views v hl) (omega (arith, levels-long, st .known-is));
+      levels-fit = rw (levels-hl before-views v hl) (omega (arith, levels-long, st .knows .counted));
     }
 
     -- no room
     pub no-segment-room : length segments / 3 ≤ count → Room nonconformance before (v ∷ before-views) → ⊥
     no-segment-room l r = omega (arith, segments-long, history-long how gs, st .count-is, r .segments-fit)
 
-    pub no-level-room : isHL v ≡ true → length levels / 4 ≤ known → Room nonconformance before (v ∷ before-views) → ⊥
+    pub no-level-room : isHL v ≡ true → length levels / 4 ≤ known .levels → Room nonconformance before (v ∷ before-views) → ⊥
     no-level-room hl l r =
         let f : suc (length (levelsIn nonconformance before-views)) ≤ length (before .levels) / 4 = rw (levels-hl before-views v hl) at (r .levels-fit) in
-        omega (arith, levels-long, st .known-is, f)
+        omega (arith, levels-long, st .knows .counted, f)
 
     -- the new place
     passed-next : (r : ℕ) → Sound nonconformance rows before-views v r → T (not (isSE v)) → Room nonconformance before (v ∷ before-views)
@@ -216,7 +215,7 @@ module _ {how : How} {before : Tables} {s : Bytes} {segments levels : List ℕ} 
     -- a segment that makes no level is passed
     pub standing-plain : (r : ℕ) → Sound nonconformance rows before-views v r → isHL v ≡ false → T (not (isSE v))
         → count < length segments / 3
-        → Standing how before s (storedAt 3 segments count (at ∷ length g ∷ r ∷ [])) levels (at + length g + 1) (count + 1) r (eqb r row) known greatest gs′ (rows ++ (r ∷ []))
+        → Standing how before s (storedAt 3 segments count (at ∷ length g ∷ r ∷ [])) levels (at + length g + 1) (count + 1) r (eqb r row) known gs′ (rows ++ (r ∷ []))
     standing-plain r sound hl se room =
         let same : levelsIn nonconformance (onto [] (seen how gs′)) ≡ levelsIn nonconformance before-views =
         ap (levelsIn nonconformance) history-more ∙ levels-other before-views v hl in
@@ -229,7 +228,6 @@ module _ {how : How} {before : Tables} {s : Bytes} {segments levels : List ℕ} 
           rows-are = rows-more r;
           row-is = last-snoc 0 rows r;
           again-is = again-more r;
-          known-is = ap length same ∙ st .known-is;
           tells = rw (← one, same) (holds-segment (st .tells) at (length g) r (omega arith));
           knows = rw same (st .knows);
         }
@@ -239,41 +237,39 @@ module _ {how : How} {before : Tables} {s : Bytes} {segments levels : List ℕ} 
     new = levelOf (nonconformance .levels) (suc (length before-views)) (claimOf v) (levelsIn nonconformance before-views)
 
     pub standing-level : Fitted (how .separators) → (r : ℕ) → Sound nonconformance rows before-views v r → isHL v ≡ true → T (not (isSE v))
-        → count < length segments / 3 → known < length levels / 4 → known ≤ mostLevels → (numbers : List ℕ) → numbers ≡ recordOf new → (key : ℕ)
-        → key ≡ keyOf (claimOf v .id)
-        → Standing how before s (storedAt 3 segments count (at ∷ length g ∷ r ∷ [])) (storedAt 4 levels known numbers) (at + length g + 1) (count + 1) r (eqb r row)
-        (known + 1) (max greatest key) gs′ (rows ++ (r ∷ []))
-    standing-level fit r sound hl se room level-room few numbers is key keyed =
+        → count < length segments / 3 → known .levels < length levels / 4 → (numbers : List ℕ) → numbers ≡ recordOf new → (after : Known)
+        → Knows after (new ∷ levelsIn nonconformance before-views)
+        → Standing how before s (storedAt 3 segments count (at ∷ length g ∷ r ∷ [])) (storedAt 4 levels (known .levels) numbers) (at + length g + 1) (count + 1) r (eqb r row)
+        after gs′ (rows ++ (r ∷ []))
+    standing-level fit r sound hl se room level-room numbers is after knows =
         let p = passed-next r sound se (room-level hl room level-room) in
         let more-levels : levelsIn nonconformance (onto [] (seen how gs′)) ≡ new ∷ levelsIn nonconformance before-views =
         ap (levelsIn nonconformance) history-more ∙ levels-hl before-views v hl in
         let one : suc count ≡ count + 1 = omega arith in
-        let two : suc known ≡ known + 1 = omega arith in
-        let counted : suc (min known mostLevels) ≡ known + 1 = omega arith in
+        let two : suc (known .levels) ≡ after .levels = omega (arith, st .knows .counted, knows .counted) in
         let deep : Everyone Within4 (new ∷ levelsIn nonconformance before-views) = rw more-levels at (depths (seen how gs′) (p .kept)) in
         let written = hl-written (how .separators) fit s at g more whole (sound .kept .elements) (eqb→eq (tagIn v) (tag "HL") (rw hl tt)) in
         record {
           passed = p;
           segments-are = segments-more r;
           levels-are =
-              ap (λ (t : List ℕ). storedAt 4 t known numbers) (st .levels-are)
-              ∙ over-stored 4 (before .levels) (levelRecords nonconformance how gs) known numbers
-              (level-records-long (levelsIn nonconformance before-views) ∙ ap (λ (n : ℕ). n * 4) (st .known-is)) (ap length is)
+              ap (λ (t : List ℕ). storedAt 4 t (known .levels) numbers) (st .levels-are)
+              ∙ over-stored 4 (before .levels) (levelRecords nonconformance how gs) (known .levels) numbers
+              (level-records-long (levelsIn nonconformance before-views) ∙ ap (λ (n : ℕ). n * 4) (st .knows .counted)) (ap length is)
               ∙ ap (over (before .levels))
               (ap (λ (l : List ℕ). recordsOf (levelsIn nonconformance before-views) ++ l) is ∙ sym (ap recordsOf more-levels));
           count-is = count-more;
           rows-are = rows-more r;
           row-is = last-snoc 0 rows r;
           again-is = again-more r;
-          known-is = ap length more-levels ∙ omega (arith, st .known-is);
           tells = rw (← one, ← two, more-levels, is)
               (holds-level (st .tells) at (length g) r (omega arith) new (omega (arith, history-long how gs, st .count-is)) (deep .0 .1) (omega arith) written);
-          knows = rw (more-levels, keyed, ← counted) (knows-after (st .knows) (omega (arith, st .known-is)) new (new-name before-views v hl (sound .kept .level)));
+          knows = rw more-levels knows;
         }
 
     -- the SE closes the transaction
     pub standing-closes : (r : ℕ) → Sound nonconformance rows before-views v r → isHL v ≡ false → T (isSE v) → count < length segments / 3
-        → Read nonconformance how s before (Accepted (count + 1) known (at + length g + 1))
+        → Read nonconformance how s before (Accepted (count + 1) (known .levels) (at + length g + 1))
         (record { segments = storedAt 3 segments count (at ∷ length g ∷ r ∷ []); levels = levels })
     standing-closes r sound hl se room =
         let same : levelsIn nonconformance (onto [] (seen how gs′)) ≡ levelsIn nonconformance before-views =
@@ -297,7 +293,7 @@ module _ {how : How} {before : Tables} {s : Bytes} {segments levels : List ℕ} 
               room = room-plain hl room;
               kept-is = refl;
               numbers-is = refl;
-              counts = cc (count-more, ap length same ∙ st .known-is);
+              counts = cc (count-more, ap length same ∙ st .knows .counted);
             };
           };
           tables = λ i. record { segments = segments-more r i; levels = are i };

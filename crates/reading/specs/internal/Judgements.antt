@@ -31,8 +31,8 @@ use Rattle.gate.specs.Records.{Tables}
 use Rattle.reading.specs.internal.Cutting.{CutAs}
 use Rattle.reading.specs.internal.Standing.{Standing}
 use Rattle.gate.specs.declared.how.How.{How}
-use Rattle.finding.specs.internal.Keys.{keyOf}
-use Rattle.finding.specs.internal.Knows.{Knows}
+use Rattle.finding.specs.internal.Knows.{Knows, knownAfter}
+use Rattle.finding.specs.declared.known.Known.{Known}
 use Rattle.finding.specs.internal.TableLevels.{tableLevels}
 use Rattle.reading.specs.declared.judging.Judgement.{Judgement}
 use Rattle.reading.specs.declared.judging.Judgement.the-variants.{Broken, Plain, Level, Last}
@@ -77,9 +77,9 @@ brokenBy Holds = Broken 6 0
 brokenBy (Faulty number element) = Broken number element
 
 -- what the late rules say, by the layout and the tables
-abbrev pub byLevel : ℕ → ℕ → Judged → Judgement
-byLevel row key (Entitled parent depth code) = Level row parent depth code key
-byLevel row key (Refused number element) = Broken number element
+abbrev pub byLevel : ℕ → Known → Judged → Judgement
+byLevel row known (Entitled parent depth code) = Level row parent depth code known
+byLevel row known (Refused number element) = Broken number element
 
 abbrev pub byClosing : ℕ → Verdict → Judgement
 byClosing row Holds = Last row
@@ -87,42 +87,42 @@ byClosing row (Faulty number element) = Broken number element
 
 abbrev pub hlJudgement : ℕ → Bytes → List ℕ → Layout → State → List ℕ → List ℕ → ℕ → Judgement
 hlJudgement separator s starts layout state segments levels row =
-    byLevel row (keyOf (elementIn s starts layout 1))
-    (judged (nonconformance .levels) (tableLevels s separator segments levels (state .known)) (notedClaim s starts layout))
+    byLevel row (knownAfter (state .known) (elementIn s starts layout 1))
+    (judged (nonconformance .levels) (tableLevels s separator segments levels (state .known .levels)) (notedClaim s starts layout))
 
 abbrev pub lateJudgement : ℕ → Bytes → List ℕ → Layout → State → List ℕ → List ℕ → ℕ → ℕ → Judgement
 lateJudgement separator s starts layout state segments levels tag row =
     cond (eqb tag 12)
     (hlJudgement separator s starts layout state segments levels row)
     (cond (eqb tag 33)
-    (byClosing row (firstBroken (notedClosing s separator starts layout segments levels (state .count) (state .known))))
+    (byClosing row (firstBroken (notedClosing s separator starts layout segments levels (state .count) (state .known .levels))))
     (Plain row))
 
 -- where the levels that the tables tell of are as the shortcuts take them
 abbrev pub JudgesHl : ℕ → Bytes → List ℕ → Layout → State → List ℕ → List ℕ → ℕ → Judgement → Type 0
 JudgesHl separator s starts layout state segments levels row r =
-    Knows (record { levels = state .known; greatest = state .greatest }) (tableLevels s separator segments levels (state .known)) → r ≡ hlJudgement separator s starts layout state segments levels row
+    Knows (state .known) (tableLevels s separator segments levels (state .known .levels)) → r ≡ hlJudgement separator s starts layout state segments levels row
 
 abbrev pub JudgesLate : ℕ → Bytes → List ℕ → Layout → State → List ℕ → List ℕ → ℕ → ℕ → Judgement → Type 0
 JudgesLate separator s starts layout state segments levels tag row r =
-    Knows (record { levels = state .known; greatest = state .greatest }) (tableLevels s separator segments levels (state .known)) → r ≡ lateJudgement separator s starts layout state segments levels tag row
+    Knows (state .known) (tableLevels s separator segments levels (state .known .levels)) → r ≡ lateJudgement separator s starts layout state segments levels tag row
 
 -- what a judgement says of the segment with the view v, after the segments h and their rows
 abbrev pub Judges : List ℕ → List View → View → Judgement → Type 0
 Judges rows h v (Broken number element) = FirstBroken (rules nonconformance rows h v) number element
 Judges rows h v (Plain r) = Sound nonconformance rows h v r × (isHL v ≡ false) × T (not (isSE v))
-Judges rows h v (Level r parent depth code key) =
+Judges rows h v (Level r parent depth code known) =
     Sound nonconformance rows h v r × (isHL v ≡ true) × T (not (isSE v))
     × (suc (length h) ∷ parent ∷ depth ∷ code ∷ []
     ≡ recordOf (levelOf (nonconformance .levels) (suc (length h)) (claimOf v) (levelsIn nonconformance h)))
-    × (key ≡ keyOf (claimOf v .id))
+    × Knows known (levelOf (nonconformance .levels) (suc (length h)) (claimOf v) (levelsIn nonconformance h) ∷ levelsIn nonconformance h)
 Judges rows h v (Last r) = Sound nonconformance rows h v r × (isHL v ≡ false) × T (isSE v)
 
 -- where the layout is right and the reader stands before the segment, the judgement says what the rules say
 abbrev pub JudgesNext : How → Bytes → List ℕ → Layout → State → (segments levels : List ℕ) → Judgement → Type 0
 JudgesNext how s starts layout state segments levels r =
     (before : Tables) (gs : List Placed) (rows : List ℕ) (g more : Bytes) → Fitted (how .separators) → CutAs (how .separators) s starts layout g more
-    → Standing how before s segments levels (layout .at) (state .count) (state .row) (state .again) (state .known) (state .greatest) gs rows
+    → Standing how before s segments levels (layout .at) (state .count) (state .row) (state .again) (state .known) gs rows
     → Judges rows (onto [] (seen how gs)) (viewOf (how .separators) g) r
 
 -- the layout name a segment of this known tag that ends well

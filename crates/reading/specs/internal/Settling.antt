@@ -20,6 +20,7 @@ use Rattle.reading.specs.internal.Judgements.{Judges}
 use Rattle.gate.specs.declared.answer.Answer.{Answer}
 use Rattle.gate.specs.declared.answer.Answer.the-variants.{Accepted, Refused}
 use Rattle.gate.specs.declared.how.How.{How}
+use Rattle.finding.specs.declared.known.Known.{Known}
 use Rattle.reading.specs.declared.judging.Judgement.{Judgement}
 use Rattle.reading.specs.declared.judging.Judgement.the-variants.{Plain, Level, Last}
 use Rattle.elements.specs.declared.layout.Layout.{Layout}
@@ -28,9 +29,8 @@ use Rattle.reading.specs.declared.settling.Step.{Step}
 use Rattle.reading.specs.declared.settling.Step.the-variants.{Done, Passed}
 
 -- what the reader carries after one segment more
-abbrev pub stateAfter : State → ℕ → ℕ → ℕ → State
-stateAfter state row known greatest =
-    record { count = state .count + 1; row = row; again = eqb row (state .row); known = known; greatest = greatest }
+abbrev pub stateAfter : State → ℕ → Known → State
+stateAfter state row known = record { count = state .count + 1; row = row; again = eqb row (state .row); known = known }
 
 -- a refusal at the segment
 abbrev pub refusedAt : ℕ → Layout → State → ℕ → Step
@@ -38,7 +38,7 @@ refusedAt number layout state element = Done (Refused number (state .count + 1) 
 
 -- acceptance with the segment as the last
 abbrev pub acceptedAt : Layout → State → Step
-acceptedAt layout state = Done (Accepted (state .count + 1) (state .known) (layout .end + 1))
+acceptedAt layout state = Done (Accepted (state .count + 1) (state .known .levels) (layout .end + 1))
 
 -- the bytes from `at` to `end`
 abbrev pub between : Bytes → ℕ → ℕ → Bytes
@@ -54,13 +54,13 @@ pub record InRoom (segments levels : List ℕ) (layout : Layout) (state : State)
   pub forward : layout .at ≤ layout .end
   pub short : layout .end < 1048576
   pub segments-fit : state .count ≤ length segments / 3
-  pub levels-fit : state .known ≤ length levels / 4
+  pub levels-fit : state .known .levels ≤ length levels / 4
 
 -- the reader stands before the segment g, which was cut, and the judgement is right
 pub record Settling (how : How) (before : Tables) (s : Bytes) (segments levels : List ℕ) (layout : Layout) (state : State) (gs : List Placed) (rows : List ℕ)
     (g more : Bytes) (judgement : Judgement) : Type 0 where
   pub fit : Fitted (how .separators)
-  pub standing : Standing how before s segments levels (layout .at) (state .count) (state .row) (state .again) (state .known) (state .greatest) gs rows
+  pub standing : Standing how before s segments levels (layout .at) (state .count) (state .row) (state .again) (state .known) gs rows
   pub cut : cutBy how (drop (layout .at) s) ≡ Whole g more
   pub whole : drop (layout .at) s ≡ g ++ how .separators .terminator ∷ more
   pub place : layout .end ≡ layout .at + length g
@@ -70,7 +70,7 @@ pub record Settling (how : How) (before : Tables) (s : Bytes) (segments levels :
 pub record Stands (how : How) (before : Tables) (s : Bytes) (segments levels : List ℕ) (at : ℕ) (state : State) : Type 0 where
   pub gs : List Placed
   pub rows : List ℕ
-  pub standing : Standing how before s segments levels at (state .count) (state .row) (state .again) (state .known) (state .greatest) gs rows
+  pub standing : Standing how before s segments levels at (state .count) (state .row) (state .again) (state .known) gs rows
 
 -- the answer is right, or the reader stands behind the segment
 abbrev pub Settles : How → Tables → Bytes → Layout → List ℕ → List ℕ → Step → Type 0
@@ -87,8 +87,8 @@ SettlesBy judgement layout state segments levels segments′ levels′ r =
 abbrev pub SettlesPlain : ℕ → Layout → State → (segments segments′ : List ℕ) → Step → Type 0
 SettlesPlain row layout state segments segments′ r = (levels : List ℕ) → SettlesBy (Plain row) layout state segments levels segments′ levels r
 
-abbrev pub SettlesLevel : (row parent depth code key : ℕ) → Layout → State → (segments levels segments′ levels′ : List ℕ) → Step → Type 0
-SettlesLevel row parent depth code key = SettlesBy (Level row parent depth code key)
+abbrev pub SettlesLevel : (row parent depth code : ℕ) → Known → Layout → State → (segments levels segments′ levels′ : List ℕ) → Step → Type 0
+SettlesLevel row parent depth code known = SettlesBy (Level row parent depth code known)
 
 abbrev pub SettlesLast : ℕ → Layout → State → (segments segments′ : List ℕ) → Step → Type 0
 SettlesLast row layout state segments segments′ r = (levels : List ℕ) → SettlesBy (Last row) layout state segments levels segments′ levels r

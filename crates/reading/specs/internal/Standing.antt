@@ -15,11 +15,11 @@ use Rattle.gate.specs.Reads.{Passed}
 use Rattle.gate.specs.declared.how.How.{How}
 use Rattle.finding.specs.internal.Knows.{Knows}
 use Rattle.finding.specs.internal.TablesHold.{TablesHold}
+use Rattle.finding.specs.declared.known.Known.{Known}
 
--- the reader stands at byte `at`: the segments gs were passed with these rows, the tables hold their records, and the numbers it carries are
--- how many there are, their last row, whether that stands for the second time in a row, how many levels they make, and what spares a
--- search among them
-pub record Standing (how : How) (before : Tables) (s : Bytes) (segments levels : List ℕ) (at count row : ℕ) (again : Bool) (known greatest : ℕ)
+-- the reader stands at byte `at`: the segments gs were passed with these rows, the tables hold their records, and it carries how many there
+-- are, their last row, whether that stands for the second time in a row, and what it knows of their levels
+pub record Standing (how : How) (before : Tables) (s : Bytes) (segments levels : List ℕ) (at count row : ℕ) (again : Bool) (known : Known)
     (gs : List Placed) (rows : List ℕ) : Type 0 where
   pub passed : Passed nonconformance how before s gs rows at (drop at s)
   pub segments-are : segments ≡ over (before .segments) (segmentRecords how [] gs rows)
@@ -28,6 +28,5 @@ pub record Standing (how : How) (before : Tables) (s : Bytes) (segments levels :
   pub rows-are : length rows ≡ length gs
   pub row-is : lastOf 0 rows ≡ row
   pub again-is : twice 0 false rows ≡ again
-  pub known-is : length (levelsIn nonconformance (onto [] (seen how gs))) ≡ known
-  pub tells : TablesHold s (how .separators .element) segments levels count known (levelsIn nonconformance (onto [] (seen how gs)))
-  pub knows : Knows (record { levels = known; greatest = greatest }) (levelsIn nonconformance (onto [] (seen how gs)))
+  pub tells : TablesHold s (how .separators .element) segments levels count (known .levels) (levelsIn nonconformance (onto [] (seen how gs)))
+  pub knows : Knows known (levelsIn nonconformance (onto [] (seen how gs)))

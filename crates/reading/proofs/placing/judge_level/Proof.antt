@@ -1,6 +1,5 @@
 -- `judge_level` meets its contract: 12, then a level without a parent, then 13, then a level under its parent.
 -- Assumes nothing.
-use mathlib.Core.Path.{sym, _∙_}
 use mathlib.Core.List.{List}
 use borrow.Author.Tests.{not-true, not-false}
 use Rattle.levels.specs.Levels.{Claim, Level}

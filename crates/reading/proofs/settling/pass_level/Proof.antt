@@ -1,11 +1,10 @@
 -- `pass_level` meets its contract: where there is room in both tables the reader stands behind the segment.
 -- Assumes nothing.
-use Prim.Native.Nat.{_/_, _≤_, _<_}
+use Prim.Native.Nat.{ℕ, _/_, _<_}
 use mathlib.Core.Path.{refl}
 use native.Mathlib.Omega.{arith}
 use lib.ListN.{length}
 use Rattle.reading.proofs.reader.Settles.{room, no-room, full-level, full-levels, settles-level}
-use Rattle.finding.specs.internal.Knows.{mostLevels}
 use borrow.Author.Needs.{needs}
 use Rattle.reading.proofs.settling.pass_level.Statement.{statement}
 use Rattle.reading.proofs.settling.pass_level.Tie as tie
@@ -15,15 +14,12 @@ segment-fits : (c : tie.Else1) → c .before .before .before .before .before .ar
 segment-fits c = room (c .before .segment-room .result) _ _ (c .before .segment-room .ensures) (c .if1 .left)
 
 -- and behind that of the level table in that one
-level-fits : (c : tie.Else2) → c .before .before .before .before .before .before .before .before .args .state .known < length (c .before .before .before .before .before .before .before .before .args .levels .now) / 4
+level-fits : (c : tie.Else2) → c .before .before .before .before .before .before .before .before .args .state .known .levels < length (c .before .before .before .before .before .before .before .before .args .levels .now) / 4
 level-fits c = room (c .before .level-room .result) _ _ (c .before .level-room .ensures) (c .if2 .left)
 
--- so there are fewer levels than a table can hold
-few : (c : tie.Else2) → c .before .before .before .before .before .before .before .before .args .state .known ≤ mostLevels
-few c =
-    let start = c .before .before .before .before .before .before .before .before in
-    let level : start .args .state .known < length (start .args .levels .now) / 4 = level-fits c in
-    omega (arith, level, start .good .1 .1 .1 .1 .0)
+-- no table has room for more records
+small : (c : tie.Start) (n : ℕ) → n < length (c .args .segments .now) / 3 → n < 9000000000000000000
+small c n room = omega arith
 
 segment-room-requires : tie.Need-segment-room-requires
 segment-room-requires c κs = search needs
@@ -64,20 +60,10 @@ add-put-level c = search needs
 put-level-requires : tie.Need-put-level-requires
 put-level-requires c κs = level-fits (c .before .before .before .before .before .before .before)
 
-greater-requires : tie.Need-greater-requires
-greater-requires c κs = search needs
-
-add-after : tie.Need-add-after
-add-after c =
-    let start = c .before .before .before .before .before .before .before .before .before .before .before .before .before .before .before .before .before .before .before .before in
-    let level : start .args .state .known < length (start .args .levels .now) / 4 = level-fits (c .before .before .before .before .before .before .before .before .before .before .before .before) in
-    record { fits = omega (arith, level, start .good .1 .1 .1 .1 .0) }
-
 after-requires : tie.Need-after-requires
 after-requires c κs =
-    let start = c .before .before .before .before .before .before .before .before .before .before .before .before .before .before .before .before .before .before .before .before in
-    let segment : start .args .state .count < length (start .args .segments .now) / 3 = segment-fits (c .before .before .before .before .before .before .before .before .before .before .before .before .before .before .before) in
-    omega (arith, segment, start .good .1 .1 .1 .0)
+    let roomy = c .before .before .before .before .before .before .before .before .before .before .before .before .before in
+    small (roomy .before .before .before .before .before) _ (segment-fits roomy)
 
 same-length-4 : tie.Need-same-length-4
 same-length-4 c = search needs
@@ -87,11 +73,11 @@ same-length-5 c = search needs
 
 returns-3 : tie.Need-returns-3
 returns-3 c = λ how before s gs rows g more t.
-    let put = c .before .before .before .before .before in
+    let put = c .before .before .before in
     let stored = put .before .before .before .before .before in
     let fitting = stored .before .before .before in
-    settles-level t _ _ _ _ _ refl (segment-fits (fitting .before .before .before)) (level-fits fitting) (few fitting) _
-    (stored .put-segment .ensures) _ (put .put-level .ensures) _ (rw (c .before .before .greater .ensures) at (c .after .ensures))
+    settles-level t _ _ _ _ _ refl (segment-fits (fitting .before .before .before)) (level-fits fitting) _ (stored .put-segment .ensures) _
+    (put .put-level .ensures) _ (c .after .ensures)
 
 pub pass-level-spec : {M : Type 1} → statement M
 pass-level-spec =
@@ -110,8 +96,6 @@ pass-level-spec =
     put-segment-requires
     add-put-level
     put-level-requires
-    greater-requires
-    add-after
     after-requires
     same-length-4
     same-length-5
