@@ -11,7 +11,8 @@ use lib.ListN.{length, take, drop, getD, drop-of-length-le}
 use lib.Seq.{drop-cons, take-at}
 use borrow.Author.Tests.{eq-eqb, ne-eqb, lt-ltb, le-ltb, le-leb}
 use Rattle.text.specs.Bytes.{Bytes, every}
-use Rattle.text.specs.Pieces.{before, pieces, Free}
+use Rattle.text.specs.Pieces.{before, pieces}
+use Rattle.text.specs.internal.Search.{Free}
 use Rattle.text.specs.View.{Piece, present}
 use Rattle.text.proofs.Bools.{and-true}
 use Rattle.text.proofs.Tests.{and-first, and-second}

@@ -13,12 +13,13 @@ use lib.ListN.{length, take, drop, getD, length-append, length-drop, length-map,
 use lib.Seq.{take-all, take-suc, take-append-le, drop-append-le, drop-drop}
 use borrow.Author.Tests.{lt-ltb, le-ltb, lt-leb, le-leb}
 use Rattle.text.specs.Bytes.{Bytes}
-use Rattle.text.specs.Pieces.{pieces, joined, closed, Free, Clean}
+use Rattle.text.specs.Pieces.{pieces, joined, closed}
+use Rattle.text.proofs.Pieces.{Clean, pieces-some, joined-pieces, pieces-free, closed-snoc}
+use Rattle.text.specs.internal.Search.{Free}
 use Rattle.text.specs.View.{View, viewOf, elementOf, elementCount}
 use Rattle.text.specs.Lookup.{pieceSpan}
 use Rattle.text.specs.declared.separators.Separators.{Separators}
 use Rattle.text.specs.declared.lookup.Span.{Span}
-use Rattle.text.proofs.Pieces.{pieces-some, joined-pieces, pieces-free, closed-snoc}
 use Rattle.text.proofs.Spans.{lies, span-there}
 use Rattle.text.proofs.View.{free-pieces}
 use Rattle.elements.specs.Checks.{firstBroken}

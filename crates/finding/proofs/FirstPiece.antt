@@ -12,9 +12,10 @@ use lib.ListN.{length, take, drop, getD, length-append, length-take, length-drop
 use lib.Seq.{split-at, ext-getD, getD-take, getD-drop, getD-append-seam}
 use borrow.Author.Tests.{lt-ltb, eqb-true, eqb-false}
 use Rattle.text.specs.Bytes.{Bytes, same}
-use Rattle.text.specs.Pieces.{pieces, joined, Free, Clean}
+use Rattle.text.specs.Pieces.{pieces, joined}
+use Rattle.text.proofs.Pieces.{Clean, pieces-some, joined-pieces, pieces-clean, pieces-free, pieces-cut}
+use Rattle.text.specs.internal.Search.{Free}
 use Rattle.text.specs.Lookup.{pieceSpan}
-use Rattle.text.proofs.Pieces.{pieces-some, joined-pieces, pieces-clean, pieces-free, pieces-cut}
 use Rattle.text.proofs.Sames.{same-true, same-false, true-same}
 use Rattle.finding.specs.internal.PieceEnds.{MayEnd}
 

@@ -9,7 +9,7 @@ use native.Mathlib.Omega.{arith}
 use lib.ListN.{length, take, drop, getD, length-drop}
 use lib.Seq.{getD-drop}
 use Rattle.text.specs.Bytes.{Bytes, same}
-use Rattle.text.specs.Pieces.{Free}
+use Rattle.text.specs.internal.Search.{Free}
 use Rattle.finding.specs.internal.Entries.{startOf, levelEntry}
 use Rattle.finding.specs.internal.TableLevels.{idAt, tableLevel}
 use Rattle.finding.specs.internal.PieceEnds.{MayEnd}

@@ -9,7 +9,7 @@ use native.Mathlib.Omega.{arith}
 use lib.ListN.{length, drop, getD, length-drop}
 use borrow.Author.Count.{below-more}
 use Rattle.text.specs.Bytes.{Bytes, same}
-use Rattle.text.specs.Pieces.{Free}
+use Rattle.text.specs.internal.Search.{Free}
 use Rattle.text.specs.Lookup.{pieceSpan}
 use Rattle.text.specs.declared.lookup.Span.{Span}
 use Rattle.levels.specs.Levels.{called}

@@ -11,7 +11,7 @@ use lib.Dec.{leb}
 use lib.ListN.{length}
 use borrow.Author.Tests.{eq-eqb, ne-eqb, le-leb, lt-leb, leb-true}
 use Rattle.text.specs.Bytes.{Bytes, between, same}
-use Rattle.text.specs.Pieces.{Free}
+use Rattle.text.specs.internal.Search.{Free}
 use Rattle.text.specs.Lookup.{pieceSpan}
 use Rattle.text.specs.declared.lookup.Span.{Span}
 use Rattle.text.proofs.Sames.{true-same}

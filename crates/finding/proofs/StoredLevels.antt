@@ -8,8 +8,8 @@ use native.Mathlib.Omega.{arith}
 use lib.ListN.{length, take, drop, getD, length-append, take-append-drop}
 use lib.Seq.{drop-at, drop-drop}
 use Rattle.text.specs.Bytes.{Bytes}
-use Rattle.text.specs.Pieces.{pieces, joined, Clean}
-use Rattle.text.proofs.Pieces.{joined-pieces, pieces-clean}
+use Rattle.text.specs.Pieces.{pieces, joined}
+use Rattle.text.proofs.Pieces.{Clean, joined-pieces, pieces-clean}
 use Rattle.levels.specs.Widths.{segmentWidth, levelWidth}
 use Rattle.levels.specs.Levels.{Level, recordOf}
 use Rattle.levels.specs.internal.Everyone.{Everyone}

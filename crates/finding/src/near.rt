@@ -5,7 +5,7 @@ use text::compare;
 use text::lookup;
 ghost use mathlib.Core.Path.{_≡_};
 ghost use Rattle.text.specs.Bytes.{same};
-ghost use Rattle.text.specs.Pieces.{Free};
+ghost use Rattle.text.specs.internal.Search.{Free};
 ghost use Rattle.finding.specs.internal.Near.{near};
 ghost use Rattle.finding.specs.internal.TableLevels.{tableLevel, tableLevels};
 

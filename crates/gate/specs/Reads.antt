@@ -16,7 +16,7 @@ use Rattle.rows.specs.RowList.{tagOf}
 use Rattle.gate.specs.Profile.{Profile, profileOf}
 use Rattle.gate.specs.Segments.{tagIn, isSE, seen, onto, levelsIn}
 use Rattle.gate.specs.Answers.{numbersOf}
-use Rattle.gate.specs.Rules.{rules, Sound, FirstBroken, Kept, From}
+use Rattle.gate.specs.Rules.{Rule, rules, Sound, FirstBroken, Kept, From}
 use Rattle.gate.specs.Records.{Tables, Room, recorded}
 use Rattle.gate.specs.declared.answer.Answer.{Answer}
 use Rattle.gate.specs.declared.answer.Answer.the-variants.{Accepted, Refused}
@@ -50,7 +50,7 @@ module _ (profile : Profile) (how : How) (t : Tables) (gs : List Placed) (rows :
   earlier = onto [] (seen how gs)
 
   -- the rules of the next segment
-  abbrev pub rulesNext : Bytes → List Rattle.gate.specs.Rules.Rule
+  abbrev pub rulesNext : Bytes → List Rule
   rulesNext segment = rules profile rows earlier (viewOf (how .separators) segment)
 
   -- 3: the cut finds no segment

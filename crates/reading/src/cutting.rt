@@ -5,7 +5,7 @@ ghost use Prim.Native.Nat.{_+_, _≤_, _<_};
 ghost use lib.ListN.{length, set};
 ghost use Rattle.reading.specs.internal.SpecialBytes.{isSpecialIn, SpecialTable, Fills};
 ghost use Rattle.reading.specs.internal.Queue.{bit, Indexed, Window, Ready};
-ghost use Rattle.reading.specs.internal.Cutting.{Cuts, Stops};
+ghost use Rattle.reading.specs.internal.Cutting.{layoutOf, Cuts, Stops};
 ghost use Rattle.text.specs.Separators.{Fitted};
 use elements::layout::Layout;
 use text::separators::Separators;
@@ -17,7 +17,7 @@ pub(crate) enum Next {
     // A terminator at this place, and before it a byte that is neither data nor separator.
     Bad(usize),
     // A segment, by its layout, and what is left of the queue behind it.
-    Segment { layout: Layout, left: Left },
+    Segment(Layout, Left),
 }
 
 // What is left of the queue: the entries from `head` up to `tail`, which are the special places from here as far as `seen`.
@@ -25,6 +25,15 @@ pub(crate) struct Left {
     pub head: usize,
     pub tail: usize,
     pub seen: usize,
+}
+
+impl Left {
+    // Before the first index.
+    pub const NOTHING: Left = Left {
+        head: 0,
+        tail: 0,
+        seen: 0,
+    };
 }
 
 // The bytes from `from` to `last` get this entry.
@@ -122,6 +131,27 @@ fn stop(s: &[u8], from: usize, terminator: u8) -> Next
     Next::Open
 }
 
+// The layout of a segment whose terminator stands at `end`. Rule 6 holds of it where it holds of the elements before the last, and of the last,
+// which starts at `start`.
+fn layout_of(
+    at: usize,
+    end: usize,
+    count: usize,
+    start: usize,
+    behind: usize,
+    ended: bool,
+) -> Layout
+    ensures { λ r. ⌜ r ≡ layoutOf at end count start behind ended ⌝ }
+{
+    Layout {
+        at,
+        end,
+        count,
+        single: behind == at,
+        ended: ended & (end != behind) & (end != start) & (count != 0),
+    }
+}
+
 // The next segment from `at` on. `start` is where the last element so far starts, and `behind` the place behind the last component
 // separator, or `at`. An element ends badly where its end is that place; the tag, element 0, may. The inner loop uses the
 // queue up, the outer one fills it anew.
@@ -161,15 +191,8 @@ pub(crate) fn next_segment(
                 continue;
             }
             if byte == separators.terminator {
-                let layout = Layout {
-                    at,
-                    end: place,
-                    count,
-                    single: behind == at,
-                    ended: ended & (place != behind) & (place != start) & (count != 0),
-                };
-                let left = Left { head, tail, seen };
-                return Next::Segment { layout, left };
+                let layout = layout_of(at, place, count, start, behind, ended);
+                return Next::Segment(layout, Left { head, tail, seen });
             }
             if byte != separators.component {
                 return stop(s, place, separators.terminator);

@@ -6,8 +6,11 @@ ghost use Rattle.rows.specs.NextTable.{NextTable};
 ghost use Rattle.elements.specs.Checks.{firstBroken};
 ghost use Rattle.elements.specs.internal.Layouts.{elementIn};
 ghost use Rattle.elements.specs.Rules.{endChecks};
-ghost use Rattle.reading.specs.internal.Judgements.{openingControl, notedClosing, Inside, segmentOf, brokenBy, JudgesHl, JudgesLate, KnownTag, JudgesNext};
+ghost use Rattle.finding.specs.internal.Knows.{knownAfter};
+ghost use Rattle.reading.specs.internal.Cutting.{segmentOf};
+ghost use Rattle.reading.specs.internal.Judgements.{openingControl, closingIn, Inside, brokenBy, byLevel, JudgesLate, KnownTag, JudgesNext};
 use crate::placing;
+use crate::storing::Entry;
 use elements::layout;
 use elements::layout::Layout;
 use elements::ruled;
@@ -29,14 +32,8 @@ pub(crate) enum Judgement {
     Broken(usize, usize),
     // Its row; it makes no level and does not close the transaction.
     Plain(u8),
-    // Its row, the parent, depth and code of the level that it makes, and what is known of the levels then.
-    Level {
-        row: u8,
-        parent: usize,
-        depth: usize,
-        code: usize,
-        known: Known,
-    },
+    // Its row, the entry of the level that it makes, and what is known of the levels then.
+    Level { row: u8, entry: Entry, known: Known },
     // The row of the SE that closes the transaction.
     Last(u8),
 }
@@ -50,6 +47,16 @@ pub(crate) struct State {
     pub again: bool,
 }
 
+impl State {
+    // Before the first segment.
+    pub const START: State = State {
+        count: 0,
+        row: 0,
+        known: Known::NONE,
+        again: false,
+    };
+}
+
 // The number of the segment's tag.
 fn tag_of(s: &[u8], starts: &[usize; 33], layout: Layout) -> u8
     ensures { λ r. ⌜ r ≡ tagNumber (elementIn (now (s .entry)) (now (starts .entry)) layout 0) ⌝ }
@@ -57,44 +64,20 @@ fn tag_of(s: &[u8], starts: &[usize; 33], layout: Layout) -> u8
     tags::tag_number(layout::element(s, starts, layout, 0))
 }
 
-// What the rules of levels say of an HL with that row.
-fn judge_hl(
-    s: &[u8],
-    separator: u8,
-    starts: &[usize; 33],
-    layout: Layout,
-    state: State,
-    segments: &[u64],
-    levels: &[u64],
-    row: u8,
-) -> Judgement
-    ensures { λ r. ⌜ JudgesHl separator (now (s .entry)) (now (starts .entry)) layout state (now (segments .entry)) (now (levels .entry)) row r ⌝ }
+// The judgement on an HL with that row and HL01, by what the rules of levels say.
+fn by_level(row: u8, known: Known, id: &[u8], judged: Judged) -> Judgement
+    ensures { λ r. ⌜ r ≡ byLevel row (knownAfter known (now (id .entry))) judged ⌝ }
 {
-    let id = layout::element(s, starts, layout, 1);
-    let parent = layout::element(s, starts, layout, 2);
-    let code = layout::element(s, starts, layout, 3);
-    let mark = layout::element(s, starts, layout, 4);
-    let known = state.known;
-    match placing::judge_level(
-        s,
-        separator,
-        segments,
-        levels,
-        known,
-        id,
-        parent,
-        code,
-        mark,
-    ) {
-        Judged::Entitled(above, depth, number) => {
-            Judgement::Level {
-                row,
-                parent: above,
+    match judged {
+        Judged::Entitled(parent, depth, code) => Judgement::Level {
+            row,
+            entry: Entry {
+                parent,
                 depth,
-                code: number,
-                known: known.after(id),
-            }
-        }
+                code,
+            },
+            known: known.after(id),
+        },
         Judged::Refused(number, element) => Judgement::Broken(number, element),
     }
 }
@@ -113,7 +96,7 @@ fn opening_control<'a>(s: &'a [u8], separator: u8, segments: &[u64]) -> &'a [u8]
     lookup::element(&s[..len], separator, 2)
 }
 
-// The verdict of the closing rules on an SE behind `count` segments.
+// The verdict of the closing rules on an SE.
 fn judge_se(
     s: &[u8],
     separator: u8,
@@ -121,24 +104,23 @@ fn judge_se(
     layout: Layout,
     segments: &[u64],
     levels: &[u64],
-    count: usize,
-    known: usize,
+    state: State,
 ) -> Verdict
-    ensures { λ r. ⌜ r ≡ firstBroken (notedClosing (now (s .entry)) separator (now (starts .entry)) layout (now (segments .entry)) (now (levels .entry)) count known) ⌝ }
+    ensures { λ r. ⌜ r ≡ firstBroken (closingIn (now (s .entry)) separator (now (starts .entry)) layout (now (segments .entry)) (now (levels .entry)) state) ⌝ }
 {
     let total = layout::element(s, starts, layout, 1);
     let told = digits::number_of(total);
     if told == 0 {
         return Verdict::Broken(16, 1);
     }
-    if told - 1 != count {
+    if told - 1 != state.count {
         return Verdict::Broken(16, 1);
     }
     let control = layout::element(s, starts, layout, 2);
     if !compare::same_bytes(control, opening_control(s, separator, segments)) {
         return Verdict::Broken(16, 2);
     }
-    if !filling::all_filled(s, separator, segments, levels, known) {
+    if !filling::all_filled(s, separator, segments, levels, state.known.levels) {
         return Verdict::Broken(15, 0);
     }
     Verdict::Holds
@@ -169,23 +151,16 @@ fn judge_late(
     tag: u8,
     row: u8,
 ) -> Judgement
-    ensures { λ r. ⌜ JudgesLate (how .separators .element) (now (s .entry)) (now (starts .entry)) layout state (now (segments .entry)) (now (levels .entry)) tag row r ⌝ }
+    ensures { λ r. ⌜ JudgesLate how (now (s .entry)) (now (starts .entry)) layout state (now (segments .entry)) (now (levels .entry)) tag row r ⌝ }
 {
     let separator = how.separators.element;
     if tag == tags::HL {
-        return judge_hl(s, separator, starts, layout, state, segments, levels, row);
+        let known = state.known;
+        let judged = placing::judge_level(s, separator, starts, layout, known, segments, levels);
+        return by_level(row, known, layout::element(s, starts, layout, 1), judged);
     }
     if tag == tags::SE {
-        return match judge_se(
-            s,
-            separator,
-            starts,
-            layout,
-            segments,
-            levels,
-            state.count,
-            state.known.levels,
-        ) {
+        return match judge_se(s, separator, starts, layout, segments, levels, state) {
             Verdict::Holds => Judgement::Last(row),
             Verdict::Broken(number, element) => Judgement::Broken(number, element),
         };
@@ -193,7 +168,7 @@ fn judge_late(
     Judgement::Plain(row)
 }
 
-// The rules of rows and of elements, then the late ones, for a segment of a known tag that ends well.
+// The rules of rows and of elements, then the late ones, for a segment of a known tag of which rule 6 holds.
 fn judge_known(
     s: &[u8],
     how: How,
@@ -219,7 +194,7 @@ fn judge_known(
     }
 }
 
-// What the rules say of the next segment, after what the reader stands at.
+// What the rules say of the next segment, by where the reader stands.
 pub(crate) fn judge(
     s: &[u8],
     how: How,

@@ -1,34 +1,34 @@
 // Judging an HL by the levels before it.
 ghost use mathlib.Core.Path.{_≡_};
 ghost use Rattle.levels.specs.Profile.{nonconformance};
-ghost use Rattle.levels.specs.internal.Answers.{judged};
-ghost use Rattle.finding.specs.internal.Knows.{Knows};
-ghost use Rattle.finding.specs.internal.TableLevels.{tableLevels};
+ghost use Rattle.reading.specs.internal.Judgements.{JudgesLevel};
+use elements::layout;
+use elements::layout::Layout;
 use finding::known;
 use finding::known::Known;
 use finding::parents;
 use levels::judging;
 use levels::judging::Judged;
 
-// The answer for an HL with these elements.
+// What the rules of levels say of the HL.
 pub(crate) fn judge_level(
     s: &[u8],
     separator: u8,
+    starts: &[usize; 33],
+    layout: Layout,
+    known: Known,
     segments: &[u64],
     levels: &[u64],
-    known: Known,
-    id: &[u8],
-    parent: &[u8],
-    code: &[u8],
-    mark: &[u8],
 ) -> Judged
-    ensures { λ r. ⌜ (Knows known (tableLevels (now (s .entry)) separator (now (segments .entry)) (now (levels .entry)) (known .levels))
-        → r ≡ judged nonconformance (tableLevels (now (s .entry)) separator (now (segments .entry)) (now (levels .entry)) (known .levels))
-        (record { id = now (id .entry); parent = now (parent .entry); code = now (code .entry); mark = now (mark .entry) })) ⌝ }
+    ensures { λ r. ⌜ JudgesLevel nonconformance (now (s .entry)) separator (now (starts .entry)) layout known (now (segments .entry)) (now (levels .entry)) r ⌝ }
 {
+    let id = layout::element(s, starts, layout, 1);
     if !known::is_new(s, separator, segments, levels, known, id) {
         return Judged::Refused(12, 1);
     }
+    let parent = layout::element(s, starts, layout, 2);
+    let code = layout::element(s, starts, layout, 3);
+    let mark = layout::element(s, starts, layout, 4);
     if parent.len() == 0 {
         return judging::judge_root(code, mark);
     }

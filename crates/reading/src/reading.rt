@@ -14,7 +14,8 @@ ghost use Rattle.gate.specs.Profile.{nonconformance};
 ghost use Rattle.gate.specs.Records.{Tables};
 ghost use Rattle.gate.specs.declared.answer.Answer.the-variants.{Refused};
 ghost use Rattle.gate.specs.Reads.{limit, Read, Reads};
-ghost use Rattle.reading.specs.internal.Settling.{between, refusedBy};
+ghost use Rattle.reading.specs.internal.Cutting.{cutOut};
+ghost use Rattle.reading.specs.internal.Settling.{refusedBy};
 use crate::cutting;
 use crate::cutting::Left;
 use crate::cutting::Next;
@@ -22,10 +23,8 @@ use crate::judging;
 use crate::judging::State;
 use crate::settling;
 use crate::settling::Step;
-use elements::layout::Layout;
 use elements::segment;
 use elements::verdict::Verdict;
-use finding::known::Known;
 use gate::answer::Answer;
 use gate::how::How;
 use numbering::next;
@@ -51,7 +50,7 @@ fn bad_bytes(s: &[u8], how: How, at: usize, end: usize, count: usize) -> Answer
     requires { ⌜ at ≤ end ⌝ }
     requires { ⌜ end ≤ length (now s) ⌝ }
     requires { ⌜ count ≤ 9000000000000000000 ⌝ }
-    ensures { λ r. ⌜ r ≡ refusedBy (firstBroken (byteChecks (viewOf (how .separators) (between (now (s .entry)) at end)))) count at ⌝ }
+    ensures { λ r. ⌜ r ≡ refusedBy (firstBroken (byteChecks (viewOf (how .separators) (cutOut (now (s .entry)) at end)))) count at ⌝ }
 {
     match segment::byte_verdict(&s[at..end], how.separators) {
         Verdict::Broken(number, element) => Answer::Refused {
@@ -83,17 +82,8 @@ fn read_on(
     let mut queue: [usize; 72] = [0; 72];
     let mut starts: [usize; 33] = [0; 33];
     let mut at: usize = 0;
-    let mut left = Left {
-        head: 0,
-        tail: 0,
-        seen: 0,
-    };
-    let mut state = State {
-        count: 0,
-        row: 0,
-        again: false,
-        known: Known::NONE,
-    };
+    let mut left = Left::NOTHING;
+    let mut state = State::START;
     loop {
         match cutting::next_segment(
             s,
@@ -104,16 +94,9 @@ fn read_on(
             &mut queue,
             &mut starts,
         ) {
-            Next::Open => {
-                return refused(3, state.count, at);
-            }
-            Next::Bad(end) => {
-                return bad_bytes(s, how, at, end, state.count);
-            }
-            Next::Segment {
-                layout,
-                left: behind,
-            } => {
+            Next::Open => return refused(3, state.count, at),
+            Next::Bad(end) => return bad_bytes(s, how, at, end, state.count),
+            Next::Segment(layout, behind) => {
                 let judgement = judging::judge(
                     s,
                     how,
@@ -125,9 +108,7 @@ fn read_on(
                     levels,
                 );
                 match settling::settle(judgement, layout, state, segments, levels) {
-                    Step::Done(answer) => {
-                        return answer;
-                    }
+                    Step::Done(answer) => return answer,
                     Step::Passed(next) => {
                         state = next;
                         at = layout.end + 1;

@@ -2,10 +2,12 @@
 ghost use mathlib.Core.Path.{_≡_};
 ghost use Prim.Native.Nat.{_/_, _≤_, _<_};
 ghost use lib.ListN.{length};
+ghost use Rattle.levels.specs.Widths.{segmentWidth};
 ghost use Rattle.reading.specs.internal.Settling.{stateAfter, refusedAt, acceptedAt, InRoom, SettlesBy, SettlesPlain, SettlesLevel, SettlesLast};
 use crate::judging::Judgement;
 use crate::judging::State;
 use crate::storing;
+use crate::storing::Entry;
 use elements::layout::Layout;
 use finding::known::Known;
 use gate::answer::Answer;
@@ -60,7 +62,7 @@ fn acceptance(layout: Layout, state: State) -> Step
 // Passes a segment that makes no level, where there is room for its record.
 fn pass_plain(row: u8, layout: Layout, state: State, segments: &mut [u64]) -> Step
     requires { ⌜ layout .at ≤ layout .end ⌝ }
-    requires { ⌜ state .count ≤ length (now segments) / 3 ⌝ }
+    requires { ⌜ state .count ≤ length (now segments) / segmentWidth ⌝ }
     ensures { λ r. ⌜ SettlesPlain row layout state (now (segments .entry)) (now (segments .exit)) r ⌝ }
 {
     if !storing::segment_room(segments, state.count) {
@@ -73,9 +75,7 @@ fn pass_plain(row: u8, layout: Layout, state: State, segments: &mut [u64]) -> St
 // Passes a segment that makes a level, where there is room for both records.
 fn pass_level(
     row: u8,
-    parent: usize,
-    depth: usize,
-    code: usize,
+    entry: Entry,
     known: Known,
     layout: Layout,
     state: State,
@@ -83,7 +83,7 @@ fn pass_level(
     levels: &mut [u64],
 ) -> Step
     requires { ⌜ InRoom (now segments) (now levels) layout state ⌝ }
-    ensures { λ r. ⌜ SettlesLevel row parent depth code known layout state (now (segments .entry)) (now (levels .entry)) (now (segments .exit)) (now (levels .exit)) r ⌝ }
+    ensures { λ r. ⌜ SettlesLevel row entry known layout state (now (segments .entry)) (now (levels .entry)) (now (segments .exit)) (now (levels .exit)) r ⌝ }
 {
     if !storing::segment_room(segments, state.count) {
         return refusal(17, layout, state, 0);
@@ -92,14 +92,7 @@ fn pass_level(
         return refusal(17, layout, state, 0);
     }
     storing::put_segment(segments, state.count, layout.at, layout.end - layout.at, row);
-    storing::put_level(
-        levels,
-        state.known.levels,
-        state.count + 1,
-        parent,
-        depth,
-        code,
-    );
+    storing::put_level(levels, state.known.levels, state.count + 1, entry);
     Step::Passed(after(state, row, known))
 }
 
@@ -107,7 +100,7 @@ fn pass_level(
 fn close(row: u8, layout: Layout, state: State, segments: &mut [u64]) -> Step
     requires { ⌜ layout .at ≤ layout .end ⌝ }
     requires { ⌜ layout .end < 1048576 ⌝ }
-    requires { ⌜ state .count ≤ length (now segments) / 3 ⌝ }
+    requires { ⌜ state .count ≤ length (now segments) / segmentWidth ⌝ }
     ensures { λ r. ⌜ SettlesLast row layout state (now (segments .entry)) (now (segments .exit)) r ⌝ }
 {
     if !storing::segment_room(segments, state.count) {
@@ -123,7 +116,7 @@ fn close(row: u8, layout: Layout, state: State, segments: &mut [u64]) -> Step
     acceptance(layout, state)
 }
 
-// What the judgement on the segment that the layout name does.
+// What the judgement on the segment that the layout names does.
 pub(crate) fn settle(
     judgement: Judgement,
     layout: Layout,
@@ -139,22 +132,10 @@ pub(crate) fn settle(
         Judgement::Plain(row) => pass_plain(row, layout, state, segments),
         Judgement::Level {
             row,
-            parent,
-            depth,
-            code,
+            entry,
             known,
         } => {
-            pass_level(
-                row,
-                parent,
-                depth,
-                code,
-                known,
-                layout,
-                state,
-                segments,
-                levels,
-            )
+            pass_level(row, entry, known, layout, state, segments, levels)
         }
         Judgement::Last(row) => close(row, layout, state, segments),
     }

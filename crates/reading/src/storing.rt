@@ -4,18 +4,26 @@ ghost use mathlib.Core.List.{[], _∷_};
 ghost use Prim.Native.Nat.{_/_, _<_};
 ghost use lib.Dec.{ltb};
 ghost use lib.ListN.{length, set};
+ghost use Rattle.levels.specs.Widths.{segmentWidth, levelWidth};
 ghost use Rattle.finding.specs.internal.Entries.{storedAt};
+
+// What the record of a level says beside its segment: the parent's level number, the depth and the code.
+pub(crate) struct Entry {
+    pub parent: usize,
+    pub depth: usize,
+    pub code: usize,
+}
 
 // Whether the segment table has room for one record behind the first n.
 pub(crate) fn segment_room(segments: &[u64], n: usize) -> bool
-    ensures { λ r. ⌜ r ≡ ltb n (length (now (segments .entry)) / 3) ⌝ }
+    ensures { λ r. ⌜ r ≡ ltb n (length (now (segments .entry)) / segmentWidth) ⌝ }
 {
     n < segments.len() / 3
 }
 
-// Whether the level table has.
+// Whether the level table has room for one record behind the first n.
 pub(crate) fn level_room(levels: &[u64], n: usize) -> bool
-    ensures { λ r. ⌜ r ≡ ltb n (length (now (levels .entry)) / 4) ⌝ }
+    ensures { λ r. ⌜ r ≡ ltb n (length (now (levels .entry)) / levelWidth) ⌝ }
 {
     n < levels.len() / 4
 }
@@ -30,8 +38,8 @@ fn store(table: &mut [u64], at: usize, number: usize)
 
 // Start, length and row of a segment, behind the first n records.
 pub(crate) fn put_segment(segments: &mut [u64], n: usize, start: usize, len: usize, row: u8)
-    requires { ⌜ n < length (now segments) / 3 ⌝ }
-    ensures { λ _. ⌜ now (segments .exit) ≡ storedAt 3 (now (segments .entry)) n (start ∷ len ∷ row ∷ []) ⌝ }
+    requires { ⌜ n < length (now segments) / segmentWidth ⌝ }
+    ensures { λ _. ⌜ now (segments .exit) ≡ storedAt segmentWidth (now (segments .entry)) n (start ∷ len ∷ row ∷ []) ⌝ }
 {
     let at = n * 3;
     store(segments, at, start);
@@ -39,21 +47,14 @@ pub(crate) fn put_segment(segments: &mut [u64], n: usize, start: usize, len: usi
     store(segments, at + 2, row as usize);
 }
 
-// Segment number, parent's level number, depth and code of a level, behind the first n records.
-pub(crate) fn put_level(
-    levels: &mut [u64],
-    n: usize,
-    segment: usize,
-    parent: usize,
-    depth: usize,
-    code: usize,
-)
-    requires { ⌜ n < length (now levels) / 4 ⌝ }
-    ensures { λ _. ⌜ now (levels .exit) ≡ storedAt 4 (now (levels .entry)) n (segment ∷ parent ∷ depth ∷ code ∷ []) ⌝ }
+// The segment number of a level and its entry, behind the first n records.
+pub(crate) fn put_level(levels: &mut [u64], n: usize, segment: usize, entry: Entry)
+    requires { ⌜ n < length (now levels) / levelWidth ⌝ }
+    ensures { λ _. ⌜ now (levels .exit) ≡ storedAt levelWidth (now (levels .entry)) n (segment ∷ entry .parent ∷ entry .depth ∷ entry .code ∷ []) ⌝ }
 {
     let at = n * 4;
     store(levels, at, segment);
-    store(levels, at + 1, parent);
-    store(levels, at + 2, depth);
-    store(levels, at + 3, code);
+    store(levels, at + 1, entry.parent);
+    store(levels, at + 2, entry.depth);
+    store(levels, at + 3, entry.code);
 }

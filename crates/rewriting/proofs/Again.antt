@@ -7,7 +7,7 @@ use native.Mathlib.Omega.{arith}
 use lib.Dec.{T}
 use lib.ListN.{length, length-map}
 use Rattle.text.specs.Bytes.{Bytes}
-use Rattle.text.specs.Pieces.{Clean}
+use Rattle.text.proofs.Pieces.{Clean}
 use Rattle.text.specs.View.{View, viewOf, written, empty}
 use Rattle.text.specs.Cut.{Placed, Leads, Whole}
 use Rattle.text.specs.declared.separators.Separators.{Separators}

@@ -5,7 +5,9 @@ use mathlib.Core.Path.{_≡_, refl, sym, ap, _∙_}
 use mathlib.Core.List.{List, [], _∷_, map}
 use borrow.Author.Tests.{eq-eqb, ne-eqb}
 use Rattle.text.specs.Bytes.{Bytes}
-use Rattle.text.specs.Pieces.{joined, closed, Free, Clean}
+use Rattle.text.specs.Pieces.{joined, closed}
+use Rattle.text.proofs.Pieces.{Clean}
+use Rattle.text.specs.internal.Search.{Free}
 use Rattle.text.specs.View.{Piece, View, viewOf, written}
 use Rattle.text.specs.Cut.{Placed}
 use Rattle.text.specs.declared.separators.Separators.{Separators}

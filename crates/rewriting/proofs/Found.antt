@@ -11,7 +11,8 @@ use lib.ListN.{length}
 use borrow.Author.Tests.{eq-eqb, ne-eqb}
 use Rattle.text.specs.Bytes.{Bytes}
 use Rattle.text.specs.Separators.{isSeparator}
-use Rattle.text.specs.Pieces.{closed, Free}
+use Rattle.text.specs.Pieces.{closed}
+use Rattle.text.specs.internal.Search.{Free}
 use Rattle.text.specs.Cut.{Placed, Leads}
 use Rattle.text.specs.declared.separators.Separators.{Separators}
 use Rattle.text.proofs.Bools.{and-false, passes}

@@ -7,7 +7,8 @@ use native.Mathlib.Omega.{arith}
 use lib.ListN.{length, take, length-append}
 use lib.Seq.{take-at}
 use Rattle.text.specs.Bytes.{Bytes}
-use Rattle.text.specs.Pieces.{closed, Clean}
+use Rattle.text.specs.Pieces.{closed}
+use Rattle.text.proofs.Pieces.{Clean}
 use Rattle.text.specs.Cut.{Placed, Leads, Whole}
 use Rattle.text.proofs.DocumentCut.{Says, cut-says}
 use Rattle.gate.specs.Reads.{cutBy, skipBy}

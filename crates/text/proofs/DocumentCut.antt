@@ -12,7 +12,7 @@ use lib.ListN.{length}
 use borrow.Author.Tests.{eq-eqb, ne-eqb, eqb-true, eqb-false}
 use Rattle.text.specs.Bytes.{Bytes}
 use Rattle.text.specs.Separators.{isCapital}
-use Rattle.text.specs.Pieces.{Free}
+use Rattle.text.specs.internal.Search.{Free}
 use Rattle.text.specs.Cut.{Cut, Whole, Stop, push, cutOf, skipOf}
 use Rattle.text.specs.declared.separators.Separators.{Separators}
 use Rattle.text.proofs.CutLaws.{CutLaw, SkipLaw}

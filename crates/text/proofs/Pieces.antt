@@ -9,7 +9,13 @@ use lib.Dec.{eqb}
 use lib.ListN.{length, getD}
 use borrow.Author.Tests.{eq-eqb, ne-eqb, eqb-true, eqb-false}
 use Rattle.text.specs.Bytes.{Bytes}
-use Rattle.text.specs.Pieces.{before, pieces, joined, closed, Free, Clean}
+use Rattle.text.specs.Pieces.{before, pieces, joined, closed}
+use Rattle.text.specs.internal.Search.{Free}
+
+-- the byte stands in none of the pieces
+abbrev pub Clean : ℕ → List Bytes → Type 0
+Clean byte [] = Unit {0}
+Clean byte (p ∷ ps) = Free byte p × Clean byte ps
 
 -- there is a piece, be it empty
 before-some : (t : Bool) (b : ℕ) (ps : List Bytes) → 0 < length (before t b ps)

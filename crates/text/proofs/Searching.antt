@@ -8,8 +8,7 @@ use native.Mathlib.Numerals.{add-one}
 use lib.ListN.{length, drop, getD, length-append, drop-of-length-le}
 use lib.Seq.{drop-cons}
 use Rattle.text.specs.Bytes.{Bytes}
-use Rattle.text.specs.Pieces.{Free}
-use Rattle.text.specs.internal.Search.{FirstAt}
+use Rattle.text.specs.internal.Search.{Free, FirstAt}
 use Rattle.text.proofs.Pieces.{free-snoc}
 
 pub record Passed (s : Bytes) (from byte i : ℕ) : Type 0 where

@@ -10,11 +10,11 @@ use lib.ListN.{length, take, drop, getD, length-append, length-drop, List·getD-
 use lib.Seq.{drop-at, take-at, getD-at, take-append-seam}
 use borrow.Author.Tests.{lt-ltb, le-ltb}
 use Rattle.text.specs.Bytes.{Bytes}
-use Rattle.text.specs.Pieces.{Free, Clean, pieces, joined, closed}
+use Rattle.text.specs.Pieces.{pieces, joined, closed}
+use Rattle.text.proofs.Pieces.{Clean, pieces-free, pieces-cut, pieces-closed, joined-pieces, closed-snoc, clean-snoc}
+use Rattle.text.specs.internal.Search.{Free, FirstAt}
 use Rattle.text.specs.Lookup.{span, pieceSpan, componentSpan, partOf}
-use Rattle.text.specs.internal.Search.{FirstAt}
 use Rattle.text.specs.declared.lookup.Span.{Span}
-use Rattle.text.proofs.Pieces.{pieces-free, pieces-cut, pieces-closed, joined-pieces, closed-snoc, clean-snoc}
 
 pub record Begun (sep : ℕ) (s : Bytes) (k at : ℕ) : Type 0 where
   pub gone : List Bytes

@@ -9,11 +9,12 @@ use lib.ListN.{length, length-map}
 use borrow.Author.Tests.{ne-eqb}
 use Rattle.text.specs.Bytes.{Bytes, every}
 use Rattle.text.specs.Separators.{mayServe, fitSeparators, Fitted, isSeparator}
-use Rattle.text.specs.Pieces.{before, pieces, joined, Free, Clean}
+use Rattle.text.specs.Pieces.{before, pieces, joined}
+use Rattle.text.proofs.Pieces.{Clean, pieces-some, joined-pieces, pieces-clean, pieces-joined}
+use Rattle.text.specs.internal.Search.{Free}
 use Rattle.text.specs.View.{Piece, View, viewOf, written}
 use Rattle.text.specs.declared.separators.Separators.{Separators}
 use Rattle.text.proofs.Bools.{both, first-of, second-of, or-left, or-right, apart}
-use Rattle.text.proofs.Pieces.{pieces-some, joined-pieces, pieces-clean, pieces-joined}
 
 -- no separator is left in the view
 abbrev pub unseparated : Separators → View → Bool

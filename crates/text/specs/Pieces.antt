@@ -1,7 +1,6 @@
 -- Bytes cut at a separator into pieces, and pieces written with it again.
 -- Assumes nothing.
 use Prim.Native.Nat.{ℕ}
-use mathlib.Core.Path.{_≡_}
 use mathlib.Core.Bool.{Bool, true, false}
 use mathlib.Core.List.{List, [], _∷_, _++_}
 use lib.Dec.{eqb}
@@ -28,13 +27,3 @@ joined sep (p ∷ (q ∷ ps)) = p ++ sep ∷ joined sep (q ∷ ps)
 abbrev pub closed : ℕ → List Bytes → Bytes
 closed sep [] = []
 closed sep (p ∷ ps) = p ++ sep ∷ closed sep ps
-
--- the byte does not stand in the bytes
-abbrev pub Free : ℕ → Bytes → Type 0
-Free sep [] = Unit {0}
-Free sep (b ∷ s) = (b ≡ sep → ⊥) × Free sep s
-
--- nor in any of the pieces
-abbrev pub Clean : ℕ → List Bytes → Type 0
-Clean sep [] = Unit {0}
-Clean sep (p ∷ ps) = Free sep p × Clean sep ps

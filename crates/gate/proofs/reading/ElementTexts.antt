@@ -11,7 +11,8 @@ use lib.Dec.{T}
 use lib.ListN.{length, getD, List·getD-map}
 use Rattle.text.specs.Bytes.{Bytes, bytes, every, among, same, between}
 use Rattle.text.specs.Separators.{isDigit, isCapital, isSmall, mayServe, Fitted}
-use Rattle.text.specs.Pieces.{pieces, joined, Free}
+use Rattle.text.specs.Pieces.{pieces, joined}
+use Rattle.text.specs.internal.Search.{Free}
 use Rattle.text.specs.View.{Piece, View, viewOf, present, elementOf}
 use Rattle.text.specs.declared.separators.Separators.{Separators}
 use Rattle.text.proofs.Bools.{first-of, second-of}

@@ -13,7 +13,8 @@ use lib.ListN.{length, drop, getD, length-append, length-drop, length-map, List�
 use lib.Seq.{getD-at, getD-drop}
 use borrow.Author.Tests.{eq-eqb, ne-eqb, le-leb}
 use Rattle.text.specs.Bytes.{Bytes, every}
-use Rattle.text.specs.Pieces.{Free, before, pieces}
+use Rattle.text.specs.Pieces.{before, pieces}
+use Rattle.text.specs.internal.Search.{Free}
 use Rattle.text.specs.View.{present, elementCount}
 use Rattle.text.proofs.Everys.{every-at}
 use Rattle.text.proofs.Bools.{both, first-of, second-of, or-left, or-right, or-false, and-true}

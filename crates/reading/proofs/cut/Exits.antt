@@ -12,14 +12,14 @@ use lib.ListN.{length, take, drop, getD, length-append, drop-of-length-le}
 use lib.Seq.{drop-cons, take-append-le}
 use borrow.Author.Tests.{eq-eqb, ne-eqb, lt-ltb}
 use Rattle.text.specs.Bytes.{Bytes}
-use Rattle.text.specs.Pieces.{Free, pieces, closed}
+use Rattle.text.specs.Pieces.{pieces, closed}
+use Rattle.text.specs.internal.Search.{Free, FirstAt}
 use Rattle.text.specs.Lookup.{pieceSpan}
-use Rattle.text.specs.internal.Search.{FirstAt}
 use Rattle.text.specs.declared.separators.Separators.{Separators}
 use Rattle.text.proofs.Bools.{both, first-of, second-of, apart}
 use Rattle.text.proofs.Pieces.{pieces-free, pieces-closed}
 use Rattle.text.proofs.View.{free-append}
-use Rattle.reading.specs.internal.Cutting.{BadSegment, CutAs, GoodSegment, Cuts, Stops}
+use Rattle.reading.specs.internal.Cutting.{layoutOf, BadSegment, CutAs, GoodSegment, Cuts, Stops}
 use Rattle.elements.proofs.PresentPieces.{some as filled}
 use Rattle.reading.specs.declared.cutting.Next.{Next}
 use Rattle.reading.specs.declared.cutting.Next.the-variants.{Open, Bad, Segment}
@@ -102,7 +102,7 @@ module _ {q : Separators} {table : List Bool} {s : Bytes} {at : ℕ} {queue star
 
     -- rule 6, as the code tests it
     abbrev tested : Bool
-    tested = ((ended && not (eqb here behind)) && not (eqb here start)) && not (eqb count 0)
+    tested = layoutOf at here count start behind ended .ended
 
     -- what the test says
     tested-ended : T tested → Ended (q .component) (w .gone) final
@@ -131,7 +131,7 @@ module _ {q : Separators} {table : List Bool} {s : Bytes} {at : ℕ} {queue star
 
     -- the terminator: the bytes up to it are the segment, and this is its layout
     laid-out : getD s here 0 ≡ q .terminator
-        → CutAs q s starts (record { at = at; end = here; count = count; single = eqb behind at; ended = tested }) passed (drop (here + 1) s)
+        → CutAs q s starts (layoutOf at here count start behind ended) passed (drop (here + 1) s)
     laid-out e = record {
       whole = rw (← byte-there w some (q .terminator) e) passed-whole;
       free = passed-free;
@@ -149,7 +149,7 @@ module _ {q : Separators} {table : List Bool} {s : Bytes} {at : ℕ} {queue star
 
     -- what is left of the queue serves the next cut
     pub at-end : getD s here 0 ≡ q .terminator
-        → GoodSegment q table s at queue starts (record { at = at; end = here; count = count; single = eqb behind at; ended = tested })
+        → GoodSegment q table s at queue starts (layoutOf at here count start behind ended)
         (record { head = head + 1; tail = tail; seen = seen })
     at-end e = record { segment = passed; more = drop (here + 1) s; at-is = refl; laid = laid-out e; ready = next-ready w some }
 

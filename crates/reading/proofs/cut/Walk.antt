@@ -13,10 +13,11 @@ use lib.ListN.{length, take, drop, getD, set, length-append, length-set}
 use lib.Seq.{drop-cons, getD-set-same, getD-set-other, take-append-le, take-all}
 use borrow.Author.Tests.{eq-eqb, ne-eqb}
 use Rattle.text.specs.Bytes.{Bytes, every}
-use Rattle.text.specs.Pieces.{Free, Clean, closed}
+use Rattle.text.specs.Pieces.{closed}
+use Rattle.text.proofs.Pieces.{Clean, closed-snoc, clean-snoc, free-snoc}
+use Rattle.text.specs.internal.Search.{Free}
 use Rattle.text.specs.Separators.{Fitted}
 use Rattle.text.specs.declared.separators.Separators.{Separators}
-use Rattle.text.proofs.Pieces.{closed-snoc, clean-snoc, free-snoc}
 use Rattle.text.proofs.View.{free-append}
 use Rattle.reading.specs.internal.SpecialBytes.{SpecialTable}
 use Rattle.reading.specs.internal.Queue.{Indexed, left, Ready}

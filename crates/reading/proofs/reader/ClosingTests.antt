@@ -10,9 +10,6 @@ use borrow.Author.Tests.{eq-eqb, ne-eqb}
 use Rattle.text.specs.Bytes.{Bytes, same}
 use Rattle.elements.specs.Checks.{Check, check, firstBroken}
 use Rattle.elements.specs.declared.verdict.Verdict.the-variants.{Holds, Broken}
-use Rattle.levels.specs.Profile.{nonconformance}
-use Rattle.levels.specs.Levels.{Level}
-use Rattle.levels.specs.internal.Answers.{judged}
 
 -- the closing tests: the first that fails decides. n is the number of SE01, as it was worked out
 module _ {n number : ℕ} (is : n ≡ number) (count : ℕ) (control opening : Bytes) (full : Bool) where
@@ -41,8 +38,3 @@ module _ {n number : ℕ} (is : n ≡ number) (count : ℕ) (control opening : B
 -- a comparison of equal parts
 pub same-by : {r : Bool} {a a′ b b′ : Bytes} → r ≡ same a b → a ≡ a′ → b ≡ b′ → (v : Bool) → r ≡ v → same a′ b′ ≡ v
 same-by e p q v f = sym (e ∙ (λ i. same (p i) (q i))) ∙ f
-
--- equal elements make equal claims
-pub claims-same : (ls : List Level) (a a′ b b′ c c′ d d′ : Bytes) → a ≡ a′ → b ≡ b′ → c ≡ c′ → d ≡ d′
-    → judged nonconformance ls (record { id = a; parent = b; code = c; mark = d }) ≡ judged nonconformance ls (record { id = a′; parent = b′; code = c′; mark = d′ })
-claims-same ls a a′ b b′ c c′ d d′ p q r s = λ i. judged nonconformance ls (record { id = p i; parent = q i; code = r i; mark = s i })

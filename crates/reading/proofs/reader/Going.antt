@@ -15,14 +15,15 @@ use Rattle.text.specs.Cut.{Placed}
 use Rattle.text.specs.Separators.{Fitted}
 use Rattle.elements.specs.Checks.{firstBroken}
 use Rattle.elements.specs.Rules.{byteChecks}
-use Rattle.gate.specs.Profile.{nonconformance}
+use Rattle.gate.specs.Profile.{profileOf}
 use Rattle.gate.specs.Segments.{seen, onto}
+use Rattle.levels.specs.Widths.{segmentWidth, levelWidth}
 use Rattle.gate.specs.Records.{Tables}
 use Rattle.gate.specs.Reads.{Read}
 use Rattle.reading.specs.internal.Standing.{Standing}
-use Rattle.reading.specs.internal.Cutting.{Cuts, BadSegment, GoodSegment}
+use Rattle.reading.specs.internal.Cutting.{cutOut, Cuts, BadSegment, GoodSegment}
 use Rattle.reading.specs.internal.Judgements.{Inside, JudgesNext}
-use Rattle.reading.specs.internal.Settling.{between, refusedBy, InRoom, Settling, Stands, Settles, SettlesBy}
+use Rattle.reading.specs.internal.Settling.{refusedBy, InRoom, Settling, Stands, Settles, SettlesBy}
 use Rattle.reading.specs.internal.Loop.{Going}
 use Rattle.gate.specs.declared.answer.Answer.{Answer}
 use Rattle.gate.specs.declared.answer.Answer.the-variants.{Refused}
@@ -54,14 +55,14 @@ going-start how s specials before queue starts q r = record {
 module _ {how : How} {s : Bytes} {before : Tables} {segments levels : List ℕ} {at : ℕ} {state : State}
     (stands : Stands how before s segments levels at state) where
   -- no more records are counted than there is room for
-  pub segments-within : state .count ≤ length segments / 3
+  pub segments-within : state .count ≤ length segments / segmentWidth
   segments-within =
       omega (arith, segments-long (stands .standing), history-long how (stands .gs), stands .standing .count-is, stands .standing .passed .room .segments-fit)
 
-  pub segments-few : state .count ≤ length (before .segments) / 3
+  pub segments-few : state .count ≤ length (before .segments) / segmentWidth
   segments-few = omega (arith, history-long how (stands .gs), stands .standing .count-is, stands .standing .passed .room .segments-fit)
 
-  levels-within : state .known .levels ≤ length levels / 4
+  levels-within : state .known .levels ≤ length levels / levelWidth
   levels-within = omega (arith, levels-long (stands .standing), stands .standing .knows .counted, stands .standing .passed .room .levels-fit)
 
   -- the tables are as long as they were
@@ -73,13 +74,13 @@ module _ {how : How} {s : Bytes} {before : Tables} {segments levels : List ℕ} 
 
   -- 3
   pub open-refuses : (next : Next) (queue starts : List ℕ) (specials : List Bool) → Cuts (how .separators) specials s at queue starts next → next ≡ Open
-      → Read nonconformance how s before (Refused 3 (state .count + 1) at 0) (record { segments = segments; levels = levels })
+      → Read (profileOf how) how s before (Refused 3 (state .count + 1) at 0) (record { segments = segments; levels = levels })
   open-refuses next queue starts specials cuts is =
       let free = subst (λ (n : Next). Cuts (how .separators) specials s at queue starts n) is cuts in
       standing-refuses (stands .standing) 3 0 (inl (record { upto = drop at s; more = []; stops = open-stops (how .separators) s at free }))
 
   -- 5
-  bad-place : {end : ℕ} (b : BadSegment (how .separators) s at end) → between s at end ≡ b .segment
+  bad-place : {end : ℕ} (b : BadSegment (how .separators) s at end) → cutOut s at end ≡ b .segment
   bad-place {end} b =
       let e : end - at ≡ length (b .segment) = ap (λ (x : ℕ). x - at) (b .place) ∙ add-sub-cancel-left at (length (b .segment)) in
       rw e (ap (take (length (b .segment))) (b .whole) ∙ take-append-seam (b .segment) (how .separators .terminator ∷ b .more))
@@ -91,8 +92,8 @@ module _ {how : How} {s : Bytes} {before : Tables} {segments levels : List ℕ} 
       (omega (arith, b .place), omega (arith, b .place, length-drop at s, ap length (b .whole) ∙ length-append (b .segment) (how .separators .terminator ∷ b .more)))
 
   pub bad-refuses : (next : Next) (queue starts : List ℕ) (specials : List Bool) → Cuts (how .separators) specials s at queue starts next → (end : ℕ) → next ≡ Bad end
-      → (r : Answer) → r ≡ refusedBy (firstBroken (byteChecks (viewOf (how .separators) (between s at end)))) (state .count) at
-      → Read nonconformance how s before r (record { segments = segments; levels = levels })
+      → (r : Answer) → r ≡ refusedBy (firstBroken (byteChecks (viewOf (how .separators) (cutOut s at end)))) (state .count) at
+      → Read (profileOf how) how s before r (record { segments = segments; levels = levels })
   bad-refuses next queue starts specials cuts end is r says =
       let b = subst (λ (n : Next). Cuts (how .separators) specials s at queue starts n) is cuts in
       let v = viewOf (how .separators) (b .segment) in
@@ -105,7 +106,7 @@ module _ {how : How} {s : Bytes} {before : Tables} {segments levels : List ℕ} 
         segment = b .segment;
         more = b .more;
         next = bad-cut b;
-        first = bad-bytes nonconformance (stands .rows) (onto [] (seen how (stands .gs))) v n k e;
+        first = bad-bytes (profileOf how) (stands .rows) (onto [] (seen how (stands .gs))) v n k e;
       }))))))
 
 -- a segment that was cut and has data bytes
@@ -149,7 +150,7 @@ module _ {how : How} {s : Bytes} {specials : List Bool} {queue starts : List ℕ
           })
 
       -- the answer
-      pub settled-done : (a : Answer) → r ≡ Done a → Read nonconformance how s before a (record { segments = segments′; levels = levels′ })
+      pub settled-done : (a : Answer) → r ≡ Done a → Read (profileOf how) how s before a (record { segments = segments′; levels = levels′ })
       settled-done a e = subst (λ (x : Step). Settles how before s layout segments′ levels′ x) e settled
 
       -- the next place

@@ -13,7 +13,7 @@ use Rattle.text.specs.Bytes.{Bytes}
 use Rattle.text.specs.Pieces.{pieces}
 use Rattle.text.specs.View.{View, viewOf, elementOf}
 use Rattle.text.specs.Cut.{Placed}
-use Rattle.text.proofs.Bools.{passes, not-passes}
+use Rattle.text.proofs.Bools.{equal-eqb, passes, not-passes}
 use Rattle.text.specs.Separators.{Fitted}
 use Rattle.rows.specs.Tags.{tag, tagNumber}
 use Rattle.rows.specs.NextTable.{NextTable}
@@ -32,16 +32,15 @@ use Rattle.elements.proofs.FirstBroken.{keeps-holds}
 use Rattle.elements.proofs.OwnView.{LaidOut, ruled-own, text-own}
 use Rattle.levels.specs.Levels.{Claim, claimOf, textOf, levelOf}
 use Rattle.levels.proofs.LevelTests.{keeps-passes}
-use Rattle.finding.specs.declared.known.Known.{Known}
 use Rattle.finding.proofs.KnownLevels.{knows-after}
 use Rattle.levels.specs.Rules.{levelChecks}
-use Rattle.gate.specs.Profile.{nonconformance}
+use Rattle.gate.specs.Profile.{profileOf}
 use Rattle.gate.specs.Segments.{tagIn, isHL, isSE, seen, onto, levelsIn}
 use Rattle.gate.specs.Rules.{closingChecks}
 use Rattle.gate.specs.Records.{Tables}
 use Rattle.reading.specs.internal.Standing.{Standing}
-use Rattle.reading.specs.internal.Cutting.{CutAs}
-use Rattle.reading.specs.internal.Judgements.{notedClaim, notedClosing, segmentOf, brokenBy, byLevel, byClosing, lateJudgement, JudgesLate, Judges}
+use Rattle.reading.specs.internal.Cutting.{CutAs, segmentOf}
+use Rattle.reading.specs.internal.Judgements.{claimIn, closingIn, brokenBy, byLevel, byClosing, lateJudgement, JudgesLate, Judges}
 use Rattle.gate.specs.declared.how.How.{How}
 use Rattle.levels.specs.internal.Answers.{judged}
 use Rattle.finding.specs.internal.Knows.{Knows, mostLevels, knownAfter}
@@ -56,7 +55,7 @@ use Rattle.reading.proofs.reader.OpeningControl.{control-of-first, coun
 use Rattle.reading.proofs.reader.Standings.{history-long}
 
 module _ {how : How} {s : Bytes} {starts : List ℕ} {layout : Layout} {g more : Bytes} (nt : CutAs (how .separators) s starts layout g more) where
-  -- the layout is right, as the element rules take them
+  -- the layout is right, as the element rules take it
   right : LaidOut (how .separators) s g starts layout
   right = record {
     here = ap (take (length g)) (nt .whole) ∙ take-append-seam g (how .separators .terminator ∷ more);
@@ -67,7 +66,7 @@ module _ {how : How} {s : Bytes} {starts : List ℕ} {layout : Layout} {g more :
     singly = λ e. nt .single (rw e tt);
   }
 
-  -- the segment is what the layout name
+  -- the segment is the one that the layout names
   segment-is : segmentOf s layout ≡ g
   segment-is =
       let e : layout .end - layout .at ≡ length g = ap (λ (x : ℕ). x - layout .at) (nt .place) ∙ add-sub-cancel-left (layout .at) (length g) in
@@ -97,14 +96,14 @@ verdict-cases (Faulty n e) f g = g n e refl
 -- 4
 pub judges-tag : {how : How} {s : Bytes} {starts : List ℕ} {layout : Layout} {g more : Bytes} (rows : List ℕ) (h : List View) (t : ℕ) → 34 ≤ t
     → t ≡ tagNumber (elementIn s starts layout 0) → Fitted (how .separators) → CutAs (how .separators) s starts layout g more
-    → Judges rows h (viewOf (how .separators) g) (Broken 4 0)
-judges-tag {how} {g = g} rows h t l noted fit nt =
-    unknown-tag nonconformance rows h (viewOf (how .separators) g) (nt .data-only) (rw (← (noted ∙ tag-is nt fit)) l)
+    → Judges (profileOf how) rows h (viewOf (how .separators) g) (Broken 4 0)
+judges-tag {how} {g = g} rows h t l found fit nt =
+    unknown-tag (profileOf how) rows h (viewOf (how .separators) g) (nt .data-only) (rw (← (found ∙ tag-is nt fit)) l)
 
-module _ {how : How} {before : Tables} {s : Bytes} {segments levels : List ℕ} {at count row : ℕ} {again : Bool} {known : Known} {gs : List Placed} {rows : List ℕ}
+module _ {how : How} {before : Tables} {s : Bytes} {segments levels : List ℕ} {at : ℕ} {state : State} {gs : List Placed} {rows : List ℕ}
     {starts : List ℕ} {layout : Layout} {g more : Bytes} (fit : Fitted (how .separators)) (nt : CutAs (how .separators) s starts layout g more)
-    (st : Standing how before s segments levels at count row again known gs rows) (t : ℕ)
-    (tag-noted : t ≡ tagNumber (elementIn s starts layout 0)) where
+    (st : Standing how before s segments levels at state gs rows) (t : ℕ)
+    (tag-found : t ≡ tagNumber (elementIn s starts layout 0)) where
   abbrev v : View
   v = viewOf (how .separators) g
 
@@ -112,21 +111,21 @@ module _ {how : How} {before : Tables} {s : Bytes} {segments levels : List ℕ} 
   h = onto [] (seen how gs)
 
   tag-known : t ≡ tagIn v
-  tag-known = tag-noted ∙ tag-is nt fit
+  tag-known = tag-found ∙ tag-is nt fit
 
   module _ (small : t < 34) where
     known-tag : tagIn v < 34
     known-tag = rw (← tag-known) small
 
     -- 6
-    pub judges-end : T (not (layout .ended)) → (j : Judgement) → j ≡ brokenBy (firstBroken (endChecks (viewOf (how .separators) (segmentOf s layout)))) → Judges rows h v j
+    pub judges-end : T (not (layout .ended)) → (j : Judgement) → j ≡ brokenBy (firstBroken (endChecks (viewOf (how .separators) (segmentOf s layout)))) → Judges (profileOf how) rows h v j
     judges-end open-end j is =
         rw (is, segment-is nt)
         (verdict-cases (firstBroken (endChecks v))
         (λ e. absurd (nt .unkept open-end (keeps-holds (endChecks v) .0 e)))
-        (λ n k e. rw e (bad-end nonconformance rows h v (nt .data-only) known-tag n k e)))
+        (λ n k e. rw e (bad-end (profileOf how) rows h v (nt .data-only) known-tag n k e)))
 
-    module _ (ended : T (layout .ended)) (x : ℕ) {table : List ℕ} (kept : NextTable table) (after : RowAfter table row again t x) where
+    module _ (ended : T (layout .ended)) (x : ℕ) {table : List ℕ} (kept : NextTable table) (after : RowAfter table (state .row) (state .again) t x) where
       ends : Keeps (endChecks v)
       ends = nt .kept ended
 
@@ -134,26 +133,26 @@ module _ {how : How} {before : Tables} {s : Bytes} {segments levels : List ℕ} 
       one-fits = rw tag-known at (after .meaning kept rows (st .passed .viable) (st .row-is) (st .again-is))
 
       -- 7
-      pub judges-row : x ≡ 0 → Judges rows h v (Broken 7 0)
-      judges-row e = no-row nonconformance rows h v (nt .data-only) known-tag ends (λ r f. one-fits .alone r f .1 e)
+      pub judges-row : x ≡ 0 → Judges (profileOf how) rows h v (Broken 7 0)
+      judges-row e = no-row (profileOf how) rows h v (nt .data-only) known-tag ends (λ r f. one-fits .alone r f .1 e)
 
       module _ (some : x ≡ 0 → ⊥) where
         fits : Fits rows (tagIn v) x
         fits = one-fits .fits some
 
-        ruled-is : firstBroken (ruledChecks (nonconformance .elements) t (layoutView s starts layout (how .separators .component)))
-            ≡ firstBroken (ruledChecks (nonconformance .elements) (tagIn v) v)
-        ruled-is = ruled-own (right nt) t ∙ ap (λ (k : ℕ). firstBroken (ruledChecks (nonconformance .elements) k v)) tag-known
+        ruled-is : firstBroken (ruledChecks (profileOf how .elements) t (layoutView s starts layout (how .separators .component)))
+            ≡ firstBroken (ruledChecks (profileOf how .elements) (tagIn v) v)
+        ruled-is = ruled-own (right nt) t ∙ ap (λ (k : ℕ). firstBroken (ruledChecks (profileOf how .elements) k v)) tag-known
 
         -- 9, 8, 10, 11
         pub judges-element : (d : Verdict)
-            → d ≡ firstBroken (ruledChecks (nonconformance .elements) t (layoutView s starts layout (how .separators .component)))
-            → (n e : ℕ) → d ≡ Faulty n e → Judges rows h v (Broken n e)
-        judges-element d is n e q = bad-element nonconformance rows h v (nt .data-only) known-tag ends x fits n e (sym ruled-is ∙ sym is ∙ q)
+            → d ≡ firstBroken (ruledChecks (profileOf how .elements) t (layoutView s starts layout (how .separators .component)))
+            → (n e : ℕ) → d ≡ Faulty n e → Judges (profileOf how) rows h v (Broken n e)
+        judges-element d is n e q = bad-element (profileOf how) rows h v (nt .data-only) known-tag ends x fits n e (sym ruled-is ∙ sym is ∙ q)
 
-        module _ (elements : Keeps (ruledChecks (nonconformance .elements) (tagIn v) v)) where
+        module _ (elements : Keeps (ruledChecks (profileOf how .elements) (tagIn v) v)) where
           -- 12, 13, 14, 15 of an HL
-          its-claim : tagIn v ≡ tag "HL" → notedClaim s starts layout ≡ claimOf v
+          its-claim : tagIn v ≡ tag "HL" → claimIn s starts layout ≡ claimOf v
           its-claim e =
               let a = text-is nt 1 (omega arith) in
               let b = text-is nt 2 (omega arith) in
@@ -163,99 +162,98 @@ module _ {how : How} {before : Tables} {s : Bytes} {segments levels : List ℕ} 
 
           hl-no-se : T (isHL v) → T (not (isSE v))
           unfolding tagNumber
-          hl-no-se hl = rw (eqb→eq (tagIn v) 12 hl) tt
+          hl-no-se hl = rw (eqb→eq (tagIn v) (tag "HL") hl) tt
 
-          by-level : known .levels ≤ mostLevels → T (isHL v) → Judges rows h v (byLevel x (knownAfter known (claimOf v .id)) (judged (nonconformance .levels) (levelsIn nonconformance h) (claimOf v)))
+          by-level : state .known .levels ≤ mostLevels → T (isHL v) → Judges (profileOf how) rows h v (byLevel x (knownAfter (state .known) (claimOf v .id)) (judged (profileOf how .levels) (levelsIn (profileOf how) h) (claimOf v)))
           unfolding judged
           by-level few hl =
-              let checks = levelChecks (nonconformance .levels) (levelsIn nonconformance h) (claimOf v) in
+              let checks = levelChecks (profileOf how .levels) (levelsIn (profileOf how) h) (claimOf v) in
               verdict-cases (firstBroken checks)
               (λ q.
-              let level = its-level nonconformance rows h v (nt .data-only) known-tag ends x fits elements hl (keeps-holds checks .0 q) in
-              let closing = no-closing nonconformance rows h v (nt .data-only) known-tag ends x fits elements (hl-no-se hl) in
+              let level = its-level (profileOf how) rows h v (nt .data-only) known-tag ends x fits elements hl (keeps-holds checks .0 q) in
+              let closing = no-closing (profileOf how) rows h v (nt .data-only) known-tag ends x fits elements (hl-no-se hl) in
               rw q (
-                record { kept = all-kept nonconformance rows h v (nt .data-only) known-tag ends x fits elements level closing; fits = fits },
+                record { kept = all-kept (profileOf how) rows h v (nt .data-only) known-tag ends x fits elements level closing; fits = fits },
                 passes (isHL v) hl,
                 hl-no-se hl,
                 refl,
-                knows-after (st .knows) (omega (arith, st .knows .counted)) (levelOf (nonconformance .levels) (suc (length h)) (claimOf v) (levelsIn nonconformance h))
-                    (keeps-passes (nonconformance .levels) (levelsIn nonconformance h) (claimOf v) (keeps-holds checks .0 q) .new),
+                knows-after (st .knows) (omega (arith, st .knows .counted)) (levelOf (profileOf how .levels) (suc (length h)) (claimOf v) (levelsIn (profileOf how) h))
+                    (keeps-passes (profileOf how .levels) (levelsIn (profileOf how) h) (claimOf v) (keeps-holds checks .0 q) .new),
               ))
-              (λ n k q. rw q (bad-level nonconformance rows h v (nt .data-only) known-tag ends x fits elements hl n k q))
+              (λ n k q. rw q (bad-level (profileOf how) rows h v (nt .data-only) known-tag ends x fits elements hl n k q))
 
           -- 16 and 15 of an SE
           se-no-hl : T (isSE v) → T (not (isHL v))
           unfolding tagNumber
-          se-no-hl se = rw (eqb→eq (tagIn v) 33 se) tt
+          se-no-hl se = rw (eqb→eq (tagIn v) (tag "SE") se) tt
 
-          by-closing : T (isSE v) → Judges rows h v (byClosing x (firstBroken (closingChecks nonconformance h v)))
+          by-closing : T (isSE v) → Judges (profileOf how) rows h v (byClosing x (firstBroken (closingChecks (profileOf how) h v)))
           by-closing se =
-              let checks = closingChecks nonconformance h v in
+              let checks = closingChecks (profileOf how) h v in
               verdict-cases (firstBroken checks)
               (λ q.
-              let level = no-level nonconformance rows h v (nt .data-only) known-tag ends x fits elements (se-no-hl se) in
-              let closing = its-closing nonconformance rows h v (nt .data-only) known-tag ends x fits elements se (keeps-holds checks .0 q) in
+              let level = no-level (profileOf how) rows h v (nt .data-only) known-tag ends x fits elements (se-no-hl se) in
+              let closing = its-closing (profileOf how) rows h v (nt .data-only) known-tag ends x fits elements se (keeps-holds checks .0 q) in
               rw q (
-                record { kept = all-kept nonconformance rows h v (nt .data-only) known-tag ends x fits elements level closing; fits = fits },
+                record { kept = all-kept (profileOf how) rows h v (nt .data-only) known-tag ends x fits elements level closing; fits = fits },
                 not-passes (isHL v) (se-no-hl se),
                 se,
               ))
-              (λ n k q. rw q (bad-closing nonconformance rows h v (nt .data-only) known-tag ends x fits elements (se-no-hl se) se n k q))
+              (λ n k q. rw q (bad-closing (profileOf how) rows h v (nt .data-only) known-tag ends x fits elements (se-no-hl se) se n k q))
 
           -- an SE is not the first segment
-          some-before : tagIn v ≡ tag "SE" → 0 < count
+          some-before : tagIn v ≡ tag "SE" → 0 < state .count
           some-before e = omega (arith, st .count-is, st .rows-are, late-row rows x (fits .viable) (fits .tagged ∙ e))
 
           its-closing-tests : tagIn v ≡ tag "SE"
-              → notedClosing s (how .separators .element) starts layout segments levels count (known .levels) ≡ closingChecks nonconformance h v
+              → closingIn s (how .separators .element) starts layout segments levels state ≡ closingChecks (profileOf how) h v
           its-closing-tests e =
               let total : numberOf (elementIn s starts layout 1) ≡ valueOf (textOf (elementOf v 1)) =
               ap numberOf (text-is nt 1 (omega arith) ∙ sym (se-count (how .separators) g elements e)) ∙ counted-number (how .separators) g elements e in
               let control : elementIn s starts layout 2 ≡ textOf (elementOf v 2) =
               text-is nt 2 (omega arith) ∙ sym (se-control (how .separators) g elements e) in
-              let first = control-of-first how before s segments levels at count row again known gs rows (some-before e) st in
-              let long : suc count ≡ suc (length h) = omega (arith, history-long how gs, st .count-is) in
+              let first = control-of-first how before s segments levels at state gs rows (some-before e) st in
+              let long : suc (state .count) ≡ suc (length h) = omega (arith, history-long how gs, st .count-is) in
               rw (total, control, first, long, st .tells .levels-are) refl
 
           -- what the layout and tables say of an HL and of an SE
           abbrev hl-says : Judgement
-          hl-says = byLevel x (knownAfter known (elementIn s starts layout 1))
-              (judged (nonconformance .levels) (tableLevels s (how .separators .element) segments levels (known .levels)) (notedClaim s starts layout))
+          hl-says = byLevel x (knownAfter (state .known) (elementIn s starts layout 1))
+              (judged (profileOf how .levels) (tableLevels s (how .separators .element) segments levels (state .known .levels)) (claimIn s starts layout))
 
           abbrev se-says : Judgement
-          se-says = byClosing x (firstBroken (notedClosing s (how .separators .element) starts layout segments levels count (known .levels)))
+          se-says = byClosing x (firstBroken (closingIn s (how .separators .element) starts layout segments levels state))
 
           -- what the late rules say
-          judges-late : known .levels ≤ mostLevels → (state : State) → state .count ≡ count → state .known ≡ known
-              → Judges rows h v (lateJudgement (how .separators .element) s starts layout state segments levels t x)
-          unfolding tagNumber
-          judges-late few state counted levelled = rw (counted, levelled) (by (eqb t 12) (eqb t 33) refl refl)
+          judges-late : state .known .levels ≤ mostLevels → Judges (profileOf how) rows h v (lateJudgement how s starts layout state segments levels t x)
+          judges-late few = by (eqb t (tag "HL")) (eqb t (tag "SE")) refl refl
             where
-              by : (a b : Bool) → eqb t 12 ≡ a → eqb t 33 ≡ b → Judges rows h v (cond a hl-says (cond b se-says (Plain x)))
+              by : (a b : Bool) → eqb t (tag "HL") ≡ a → eqb t (tag "SE") ≡ b → Judges (profileOf how) rows h v (cond a hl-says (cond b se-says (Plain x)))
               by true b p q =
-                  let e : tagIn v ≡ 12 = sym tag-known ∙ eqb→eq t 12 (rw p tt) in
+                  let e : tagIn v ≡ tag "HL" = sym tag-known ∙ eqb→eq t (tag "HL") (rw p tt) in
                   rw (st .tells .levels-are)
-                  (subst (λ (c : Claim). Judges rows h v (byLevel x (knownAfter known (c .id)) (judged (nonconformance .levels) (levelsIn nonconformance h) c)))
-                  (sym (its-claim e)) (by-level few (rw e tt)))
+                  (subst (λ (c : Claim). Judges (profileOf how) rows h v (byLevel x (knownAfter (state .known) (c .id)) (judged (profileOf how .levels) (levelsIn (profileOf how) h) c)))
+                  (sym (its-claim e)) (by-level few (equal-eqb (tagIn v) (tag "HL") e)))
               by false true p q =
-                  let e : tagIn v ≡ 33 = sym tag-known ∙ eqb→eq t 33 (rw q tt) in
-                  subst (λ (cs : List Check). Judges rows h v (byClosing x (firstBroken cs))) (sym (its-closing-tests e)) (by-closing (rw e tt))
+                  let e : tagIn v ≡ tag "SE" = sym tag-known ∙ eqb→eq t (tag "SE") (rw q tt) in
+                  subst (λ (cs : List Check). Judges (profileOf how) rows h v (byClosing x (firstBroken cs))) (sym (its-closing-tests e)) (by-closing (equal-eqb (tagIn v) (tag "SE") e))
               by false false p q =
                   let hl : T (not (isHL v)) = rw (← tag-known, p) tt in
                   let se : T (not (isSE v)) = rw (← tag-known, q) tt in
-                  let level = no-level nonconformance rows h v (nt .data-only) known-tag ends x fits elements hl in
-                  let closing = no-closing nonconformance rows h v (nt .data-only) known-tag ends x fits elements se in (
-                    record { kept = all-kept nonconformance rows h v (nt .data-only) known-tag ends x fits elements level closing; fits = fits },
+                  let level = no-level (profileOf how) rows h v (nt .data-only) known-tag ends x fits elements hl in
+                  let closing = no-closing (profileOf how) rows h v (nt .data-only) known-tag ends x fits elements se in (
+                    record { kept = all-kept (profileOf how) rows h v (nt .data-only) known-tag ends x fits elements level closing; fits = fits },
                     not-passes (isHL v) hl,
                     se,
                   )
 
         -- 12 to 16, where those hold
         pub judges-rest : (d : Verdict)
-            → d ≡ firstBroken (ruledChecks (nonconformance .elements) t (layoutView s starts layout (how .separators .component)))
-            → d ≡ Holds → (state : State) → state .count ≡ count → state .known ≡ known → known .levels ≤ mostLevels
-            → (j : Judgement) → JudgesLate (how .separators .element) s starts layout state segments levels t x j → Judges rows h v j
-        judges-rest d is q state counted levelled few j says =
+            → d ≡ firstBroken (ruledChecks (profileOf how .elements) t (layoutView s starts layout (how .separators .component)))
+            → d ≡ Holds → state .known .levels ≤ mostLevels → (j : Judgement) → JudgesLate how s starts layout state segments levels t x j
+            → Judges (profileOf how) rows h v j
+        judges-rest d is q few j says =
             let knows : Knows (state .known) (tableLevels s (how .separators .element) segments levels (state .known .levels)) =
-            rw (levelled, st .tells .levels-are) (st .knows) in
-            subst (λ (j : Judgement). Judges rows h v j) (sym (says knows)) (judges-late (keeps-holds (ruledChecks (nonconformance .elements) (tagIn v) v) .0 (sym ruled-is ∙ sym is ∙ q)) few state counted levelled)
+            rw (st .tells .levels-are) (st .knows) in
+            let elements = keeps-holds (ruledChecks (profileOf how .elements) (tagIn v) v) .0 (sym ruled-is ∙ sym is ∙ q) in
+            subst (λ (j : Judgement). Judges (profileOf how) rows h v j) (sym (says knows)) (judges-late elements few)

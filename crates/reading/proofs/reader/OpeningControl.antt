@@ -26,6 +26,7 @@ use Rattle.elements.specs.Data.{value, rulesSE}
 use Rattle.elements.specs.Checks.{Keeps}
 use Rattle.elements.specs.Rules.{ruleOf, headed, fitsSimple, tooManyChecks, missingChecks, unfitChecks, noteChecks, checksBy, ruledChecks, presentAt}
 use Rattle.types.specs.declared.kind.Kind.the-variants.{N0}
+use Rattle.levels.specs.Widths.{segmentWidth}
 use Rattle.levels.specs.Levels.{textOf}
 use Rattle.gate.specs.Profile.{nonconformance}
 use Rattle.gate.specs.Segments.{tagIn, seen, onto, opening}
@@ -36,7 +37,7 @@ use Rattle.reading.specs.internal.Judgements.{openingControl}
 use Rattle.gate.specs.declared.how.How.{How}
 use Rattle.gate.proofs.reading.Laws.{keeps-split, opening-onto, keeps-at}
 use Rattle.gate.proofs.reading.ElementTexts.{ruled-simple, se-rules, st-control}
-use Rattle.finding.specs.declared.known.Known.{Known}
+use Rattle.reading.specs.declared.judging.State.{State}
 
 -- row 1 is ST's
 tag-1 : tagOf 1 ≡ tag "ST"
@@ -44,18 +45,18 @@ unfolding tagOf rowAt list842 tagNumber
 tag-1 = refl
 
 -- the ST's control number, where a segment was passed
-pub control-of-first : (how : How) (before : Tables) (s : Bytes) (segments levels : List ℕ) (at count row : ℕ) (again : Bool) (known : Known)
-    (gs : List Placed) (rows : List ℕ) → 0 < count → Standing how before s segments levels at count row again known gs rows
+pub control-of-first : (how : How) (before : Tables) (s : Bytes) (segments levels : List ℕ) (at : ℕ) (state : State)
+    (gs : List Placed) (rows : List ℕ) → 0 < state .count → Standing how before s segments levels at state gs rows
     → openingControl s (how .separators .element) segments ≡ textOf (elementOf (opening (onto [] (seen how gs))) 2)
 unfolding openingControl
-control-of-first how before s segments levels at count row again known [] rows some st = absurd (omega (arith, st .count-is))
-control-of-first how before s segments levels at count row again known (g ∷ gs) [] some st = absurd (omega (arith, st .rows-are))
-control-of-first how before s segments levels at count row again known (g ∷ gs) (r ∷ rows) some st =
+control-of-first how before s segments levels at state [] rows some st = absurd (omega (arith, st .count-is))
+control-of-first how before s segments levels at state (g ∷ gs) [] some st = absurd (omega (arith, st .rows-are))
+control-of-first how before s segments levels at state (g ∷ gs) (r ∷ rows) some st =
     let q = how .separators in
     let l = st .passed .leads in
     let w : CutLaw (q .terminator) (cutBy how) s (Whole (g .segment) (l .0)) = subst (λ (c : Cut). CutLaw (q .terminator) (cutBy how) s c) (l .1) (cut-law q s) in
     let long : getD segments 1 0 ≡ length (g .segment) = ap (λ (t : List ℕ). getD t 1 0) (st .segments-are) in
-    let wide : 3 ≤ length segments = rw (st .segments-are) (omega arith) in
+    let wide : segmentWidth ≤ length segments = rw (st .segments-are) (omega arith) in
     let inside : length (g .segment) ≤ length s = omega (arith, ap length (w .0) ∙ length-append (g .segment) (q .terminator ∷ l .0)) in
     let front : take (length (g .segment)) s ≡ g .segment = ap (take (length (g .segment))) (w .0) ∙ take-append-seam (g .segment) (q .terminator ∷ l .0) in
     let first : r ≡ 1 = viable-iff r rows .0 (st .passed .viable) .0 in
@@ -63,7 +64,7 @@ control-of-first how before s segments levels at count row again known (g ∷ gs
     let v = viewOf q (g .segment) in
     let text = st-control q (g .segment) (st .passed .kept .0 .elements) st-tag in
     let o : opening (onto [] (seen how (g ∷ gs))) ≡ v = opening-onto v [] (seen how gs) in
-    rw (le-ltb (length segments) 3 wide, long, le-ltb (length s) (length (g .segment)) inside, front, o) (sym text)
+    rw (le-ltb (length segments) segmentWidth wide, long, le-ltb (length s) (length (g .segment)) inside, front, o) (sym text)
 
 -- SE01 is one to ten digits, so its number is worked out
 first-there : (v : View) → Keeps (checksBy rulesSE v) → T (present (elementOf v 1))

@@ -1,22 +1,17 @@
 -- An HL judged by the levels before it.
 -- Assumes nothing.
 use Prim.Native.Nat.{ℕ}
-use mathlib.Core.Path.{_≡_, sym, ap, _∙_}
+use mathlib.Core.Path.{_≡_, sym, _∙_}
 use mathlib.Core.Bool.{Bool, true, false}
 use mathlib.Core.List.{List}
 use lib.Dec.{eqb}
 use lib.ListN.{length}
 use borrow.Author.Tests.{eqb-true, eqb-false}
-use Rattle.text.specs.Bytes.{Bytes}
 use Rattle.levels.specs.Profile.{nonconformance}
 use Rattle.levels.specs.Levels.{Claim, Level, called, levelAt}
 use Rattle.levels.specs.internal.Answers.{judged, judgedRoot, judgedChild, asParent}
-use Rattle.finding.specs.declared.known.Known.{Known}
-use Rattle.finding.specs.internal.Knows.{knownAfter}
 use Rattle.levels.specs.declared.judging.Judged.{Judged}
 use Rattle.levels.specs.declared.judging.Judged.the-variants.{Refused}
-use Rattle.reading.specs.internal.Judgements.{byLevel}
-use Rattle.reading.proofs.reader.ClosingTests.{claims-same}
 use Rattle.levels.proofs.HlAnswers.{judged-used, judged-root, judged-nobody, judged-child}
 
 module _ (ls : List Level) (c : Claim) (new : Bool) (tested : new ≡ eqb (called (c .id) ls) 0) where
@@ -41,13 +36,3 @@ module _ (ls : List Level) (c : Claim) (new : Bool) (tested : new ≡ eqb (calle
       pub placed-under : (above ≡ 0 → ⊥) → (l : Level) → l ≡ levelAt above ls → (r : Judged)
           → r ≡ judgedChild nonconformance (asParent above l) (c .code) (c .mark) → r ≡ judged nonconformance ls c
       placed-under named l m r is = is ∙ judged-child ls c fresh above found some named l m
-
--- the answer as a judgement, where it is k, by elements that are equal to those judged
-pub hl-judged : (ls : List Level) (a a′ b b′ c c′ d d′ : Bytes) (row : ℕ) (known after : Known) (j k : Judged) → a ≡ a′ → b ≡ b′ → c ≡ c′ → d ≡ d′ → after ≡ knownAfter known a
-    → j ≡ judged nonconformance ls (record { id = a; parent = b; code = c; mark = d }) → j ≡ k
-    → byLevel row after k ≡ byLevel row (knownAfter known a′) (judged nonconformance ls (record { id = a′; parent = b′; code = c′; mark = d′ }))
-hl-judged ls a a′ b b′ c c′ d d′ row known after j k p q r s e is so =
-    let knows : after ≡ knownAfter known a′ = e ∙ ap (knownAfter known) p in
-    let answers : k ≡ judged nonconformance ls (record { id = a′; parent = b′; code = c′; mark = d′ }) =
-    sym so ∙ is ∙ claims-same ls a a′ b b′ c c′ d d′ p q r s in
-    λ i. byLevel row (knows i) (answers i)

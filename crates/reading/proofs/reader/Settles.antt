@@ -13,7 +13,8 @@ use borrow.Author.Tests.{ltb-true, ltb-false}
 use Rattle.text.specs.Bytes.{Bytes}
 use Rattle.text.specs.View.{View, viewOf}
 use Rattle.text.specs.Cut.{Placed}
-use Rattle.gate.specs.Profile.{nonconformance}
+use Rattle.gate.specs.Profile.{profileOf}
+use Rattle.levels.specs.Widths.{segmentWidth, levelWidth}
 use Rattle.gate.specs.Segments.{seen, onto}
 use Rattle.gate.specs.Records.{Tables, Room}
 use Rattle.reading.specs.internal.Judgements.{Judges}
@@ -25,6 +26,7 @@ use Rattle.reading.specs.declared.judging.Judgement.{Judgement}
 use Rattle.reading.specs.declared.judging.Judgement.the-variants.{Broken, Plain, Level, Last}
 use Rattle.elements.specs.declared.layout.Layout.{Layout}
 use Rattle.reading.specs.declared.judging.State.{State}
+use Rattle.reading.specs.declared.storing.Entry.{Entry}
 use Rattle.reading.specs.declared.settling.Step.{Step}
 use Rattle.gate.specs.Rules.{Sound}
 use Rattle.reading.proofs.reader.Standings.{standing-refuses, no-segment-room, no-level-room, standing-plain, standing-level, standing-closes, history-long}
@@ -51,8 +53,8 @@ module _ {how : How} {before : Tables} {s : Bytes} {segments levels : List ℕ} 
   judged-so k q = subst (λ (x : Judgement). Settling how before s segments levels layout state gs rows g more x) q t
 
   -- what the judgement says
-  says : (k : Judgement) → j ≡ k → Judges rows h v k
-  says k q = subst (λ (x : Judgement). Judges rows h v x) q (t .right)
+  says : (k : Judgement) → j ≡ k → Judges (profileOf how) rows h v k
+  says k q = subst (λ (x : Judgement). Judges (profileOf how) rows h v x) q (t .right)
 
   -- how long the segment is
   long : layout .end - layout .at ≡ length g
@@ -69,7 +71,7 @@ module _ {how : How} {before : Tables} {s : Bytes} {segments levels : List ℕ} 
       (standing-refuses (t .standing) n e (inr (inl (record { segment = g; more = more; next = t .cut; first = says (Broken n e) q }))))
 
   -- 17
-  full : (row : ℕ) → Sound nonconformance rows h v row → (Room nonconformance before (v ∷ h) → ⊥) → (r : Step) → r ≡ refusedAt 17 layout state 0
+  full : (row : ℕ) → Sound (profileOf how) rows h v row → (Room (profileOf how) before (v ∷ h) → ⊥) → (r : Step) → r ≡ refusedAt 17 layout state 0
       → Settles how before s layout segments levels r
   full row sound none r is =
       rw is
@@ -82,28 +84,28 @@ module _ {how : How} {before : Tables} {s : Bytes} {segments levels : List ℕ} 
         element-is = refl;
       }))))
 
-  pub full-plain : (row : ℕ) → j ≡ Plain row → length segments / 3 ≤ state .count → (r : Step) → r ≡ refusedAt 17 layout state 0
+  pub full-plain : (row : ℕ) → j ≡ Plain row → length segments / segmentWidth ≤ state .count → (r : Step) → r ≡ refusedAt 17 layout state 0
       → Settles how before s layout segments levels r
   full-plain row q l = full row (says (Plain row) q .0) (no-segment-room (t .standing) g more (t .cut) (t .whole) l)
 
-  pub full-level : (row parent depth code : ℕ) (known : Known) → j ≡ Level row parent depth code known → length segments / 3 ≤ state .count → (r : Step)
+  pub full-level : (row : ℕ) (entry : Entry) (known : Known) → j ≡ Level row entry known → length segments / segmentWidth ≤ state .count → (r : Step)
       → r ≡ refusedAt 17 layout state 0 → Settles how before s layout segments levels r
-  full-level row parent depth code known q l =
-      full row (says (Level row parent depth code known) q .0) (no-segment-room (t .standing) g more (t .cut) (t .whole) l)
+  full-level row entry known q l =
+      full row (says (Level row entry known) q .0) (no-segment-room (t .standing) g more (t .cut) (t .whole) l)
 
-  pub full-levels : (row parent depth code : ℕ) (known : Known) → j ≡ Level row parent depth code known → length levels / 4 ≤ state .known .levels → (r : Step)
+  pub full-levels : (row : ℕ) (entry : Entry) (known : Known) → j ≡ Level row entry known → length levels / levelWidth ≤ state .known .levels → (r : Step)
       → r ≡ refusedAt 17 layout state 0 → Settles how before s layout segments levels r
-  full-levels row parent depth code known q l =
-      let p = says (Level row parent depth code known) q in
+  full-levels row entry known q l =
+      let p = says (Level row entry known) q in
       full row (p .0) (no-level-room (t .standing) g more (t .cut) (t .whole) (p .1) l)
 
-  pub full-last : (row : ℕ) → j ≡ Last row → length segments / 3 ≤ state .count → (r : Step) → r ≡ refusedAt 17 layout state 0
+  pub full-last : (row : ℕ) → j ≡ Last row → length segments / segmentWidth ≤ state .count → (r : Step) → r ≡ refusedAt 17 layout state 0
       → Settles how before s layout segments levels r
   full-last row q l = full row (says (Last row) q .0) (no-segment-room (t .standing) g more (t .cut) (t .whole) l)
 
   -- passed
-  pub settles-plain : (row : ℕ) → j ≡ Plain row → state .count < length segments / 3 → (segments′ : List ℕ)
-      → segments′ ≡ storedAt 3 segments (state .count) (layout .at ∷ (layout .end - layout .at) ∷ row ∷ []) → (after : State)
+  pub settles-plain : (row : ℕ) → j ≡ Plain row → state .count < length segments / segmentWidth → (segments′ : List ℕ)
+      → segments′ ≡ storedAt segmentWidth segments (state .count) (layout .at ∷ (layout .end - layout .at) ∷ row ∷ []) → (after : State)
       → after ≡ stateAfter state row (state .known) → Stands how before s segments′ levels (layout .end + 1) after
   settles-plain row q room segments′ stored after is =
       let p = says (Plain row) q in
@@ -113,24 +115,24 @@ module _ {how : How} {before : Tables} {s : Bytes} {segments levels : List ℕ} 
         standing = standing-plain (t .standing) g more (t .cut) (t .whole) row (p .0) (p .1) (p .2) room;
       })
 
-  pub settles-level : (row parent depth code : ℕ) (known : Known) → j ≡ Level row parent depth code known → state .count < length segments / 3 → state .known .levels < length levels / 4
-      → (segments′ : List ℕ) → segments′ ≡ storedAt 3 segments (state .count) (layout .at ∷ (layout .end - layout .at) ∷ row ∷ []) → (levels′ : List ℕ)
-      → levels′ ≡ storedAt 4 levels (state .known .levels) ((state .count + 1) ∷ parent ∷ depth ∷ code ∷ []) → (after : State)
+  pub settles-level : (row : ℕ) (entry : Entry) (known : Known) → j ≡ Level row entry known → state .count < length segments / segmentWidth → state .known .levels < length levels / levelWidth
+      → (segments′ : List ℕ) → segments′ ≡ storedAt segmentWidth segments (state .count) (layout .at ∷ (layout .end - layout .at) ∷ row ∷ []) → (levels′ : List ℕ)
+      → levels′ ≡ storedAt levelWidth levels (state .known .levels) ((state .count + 1) ∷ entry .parent ∷ entry .depth ∷ entry .code ∷ []) → (after : State)
       → after ≡ stateAfter state row known → Stands how before s segments′ levels′ (layout .end + 1) after
-  settles-level row parent depth code known q room level-room segments′ stored levels′ stored′ after is =
-      let p = says (Level row parent depth code known) q in
+  settles-level row entry known q room level-room segments′ stored levels′ stored′ after is =
+      let p = says (Level row entry known) q in
       let number : suc (length h) ≡ state .count + 1 = omega (arith, history-long how gs, t .standing .count-is) in
       rw (stored, stored′, is, long, ← next-at) (record {
         gs = gs ++ (record { at = layout .at; segment = g } ∷ []);
         rows = rows ++ (row ∷ []);
         standing =
             standing-level (t .standing) g more (t .cut) (t .whole) (t .fit) row (p .0) (p .1) (p .2) room level-room _
-            (ap (λ (n : ℕ). n ∷ parent ∷ depth ∷ code ∷ []) (sym number) ∙ p .3) known (p .4);
+            (ap (λ (n : ℕ). n ∷ entry .parent ∷ entry .depth ∷ entry .code ∷ []) (sym number) ∙ p .3) known (p .4);
       })
 
   -- accepted
-  pub settles-last : (row : ℕ) → j ≡ Last row → state .count < length segments / 3 → (segments′ : List ℕ)
-      → segments′ ≡ storedAt 3 segments (state .count) (layout .at ∷ (layout .end - layout .at) ∷ row ∷ [])
+  pub settles-last : (row : ℕ) → j ≡ Last row → state .count < length segments / segmentWidth → (segments′ : List ℕ)
+      → segments′ ≡ storedAt segmentWidth segments (state .count) (layout .at ∷ (layout .end - layout .at) ∷ row ∷ [])
       → (r : Step) → r ≡ acceptedAt layout state → Settles how before s layout segments′ levels r
   settles-last row q room segments′ stored r is =
       let p = says (Last row) q in

@@ -21,7 +21,8 @@ use Rattle.levels.specs.Rules.{levelChecks}
 use Rattle.finding.specs.internal.Entries.{storedAt}
 use Rattle.levels.specs.internal.Everyone.{Everyone}
 use Rattle.levels.proofs.Depth.{Within4}
-use Rattle.gate.specs.Profile.{nonconformance}
+use Rattle.gate.specs.Profile.{Profile, profileOf}
+use Rattle.levels.specs.Widths.{segmentWidth, levelWidth}
 use Rattle.gate.specs.Segments.{tagIn, isHL, isSE, seen, onto, levelsIn}
 use Rattle.gate.specs.Rules.{hlChecks, Kept, Sound}
 use Rattle.gate.specs.Records.{Tables, segmentRecords, levelRecords, Room, over}
@@ -37,6 +38,9 @@ use Rattle.gate.proofs.continuing.LevelNames.{levels-hl, levels-other}
 use Rattle.gate.proofs.reading.Reference.{passed-none, passed-more}
 use Rattle.finding.proofs.KnownLevels.{knows-none}
 use Rattle.finding.specs.declared.known.Known.{Known}
+use Rattle.reading.specs.declared.judging.State.{State}
+use Rattle.reading.specs.internal.Settling.{stateAfter}
+use Rattle.reading.specs.internal.Judgements.{newLevel}
 use Rattle.finding.specs.internal.Knows.{Knows, knownNone}
 use Rattle.finding.proofs.StoredLevels.{holds-none, holds-segment, holds-level}
 
@@ -53,10 +57,6 @@ over-stored width table records n numbers l m =
     let long : length (records ++ numbers) ≡ n * width + width = length-append records numbers ∙ omega (arith, l, m) in
     rw (front, back, long) (sym (append-assoc records numbers (drop (n * width + width) table)))
 
--- no record: the table as it was
-over-none : (table : List ℕ) → table ≡ over table []
-over-none table = refl
-
 over-long : (table records : List ℕ) → length records ≤ length table → length (over table records) ≡ length table
 over-long table records h = simp (length-append, length-drop) (omega arith)
 
@@ -69,12 +69,12 @@ records-more how h (f ∷ gs) [] g r l = absurd (omega arith)
 records-more how h (f ∷ gs) (x ∷ rows) g r l =
     ap (λ (k : List ℕ). f .at ∷ length (f .segment) ∷ x ∷ k) (records-more how (viewOf (how .separators) (f .segment) ∷ h) gs rows g r (omega arith))
 
-records-long : (how : How) (h : List View) (gs : List Placed) (rows : List ℕ) → length rows ≡ length gs → length (segmentRecords how h gs rows) ≡ length gs * 3
+records-long : (how : How) (h : List View) (gs : List Placed) (rows : List ℕ) → length rows ≡ length gs → length (segmentRecords how h gs rows) ≡ length gs * segmentWidth
 records-long how h [] rows l = refl
 records-long how h (g ∷ gs) [] l = absurd (omega arith)
 records-long how h (g ∷ gs) (r ∷ rows) l = omega (arith, records-long how (viewOf (how .separators) (g .segment) ∷ h) gs rows (omega arith))
 
-level-records-long : (ls : List Level) → length (recordsOf ls) ≡ length ls * 4
+level-records-long : (ls : List Level) → length (recordsOf ls) ≡ length ls * levelWidth
 level-records-long [] = refl
 level-records-long (l ∷ ls) = length-append (recordsOf ls) (recordOf l) ∙ omega (arith, level-records-long ls)
 
@@ -86,18 +86,11 @@ twice-more : (r : ℕ) (already : Bool) (w : List ℕ) (x : ℕ) → twice r alr
 twice-more r already [] x = refl
 twice-more r already (y ∷ w) x = twice-more y (eqb y r) w x
 
--- an HL that keeps its rules has a new HL01
-new-name : (h : List View) (v : View) → isHL v ≡ true → Keeps (hlChecks nonconformance h v) → called (claimOf v .id) (levelsIn nonconformance h) ≡ 0
-unfolding hlChecks
-new-name h v e k =
-    let kept : Keeps (levelChecks (nonconformance .levels) (levelsIn nonconformance h) (claimOf v)) = rw e at k in
-    eqb→eq (called (claimOf v .id) (levelsIn nonconformance h)) 0 (kept .0)
-
 -- at the start
-pub standing-start : (how : How) (before : Tables) (s : Bytes) → Standing how before s (before .segments) (before .levels) 0 0 0 false knownNone [] []
+pub standing-start : (how : How) (before : Tables) (s : Bytes) → Standing how before s (before .segments) (before .levels) 0 (record { count = 0; row = 0; again = false; known = knownNone }) [] []
 unfolding levelsIn
 standing-start how before s = record {
-  passed = passed-none nonconformance how before s;
+  passed = passed-none (profileOf how) how before s;
   segments-are = refl;
   levels-are = refl;
   count-is = refl;
@@ -108,8 +101,11 @@ standing-start how before s = record {
   knows = knows-none;
 }
 
-module _ {how : How} {before : Tables} {s : Bytes} {segments levels : List ℕ} {at count row : ℕ} {again : Bool} {known : Known} {gs : List Placed} {rows : List ℕ}
-    (st : Standing how before s segments levels at count row again known gs rows) where
+module _ {how : How} {before : Tables} {s : Bytes} {segments levels : List ℕ} {at : ℕ} {state : State} {gs : List Placed} {rows : List ℕ}
+    (st : Standing how before s segments levels at state gs rows) where
+  abbrev profile : Profile
+  profile = profileOf how
+
   abbrev before-views : List View
   before-views = onto [] (seen how gs)
 
@@ -123,12 +119,12 @@ module _ {how : How} {before : Tables} {s : Bytes} {segments levels : List ℕ} 
   pub levels-long : length levels ≡ length (before .levels)
   levels-long =
       ap length (st .levels-are)
-      ∙ over-long (before .levels) (levelRecords nonconformance how gs)
-      (omega (arith, level-records-long (levelsIn nonconformance before-views), st .passed .room .levels-fit))
+      ∙ over-long (before .levels) (levelRecords profile how gs)
+      (omega (arith, level-records-long (levelsIn profile before-views), st .passed .room .levels-fit))
 
   -- a refusal at the next segment
-  pub standing-refuses : (n e : ℕ) → Fails nonconformance how before gs rows at (drop at s) n e
-      → Read nonconformance how s before (Refused n (count + 1) at e) (record { segments = segments; levels = levels })
+  pub standing-refuses : (n e : ℕ) → Fails profile how before gs rows at (drop at s) n e
+      → Read profile how s before (Refused n (state .count + 1) at e) (record { segments = segments; levels = levels })
   standing-refuses n e f = record {
     kept = gs;
     numbers = rows;
@@ -165,61 +161,61 @@ module _ {how : How} {before : Tables} {s : Bytes} {segments levels : List ℕ} 
         ∙ onto-append [] (seen how gs) (v ∷ [])
 
     -- the segment table with its record
-    segments-more : (r : ℕ) → storedAt 3 segments count (at ∷ length g ∷ r ∷ []) ≡ over (before .segments) (segmentRecords how [] gs′ (rows ++ (r ∷ [])))
+    segments-more : (r : ℕ) → storedAt segmentWidth segments (state .count) (at ∷ length g ∷ r ∷ []) ≡ over (before .segments) (segmentRecords how [] gs′ (rows ++ (r ∷ [])))
     segments-more r =
-        ap (λ (t : List ℕ). storedAt 3 t count (at ∷ length g ∷ r ∷ [])) (st .segments-are)
-        ∙ over-stored 3 (before .segments) (segmentRecords how [] gs rows) count (at ∷ length g ∷ r ∷ [])
-        (records-long how [] gs rows (st .rows-are) ∙ ap (λ (k : ℕ). k * 3) (st .count-is)) refl
+        ap (λ (t : List ℕ). storedAt segmentWidth t (state .count) (at ∷ length g ∷ r ∷ [])) (st .segments-are)
+        ∙ over-stored segmentWidth (before .segments) (segmentRecords how [] gs rows) (state .count) (at ∷ length g ∷ r ∷ [])
+        (records-long how [] gs rows (st .rows-are) ∙ ap (λ (k : ℕ). k * segmentWidth) (st .count-is)) refl
         ∙ ap (over (before .segments)) (sym (records-more how [] gs rows (record { at = at; segment = g }) r (st .rows-are)))
 
     -- room for a segment, and for one that makes a level
-    pub room-plain : isHL v ≡ false → count < length segments / 3 → Room nonconformance before (v ∷ before-views)
+    pub room-plain : isHL v ≡ false → state .count < length segments / segmentWidth → Room profile before (v ∷ before-views)
     room-plain hl l = record {
       segments-fit = omega (arith, segments-long, history-long how gs, st .count-is);
       levels-fit = rw (levels-other before-views v hl) (st .passed .room .levels-fit);
     }
 
-    pub room-level : isHL v ≡ true → count < length segments / 3 → known .levels < length levels / 4 → Room nonconformance before (v ∷ before-views)
+    pub room-level : isHL v ≡ true → state .count < length segments / segmentWidth → state .known .levels < length levels / levelWidth → Room profile before (v ∷ before-views)
     room-level hl l m = record {
       segments-fit = omega (arith, segments-long, history-long how gs, st .count-is);
       levels-fit = rw (levels-hl before-views v hl) (omega (arith, levels-long, st .knows .counted));
     }
 
     -- no room
-    pub no-segment-room : length segments / 3 ≤ count → Room nonconformance before (v ∷ before-views) → ⊥
+    pub no-segment-room : length segments / segmentWidth ≤ state .count → Room profile before (v ∷ before-views) → ⊥
     no-segment-room l r = omega (arith, segments-long, history-long how gs, st .count-is, r .segments-fit)
 
-    pub no-level-room : isHL v ≡ true → length levels / 4 ≤ known .levels → Room nonconformance before (v ∷ before-views) → ⊥
+    pub no-level-room : isHL v ≡ true → length levels / levelWidth ≤ state .known .levels → Room profile before (v ∷ before-views) → ⊥
     no-level-room hl l r =
-        let f : suc (length (levelsIn nonconformance before-views)) ≤ length (before .levels) / 4 = rw (levels-hl before-views v hl) at (r .levels-fit) in
+        let f : suc (length (levelsIn profile before-views)) ≤ length (before .levels) / levelWidth = rw (levels-hl before-views v hl) at (r .levels-fit) in
         omega (arith, levels-long, st .knows .counted, f)
 
     -- the new place
-    passed-next : (r : ℕ) → Sound nonconformance rows before-views v r → T (not (isSE v)) → Room nonconformance before (v ∷ before-views)
-        → Passed nonconformance how before s gs′ (rows ++ (r ∷ [])) (at + length g + 1) (drop (at + length g + 1) s)
+    passed-next : (r : ℕ) → Sound profile rows before-views v r → T (not (isSE v)) → Room profile before (v ∷ before-views)
+        → Passed profile how before s gs′ (rows ++ (r ∷ [])) (at + length g + 1) (drop (at + length g + 1) s)
     passed-next r sound o room =
-        let p = passed-more nonconformance how before s gs rows at (drop at s) g more (st .passed) cut r sound o room in
+        let p = passed-more profile how before s gs rows at (drop at s) g more (st .passed) cut r sound o room in
         let e : at + length g + 1 + skipBy how more ≡ at + length g + 1 = omega arith in
-        subst (λ (x : Bytes). Passed nonconformance how before s gs′ (rows ++ (r ∷ [])) (at + length g + 1) x) (sym behind)
-        (subst (λ (x : ℕ). Passed nonconformance how before s gs′ (rows ++ (r ∷ [])) x more) e p)
+        subst (λ (x : Bytes). Passed profile how before s gs′ (rows ++ (r ∷ [])) (at + length g + 1) x) (sym behind)
+        (subst (λ (x : ℕ). Passed profile how before s gs′ (rows ++ (r ∷ [])) x more) e p)
 
-    count-more : length gs′ ≡ count + 1
+    count-more : length gs′ ≡ state .count + 1
     count-more = length-append gs (record { at = at; segment = g } ∷ []) ∙ omega (arith, st .count-is)
 
     rows-more : (r : ℕ) → length (rows ++ (r ∷ [])) ≡ length gs′
     rows-more r = length-append rows (r ∷ []) ∙ omega (arith, st .rows-are, st .count-is, count-more)
 
-    again-more : (r : ℕ) → twice 0 false (rows ++ (r ∷ [])) ≡ eqb r row
+    again-more : (r : ℕ) → twice 0 false (rows ++ (r ∷ [])) ≡ eqb r (state .row)
     again-more r = twice-more 0 false rows r ∙ ap (eqb r) (st .row-is)
 
     -- a segment that makes no level is passed
-    pub standing-plain : (r : ℕ) → Sound nonconformance rows before-views v r → isHL v ≡ false → T (not (isSE v))
-        → count < length segments / 3
-        → Standing how before s (storedAt 3 segments count (at ∷ length g ∷ r ∷ [])) levels (at + length g + 1) (count + 1) r (eqb r row) known gs′ (rows ++ (r ∷ []))
+    pub standing-plain : (r : ℕ) → Sound profile rows before-views v r → isHL v ≡ false → T (not (isSE v))
+        → state .count < length segments / segmentWidth
+        → Standing how before s (storedAt segmentWidth segments (state .count) (at ∷ length g ∷ r ∷ [])) levels (at + length g + 1) (stateAfter state r (state .known)) gs′ (rows ++ (r ∷ []))
     standing-plain r sound hl se room =
-        let same : levelsIn nonconformance (onto [] (seen how gs′)) ≡ levelsIn nonconformance before-views =
-        ap (levelsIn nonconformance) history-more ∙ levels-other before-views v hl in
-        let one : suc count ≡ count + 1 = omega arith in
+        let same : levelsIn profile (onto [] (seen how gs′)) ≡ levelsIn profile before-views =
+        ap (levelsIn profile) history-more ∙ levels-other before-views v hl in
+        let one : suc (state .count) ≡ state .count + 1 = omega arith in
         record {
           passed = passed-next r sound se (room-plain hl room);
           segments-are = segments-more r;
@@ -234,30 +230,29 @@ module _ {how : How} {before : Tables} {s : Bytes} {segments levels : List ℕ} 
 
     -- a segment that makes a level is passed
     abbrev new : Level
-    new = levelOf (nonconformance .levels) (suc (length before-views)) (claimOf v) (levelsIn nonconformance before-views)
+    new = newLevel profile rows before-views v
 
-    pub standing-level : Fitted (how .separators) → (r : ℕ) → Sound nonconformance rows before-views v r → isHL v ≡ true → T (not (isSE v))
-        → count < length segments / 3 → known .levels < length levels / 4 → (numbers : List ℕ) → numbers ≡ recordOf new → (after : Known)
-        → Knows after (new ∷ levelsIn nonconformance before-views)
-        → Standing how before s (storedAt 3 segments count (at ∷ length g ∷ r ∷ [])) (storedAt 4 levels (known .levels) numbers) (at + length g + 1) (count + 1) r (eqb r row)
-        after gs′ (rows ++ (r ∷ []))
+    pub standing-level : Fitted (how .separators) → (r : ℕ) → Sound profile rows before-views v r → isHL v ≡ true → T (not (isSE v))
+        → state .count < length segments / segmentWidth → state .known .levels < length levels / levelWidth → (numbers : List ℕ) → numbers ≡ recordOf new → (after : Known)
+        → Knows after (new ∷ levelsIn profile before-views)
+        → Standing how before s (storedAt segmentWidth segments (state .count) (at ∷ length g ∷ r ∷ [])) (storedAt levelWidth levels (state .known .levels) numbers) (at + length g + 1) (stateAfter state r after) gs′ (rows ++ (r ∷ []))
     standing-level fit r sound hl se room level-room numbers is after knows =
         let p = passed-next r sound se (room-level hl room level-room) in
-        let more-levels : levelsIn nonconformance (onto [] (seen how gs′)) ≡ new ∷ levelsIn nonconformance before-views =
-        ap (levelsIn nonconformance) history-more ∙ levels-hl before-views v hl in
-        let one : suc count ≡ count + 1 = omega arith in
-        let two : suc (known .levels) ≡ after .levels = omega (arith, st .knows .counted, knows .counted) in
-        let deep : Everyone Within4 (new ∷ levelsIn nonconformance before-views) = rw more-levels at (depths (seen how gs′) (p .kept)) in
+        let more-levels : levelsIn profile (onto [] (seen how gs′)) ≡ new ∷ levelsIn profile before-views =
+        ap (levelsIn profile) history-more ∙ levels-hl before-views v hl in
+        let one : suc (state .count) ≡ state .count + 1 = omega arith in
+        let two : suc (state .known .levels) ≡ after .levels = omega (arith, st .knows .counted, knows .counted) in
+        let deep : Everyone Within4 (new ∷ levelsIn profile before-views) = rw more-levels at (depths (seen how gs′) (p .kept)) in
         let written = hl-written (how .separators) fit s at g more whole (sound .kept .elements) (eqb→eq (tagIn v) (tag "HL") (rw hl tt)) in
         record {
           passed = p;
           segments-are = segments-more r;
           levels-are =
-              ap (λ (t : List ℕ). storedAt 4 t (known .levels) numbers) (st .levels-are)
-              ∙ over-stored 4 (before .levels) (levelRecords nonconformance how gs) (known .levels) numbers
-              (level-records-long (levelsIn nonconformance before-views) ∙ ap (λ (n : ℕ). n * 4) (st .knows .counted)) (ap length is)
+              ap (λ (t : List ℕ). storedAt levelWidth t (state .known .levels) numbers) (st .levels-are)
+              ∙ over-stored levelWidth (before .levels) (levelRecords profile how gs) (state .known .levels) numbers
+              (level-records-long (levelsIn profile before-views) ∙ ap (λ (n : ℕ). n * levelWidth) (st .knows .counted)) (ap length is)
               ∙ ap (over (before .levels))
-              (ap (λ (l : List ℕ). recordsOf (levelsIn nonconformance before-views) ++ l) is ∙ sym (ap recordsOf more-levels));
+              (ap (λ (l : List ℕ). recordsOf (levelsIn profile before-views) ++ l) is ∙ sym (ap recordsOf more-levels));
           count-is = count-more;
           rows-are = rows-more r;
           row-is = last-snoc 0 rows r;
@@ -268,13 +263,13 @@ module _ {how : How} {before : Tables} {s : Bytes} {segments levels : List ℕ} 
         }
 
     -- the SE closes the transaction
-    pub standing-closes : (r : ℕ) → Sound nonconformance rows before-views v r → isHL v ≡ false → T (isSE v) → count < length segments / 3
-        → Read nonconformance how s before (Accepted (count + 1) (known .levels) (at + length g + 1))
-        (record { segments = storedAt 3 segments count (at ∷ length g ∷ r ∷ []); levels = levels })
+    pub standing-closes : (r : ℕ) → Sound profile rows before-views v r → isHL v ≡ false → T (isSE v) → state .count < length segments / segmentWidth
+        → Read profile how s before (Accepted (state .count + 1) (state .known .levels) (at + length g + 1))
+        (record { segments = storedAt segmentWidth segments (state .count) (at ∷ length g ∷ r ∷ []); levels = levels })
     standing-closes r sound hl se room =
-        let same : levelsIn nonconformance (onto [] (seen how gs′)) ≡ levelsIn nonconformance before-views =
-        ap (levelsIn nonconformance) history-more ∙ levels-other before-views v hl in
-        let are : levels ≡ over (before .levels) (levelRecords nonconformance how gs′) =
+        let same : levelsIn profile (onto [] (seen how gs′)) ≡ levelsIn profile before-views =
+        ap (levelsIn profile) history-more ∙ levels-other before-views v hl in
+        let are : levels ≡ over (before .levels) (levelRecords profile how gs′) =
         st .levels-are ∙ ap (λ (ls : List Level). over (before .levels) (recordsOf ls)) (sym same) in
         record {
           kept = gs′;

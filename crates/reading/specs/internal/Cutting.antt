@@ -1,16 +1,16 @@
 -- What the cut of the next segment answers: the segment, rules 5 and 6 of it, and where its elements start.
 -- Assumes nothing.
-use Prim.Native.Nat.{ℕ, _+_, _≤_}
+use Prim.Native.Nat.{ℕ, _+_, _-_, _≤_}
 use mathlib.Core.Path.{_≡_}
-use mathlib.Core.Bool.{Bool, not}
+use mathlib.Core.Bool.{Bool, not, _&&_}
 use mathlib.Core.List.{List, _∷_, _++_}
-use lib.Dec.{T}
-use lib.ListN.{length, drop, getD}
+use lib.Dec.{T, eqb}
+use lib.ListN.{length, take, drop, getD}
 use Rattle.text.specs.Bytes.{Bytes}
-use Rattle.text.specs.Pieces.{Free, pieces}
+use Rattle.text.specs.Pieces.{pieces}
+use Rattle.text.specs.internal.Search.{Free, FirstAt}
 use Rattle.text.specs.View.{viewOf}
 use Rattle.text.specs.Lookup.{pieceSpan}
-use Rattle.text.specs.internal.Search.{FirstAt}
 use Rattle.text.specs.declared.separators.Separators.{Separators}
 use Rattle.elements.specs.declared.layout.Layout.{Layout}
 use Rattle.elements.specs.Checks.{Keeps}
@@ -52,6 +52,25 @@ pub record GoodSegment (q : Separators) (table : List Bool) (s : Bytes) (at : �
   pub at-is : layout .at ≡ at
   pub laid : CutAs q s starts layout segment more
   pub ready : Ready table s (layout .end + 1) queue (left .head) (left .tail) (left .seen)
+
+-- the bytes from `at` up to `end`
+abbrev pub cutOut : Bytes → ℕ → ℕ → Bytes
+cutOut s at end = take (end - at) (drop at s)
+
+-- those of the segment that the layout names
+abbrev pub segmentOf : Bytes → Layout → Bytes
+segmentOf s layout = cutOut s (layout .at) (layout .end)
+
+-- the layout of a segment with its terminator at `end`, its last element from `start` on, and its last component from `behind` on, which is `at`
+-- where it has no component separator; `ended` says that rule 6 holds of the elements before the last
+abbrev pub layoutOf : (at end count start behind : ℕ) → Bool → Layout
+layoutOf at end count start behind ended = record {
+  at = at;
+  end = end;
+  count = count;
+  single = eqb behind at;
+  ended = ((ended && not (eqb end behind)) && not (eqb end start)) && not (eqb count 0);
+}
 
 -- what `next_segment` answers
 abbrev pub Cuts : Separators → List Bool → Bytes → ℕ → List ℕ → List ℕ → Next → Type 0

@@ -1,18 +1,19 @@
 -- What becomes of the next segment by its judgement, as the reader's own functions promise it to each other.
 -- Assumes nothing.
-use Prim.Native.Nat.{ℕ, _+_, _-_, _/_, _≤_, _<_}
+use Prim.Native.Nat.{ℕ, _+_, _/_, _≤_, _<_}
 use mathlib.Core.Path.{_≡_}
 use mathlib.Core.List.{List, [], _∷_, _++_}
 use lib.Dec.{eqb}
-use lib.ListN.{length, take, drop}
+use lib.ListN.{length, drop}
 use Rattle.text.specs.Bytes.{Bytes}
 use Rattle.text.specs.View.{viewOf}
 use Rattle.text.specs.Cut.{Placed, Whole}
 use Rattle.text.specs.Separators.{Fitted}
 use Rattle.elements.specs.declared.verdict.Verdict.{Verdict}
 use Rattle.elements.specs.declared.verdict.Verdict.the-variants.{Holds, Broken}
-use Rattle.gate.specs.Profile.{nonconformance}
+use Rattle.gate.specs.Profile.{profileOf}
 use Rattle.gate.specs.Segments.{seen, onto}
+use Rattle.levels.specs.Widths.{segmentWidth, levelWidth}
 use Rattle.gate.specs.Records.{Tables}
 use Rattle.gate.specs.Reads.{cutBy, Read}
 use Rattle.reading.specs.internal.Standing.{Standing}
@@ -25,6 +26,7 @@ use Rattle.reading.specs.declared.judging.Judgement.{Judgement}
 use Rattle.reading.specs.declared.judging.Judgement.the-variants.{Plain, Level, Last}
 use Rattle.elements.specs.declared.layout.Layout.{Layout}
 use Rattle.reading.specs.declared.judging.State.{State}
+use Rattle.reading.specs.declared.storing.Entry.{Entry}
 use Rattle.reading.specs.declared.settling.Step.{Step}
 use Rattle.reading.specs.declared.settling.Step.the-variants.{Done, Passed}
 
@@ -40,10 +42,6 @@ refusedAt number layout state element = Done (Refused number (state .count + 1) 
 abbrev pub acceptedAt : Layout → State → Step
 acceptedAt layout state = Done (Accepted (state .count + 1) (state .known .levels) (layout .end + 1))
 
--- the bytes from `at` to `end`
-abbrev pub between : Bytes → ℕ → ℕ → Bytes
-between s at end = take (end - at) (drop at s)
-
 -- a refusal behind `count` segments by the first test that does not hold; 5 where all hold
 abbrev pub refusedBy : Verdict → ℕ → ℕ → Answer
 refusedBy Holds count at = Refused 5 (count + 1) at 0
@@ -53,28 +51,28 @@ refusedBy (Broken number element) count at = Refused number (count + 1) at eleme
 pub record InRoom (segments levels : List ℕ) (layout : Layout) (state : State) : Type 0 where
   pub forward : layout .at ≤ layout .end
   pub short : layout .end < 1048576
-  pub segments-fit : state .count ≤ length segments / 3
-  pub levels-fit : state .known .levels ≤ length levels / 4
+  pub segments-fit : state .count ≤ length segments / segmentWidth
+  pub levels-fit : state .known .levels ≤ length levels / levelWidth
 
 -- the reader stands before the segment g, which was cut, and the judgement is right
 pub record Settling (how : How) (before : Tables) (s : Bytes) (segments levels : List ℕ) (layout : Layout) (state : State) (gs : List Placed) (rows : List ℕ)
     (g more : Bytes) (judgement : Judgement) : Type 0 where
   pub fit : Fitted (how .separators)
-  pub standing : Standing how before s segments levels (layout .at) (state .count) (state .row) (state .again) (state .known) gs rows
+  pub standing : Standing how before s segments levels (layout .at) state gs rows
   pub cut : cutBy how (drop (layout .at) s) ≡ Whole g more
   pub whole : drop (layout .at) s ≡ g ++ how .separators .terminator ∷ more
   pub place : layout .end ≡ layout .at + length g
-  pub right : Judges rows (onto [] (seen how gs)) (viewOf (how .separators) g) judgement
+  pub right : Judges (profileOf how) rows (onto [] (seen how gs)) (viewOf (how .separators) g) judgement
 
 -- the reader stands behind the segment
 pub record Stands (how : How) (before : Tables) (s : Bytes) (segments levels : List ℕ) (at : ℕ) (state : State) : Type 0 where
   pub gs : List Placed
   pub rows : List ℕ
-  pub standing : Standing how before s segments levels at (state .count) (state .row) (state .again) (state .known) gs rows
+  pub standing : Standing how before s segments levels at state gs rows
 
 -- the answer is right, or the reader stands behind the segment
 abbrev pub Settles : How → Tables → Bytes → Layout → List ℕ → List ℕ → Step → Type 0
-Settles how before s layout segments levels (Done answer) = Read nonconformance how s before answer (record { segments = segments; levels = levels })
+Settles how before s layout segments levels (Done answer) = Read (profileOf how) how s before answer (record { segments = segments; levels = levels })
 Settles how before s layout segments levels (Passed state) = Stands how before s segments levels (layout .end + 1) state
 
 -- where the segment is so judged, the step is right, and so is what the tables hold afterwards
@@ -87,8 +85,8 @@ SettlesBy judgement layout state segments levels segments′ levels′ r =
 abbrev pub SettlesPlain : ℕ → Layout → State → (segments segments′ : List ℕ) → Step → Type 0
 SettlesPlain row layout state segments segments′ r = (levels : List ℕ) → SettlesBy (Plain row) layout state segments levels segments′ levels r
 
-abbrev pub SettlesLevel : (row parent depth code : ℕ) → Known → Layout → State → (segments levels segments′ levels′ : List ℕ) → Step → Type 0
-SettlesLevel row parent depth code known = SettlesBy (Level row parent depth code known)
+abbrev pub SettlesLevel : ℕ → Entry → Known → Layout → State → (segments levels segments′ levels′ : List ℕ) → Step → Type 0
+SettlesLevel row entry known = SettlesBy (Level row entry known)
 
 abbrev pub SettlesLast : ℕ → Layout → State → (segments segments′ : List ℕ) → Step → Type 0
 SettlesLast row layout state segments segments′ r = (levels : List ℕ) → SettlesBy (Last row) layout state segments levels segments′ levels r

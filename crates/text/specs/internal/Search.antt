@@ -2,12 +2,16 @@
 -- Assumes nothing.
 use Prim.Native.Nat.{ℕ, _+_}
 use mathlib.Core.Path.{_≡_}
-use mathlib.Core.List.{_∷_, _++_}
+use mathlib.Core.List.{[], _∷_, _++_}
 use lib.ListN.{length, drop}
 use Rattle.text.specs.Bytes.{Bytes}
-use Rattle.text.specs.Pieces.{Free}
 use Rattle.text.specs.declared.lookup.Found.{Found}
 use Rattle.text.specs.declared.lookup.Found.the-variants.{At, Nowhere}
+
+-- the byte does not stand in the bytes
+abbrev pub Free : ℕ → Bytes → Type 0
+Free byte [] = Unit {0}
+Free byte (b ∷ s) = (b ≡ byte → ⊥) × Free byte s
 
 -- from `from` on, s is a gap without the byte, then the byte at the place j, then the rest
 pub record FirstAt (s : Bytes) (from byte j : ℕ) : Type 0 where

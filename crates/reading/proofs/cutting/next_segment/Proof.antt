@@ -68,10 +68,14 @@ loop2-again c =
     (on-element (c .before .before .before .before .before .before .before .loop2 .inv) (c .before .before .before .before .before .before .loop2-test .taken)
     (c .before .before .if1 .taken))
 
+layout-of-requires : tie.Need-layout-of-requires Inv-loop2 μ-loop2 Inv-loop μ-loop
+layout-of-requires c κs = search needs
+
 returns : tie.Need-returns Inv-loop2 μ-loop2 Inv-loop μ-loop
 returns c =
-    at-end (c .before .before .before .before .before .before .before .loop2 .inv) (c .before .before .before .before .before .before .loop2-test .taken)
-    (c .if2 .taken)
+    let found = c .before in
+    let inside = found .before .before .before .before .before .before in
+    rw (c .layout-of .ensures) (at-end (inside .before .loop2 .inv) (inside .loop2-test .taken) (found .if2 .taken))
 
 stop-requires : tie.Need-stop-requires Inv-loop2 μ-loop2 Inv-loop μ-loop
 stop-requires c κs = search needs
@@ -135,6 +139,7 @@ next-segment-spec =
     keep-start-requires
     loop2-less
     loop2-again
+    layout-of-requires
     returns
     stop-requires
     returns-2

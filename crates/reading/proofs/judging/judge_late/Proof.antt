@@ -1,17 +1,39 @@
 -- `judge_late` meets its contract.
 -- Assumes nothing.
-use mathlib.Core.Path.{refl, sym, ap, _∙_}
+use mathlib.Core.Path.{_≡_, refl, sym, ap, _∙_}
 use borrow.Author.Tests.{eq-eqb, ne-eqb}
-use Rattle.reading.specs.internal.Judgements.{byClosing}
+use Rattle.rows.specs.Tags.{tag, tagNumber}
+use Rattle.finding.specs.internal.Knows.{knownAfter}
+use Rattle.reading.specs.internal.Judgements.{byLevel, byClosing}
 use borrow.Author.Needs.{needs}
 use Rattle.reading.proofs.judging.judge_late.Statement.{statement}
 use Rattle.reading.proofs.judging.judge_late.Tie as tie
 
-judge-hl-requires : tie.Need-judge-hl-requires
-judge-hl-requires c κs = search needs
+-- the numbers of the two tags in the code
+hl-number : 12 ≡ tag "HL"
+unfolding tagNumber
+hl-number = refl
+
+se-number : 33 ≡ tag "SE"
+unfolding tagNumber
+se-number = refl
+
+judge-level-requires : tie.Need-judge-level-requires
+judge-level-requires c κs = search needs
+
+element-requires : tie.Need-element-requires
+element-requires c κs = search needs
+
+by-level-requires : tie.Need-by-level-requires
+by-level-requires c κs = search needs
 
 returns : tie.Need-returns
-returns c = λ o. rw (eq-eqb _ _ (c .before .if1 .taken)) (c .judge-hl .ensures o)
+returns c = λ k.
+    let judged = c .before .before in
+    let its = judged .before .before in
+    let a = its .before .before .before .before .args in
+    rw (eq-eqb (a .tag) (tag "HL") (its .if1 .taken ∙ hl-number))
+    (c .by-level .ensures ∙ (λ i. byLevel (a .row) (knownAfter (a .state .known) (c .before .element .ensures i)) (judged .judge-level .ensures k i)))
 
 judge-se-requires : tie.Need-judge-se-requires
 judge-se-requires c κs = search needs
@@ -23,23 +45,36 @@ enum-known-number : tie.Need-enum-known-number
 enum-known-number c = search needs
 
 returns-2 : tie.Need-returns-2
-returns-2 c = λ o.
-    rw (ne-eqb _ _ (c .before .before .before .before .if1 .left), eq-eqb _ _ (c .before .before .before .if2 .taken))
-    (ap (byClosing (c .before .before .before .before .before .before .before .before .args .row)) (sym (c .enum-told .given .1) ∙ c .before .before .judge-se .ensures))
+returns-2 c = λ k.
+    let judged = c .before .before in
+    let its = judged .before in
+    let other = its .before in
+    let a = other .before .before .before .before .args in
+    rw (ne-eqb (a .tag) (tag "HL") (λ e. other .if1 .left (e ∙ sym hl-number)), eq-eqb (a .tag) (tag "SE") (its .if2 .taken ∙ se-number))
+    (ap (byClosing (a .row)) (sym (c .enum-told .given .1) ∙ judged .judge-se .ensures))
 
 returns-3 : tie.Need-returns-3
-returns-3 c = λ o.
-    rw (ne-eqb _ _ (c .before .before .before .before .before .if1 .left), eq-eqb _ _ (c .before .before .before .before .if2 .taken))
-    (ap (byClosing (c .before .before .before .before .before .before .before .before .before .args .row)) (sym (c .before .number .given .1) ∙ c .before .before .before .judge-se .ensures))
+returns-3 c = λ k.
+    let judged = c .before .before .before in
+    let its = judged .before in
+    let other = its .before in
+    let a = other .before .before .before .before .args in
+    rw (ne-eqb (a .tag) (tag "HL") (λ e. other .if1 .left (e ∙ sym hl-number)), eq-eqb (a .tag) (tag "SE") (its .if2 .taken ∙ se-number))
+    (ap (byClosing (a .row)) (sym (c .before .number .given .1) ∙ judged .judge-se .ensures))
 
 returns-4 : tie.Need-returns-4
-returns-4 c = λ o. rw (ne-eqb _ _ (c .before .if1 .left), ne-eqb _ _ (c .if2 .left)) refl
+returns-4 c = λ k.
+    let other = c .before in
+    let a = other .before .before .before .before .args in
+    rw (ne-eqb (a .tag) (tag "HL") (λ e. other .if1 .left (e ∙ sym hl-number)), ne-eqb (a .tag) (tag "SE") (λ e. c .if2 .left (e ∙ sym se-number))) refl
 
 pub judge-late-spec : {M : Type 1} → statement M
 judge-late-spec =
     tie.close
     (tie.spec
-    judge-hl-requires
+    judge-level-requires
+    element-requires
+    by-level-requires
     returns
     judge-se-requires
     enum-told

@@ -1,8 +1,9 @@
--- `judge_se` meets its contract.
+-- `judge_se` meets its contract: its tests one after the other.
 -- Assumes nothing.
-use mathlib.Core.Path.{sym, ap, _∙_}
-use mathlib.Core.Bool.{true, false}
+use mathlib.Core.Path.{_≡_, sym, ap, _∙_}
+use mathlib.Core.Bool.{Bool, true, false}
 use borrow.Author.Tests.{not-true, not-false}
+use Rattle.text.specs.Bytes.{Bytes}
 use Rattle.types.specs.Types.{numberOf}
 use Rattle.elements.specs.internal.Layouts.{elementIn}
 use Rattle.levels.specs.Rules.{filled}
@@ -13,6 +14,24 @@ use borrow.Author.Needs.{needs}
 use Rattle.reading.proofs.judging.judge_se.Statement.{statement}
 use Rattle.reading.proofs.judging.judge_se.Tie as tie
 
+-- where the function starts, by the place behind its second call
+abbrev start : tie.After-number-of → tie.Start
+start c = c .before .before .before .before .before
+
+-- the number of SE01, as it was worked out
+counted : (c : tie.After-number-of) → c .number-of .result ≡ numberOf (elementIn (start c .args .s .now) (start c .args .starts .now) (start c .args .layout) 1)
+counted c = c .number-of .ensures ∙ ap numberOf (c .before .element .ensures)
+
+-- SE02, ST02, and whether each level marked 1 has a child
+abbrev control : tie.Start → Bytes
+control c = elementIn (c .args .s .now) (c .args .starts .now) (c .args .layout) 2
+
+abbrev opening : tie.Start → Bytes
+opening c = openingControl (c .args .s .now) (c .args .separator) (c .args .segments .now)
+
+abbrev full : tie.Start → Bool
+full c = filled (tableLevels (c .args .s .now) (c .args .separator) (c .args .segments .now) (c .args .levels .now) (c .args .state .known .levels))
+
 element-requires : tie.Need-element-requires
 element-requires c κs = search needs
 
@@ -20,13 +39,17 @@ number-of-requires : tie.Need-number-of-requires
 number-of-requires c κs = search needs
 
 returns : tie.Need-returns
-returns c = no-number (c .before .number-of .ensures ∙ ap numberOf (c .before .before .element .ensures)) (c .before .before .before .before .before .before .args .count) (elementIn (c .before .before .before .before .before .before .args .s .now) (c .before .before .before .before .before .before .args .starts .now) (c .before .before .before .before .before .before .args .layout) 2) (openingControl (c .before .before .before .before .before .before .args .s .now) (c .before .before .before .before .before .before .args .separator) (c .before .before .before .before .before .before .args .segments .now)) (filled (tableLevels (c .before .before .before .before .before .before .args .s .now) (c .before .before .before .before .before .before .args .separator) (c .before .before .before .before .before .before .args .segments .now) (c .before .before .before .before .before .before .args .levels .now) (c .before .before .before .before .before .before .args .known))) (c .if1 .taken)
+returns c = let told = c .before in let at = start told in no-number (counted told) (at .args .state .count) (control at) (opening at) (full at) (c .if1 .taken)
 
 sub-if2 : tie.Need-sub-if2
 sub-if2 c = search needs
 
 returns-2 : tie.Need-returns-2
-returns-2 c = other-number (c .before .before .number-of .ensures ∙ ap numberOf (c .before .before .before .element .ensures)) (c .before .before .before .before .before .before .before .args .count) (elementIn (c .before .before .before .before .before .before .before .args .s .now) (c .before .before .before .before .before .before .before .args .starts .now) (c .before .before .before .before .before .before .before .args .layout) 2) (openingControl (c .before .before .before .before .before .before .before .args .s .now) (c .before .before .before .before .before .before .before .args .separator) (c .before .before .before .before .before .before .before .args .segments .now)) (filled (tableLevels (c .before .before .before .before .before .before .before .args .s .now) (c .before .before .before .before .before .before .before .args .separator) (c .before .before .before .before .before .before .before .args .segments .now) (c .before .before .before .before .before .before .before .args .levels .now) (c .before .before .before .before .before .before .before .args .known))) (c .before .if1 .left) (c .if2 .taken)
+returns-2 c =
+    let some = c .before .before in
+    let told = some .before in
+    let at = start told in
+    other-number (counted told) (at .args .state .count) (control at) (opening at) (full at) (some .if1 .left) (c .if2 .taken)
 
 element-requires-2 : tie.Need-element-requires-2
 element-requires-2 c κs = search needs
@@ -39,22 +62,45 @@ same-bytes-requires c κs = search needs
 
 returns-3 : tie.Need-returns-3
 returns-3 c =
-    other-control (c .before .before .before .before .before .before .number-of .ensures ∙ ap numberOf (c .before .before .before .before .before .before .before .element .ensures)) (c .before .before .before .before .before .before .before .before .before .before .before .args .count) (elementIn (c .before .before .before .before .before .before .before .before .before .before .before .args .s .now) (c .before .before .before .before .before .before .before .before .before .before .before .args .starts .now) (c .before .before .before .before .before .before .before .before .before .before .before .args .layout) 2) (openingControl (c .before .before .before .before .before .before .before .before .before .before .before .args .s .now) (c .before .before .before .before .before .before .before .before .before .before .before .args .separator) (c .before .before .before .before .before .before .before .before .before .before .before .args .segments .now)) (filled (tableLevels (c .before .before .before .before .before .before .before .before .before .before .before .args .s .now) (c .before .before .before .before .before .before .before .before .before .before .before .args .separator) (c .before .before .before .before .before .before .before .before .before .before .before .args .segments .now) (c .before .before .before .before .before .before .before .before .before .before .before .args .levels .now) (c .before .before .before .before .before .before .before .before .before .before .before .args .known))) (c .before .before .before .before .before .if1 .left) (c .before .before .before .before .if2 .left)
-    (same-by (c .before .same-bytes .ensures) (c .before .before .before .element2 .ensures) (c .before .before .opening-control .ensures) false (not-true _ (c .if3 .taken)))
+    let compared = c .before in
+    let st = compared .before in
+    let se = st .before in
+    let right = se .before in
+    let some = right .before .before in
+    let told = some .before in
+    let at = start told in
+    other-control (counted told) (at .args .state .count) (control at) (opening at) (full at) (some .if1 .left) (right .if2 .left)
+    (same-by (compared .same-bytes .ensures) (se .element2 .ensures) (st .opening-control .ensures) false (not-true _ (c .if3 .taken)))
 
 all-filled-requires : tie.Need-all-filled-requires
 all-filled-requires c κs = search needs
 
 returns-4 : tie.Need-returns-4
 returns-4 c =
-    not-full (c .before .before .before .before .before .before .before .before .number-of .ensures ∙ ap numberOf (c .before .before .before .before .before .before .before .before .before .element .ensures)) (c .before .before .before .before .before .before .before .before .before .before .before .before .before .args .count) (elementIn (c .before .before .before .before .before .before .before .before .before .before .before .before .before .args .s .now) (c .before .before .before .before .before .before .before .before .before .before .before .before .before .args .starts .now) (c .before .before .before .before .before .before .before .before .before .before .before .before .before .args .layout) 2) (openingControl (c .before .before .before .before .before .before .before .before .before .before .before .before .before .args .s .now) (c .before .before .before .before .before .before .before .before .before .before .before .before .before .args .separator) (c .before .before .before .before .before .before .before .before .before .before .before .before .before .args .segments .now)) (filled (tableLevels (c .before .before .before .before .before .before .before .before .before .before .before .before .before .args .s .now) (c .before .before .before .before .before .before .before .before .before .before .before .before .before .args .separator) (c .before .before .before .before .before .before .before .before .before .before .before .before .before .args .segments .now) (c .before .before .before .before .before .before .before .before .before .before .before .before .before .args .levels .now) (c .before .before .before .before .before .before .before .before .before .before .before .before .before .args .known))) (c .before .before .before .before .before .before .before .if1 .left) (c .before .before .before .before .before .before .if2 .left)
-    (same-by (c .before .before .before .same-bytes .ensures) (c .before .before .before .before .before .element2 .ensures) (c .before .before .before .before .opening-control .ensures) true (not-false _ (c .before .before .if3 .left)))
+    let same = c .before .before in
+    let compared = same .before in
+    let st = compared .before in
+    let se = st .before in
+    let right = se .before in
+    let some = right .before .before in
+    let told = some .before in
+    let at = start told in
+    not-full (counted told) (at .args .state .count) (control at) (opening at) (full at) (some .if1 .left) (right .if2 .left)
+    (same-by (compared .same-bytes .ensures) (se .element2 .ensures) (st .opening-control .ensures) true (not-false _ (same .if3 .left)))
     (sym (c .before .all-filled .ensures) ∙ not-true _ (c .if4 .taken))
 
 returns-5 : tie.Need-returns-5
 returns-5 c =
-    all-closed (c .before .before .before .before .before .before .before .before .number-of .ensures ∙ ap numberOf (c .before .before .before .before .before .before .before .before .before .element .ensures)) (c .before .before .before .before .before .before .before .before .before .before .before .before .before .args .count) (elementIn (c .before .before .before .before .before .before .before .before .before .before .before .before .before .args .s .now) (c .before .before .before .before .before .before .before .before .before .before .before .before .before .args .starts .now) (c .before .before .before .before .before .before .before .before .before .before .before .before .before .args .layout) 2) (openingControl (c .before .before .before .before .before .before .before .before .before .before .before .before .before .args .s .now) (c .before .before .before .before .before .before .before .before .before .before .before .before .before .args .separator) (c .before .before .before .before .before .before .before .before .before .before .before .before .before .args .segments .now)) (filled (tableLevels (c .before .before .before .before .before .before .before .before .before .before .before .before .before .args .s .now) (c .before .before .before .before .before .before .before .before .before .before .before .before .before .args .separator) (c .before .before .before .before .before .before .before .before .before .before .before .before .before .args .segments .now) (c .before .before .before .before .before .before .before .before .before .before .before .before .before .args .levels .now) (c .before .before .before .before .before .before .before .before .before .before .before .before .before .args .known))) (c .before .before .before .before .before .before .before .if1 .left) (c .before .before .before .before .before .before .if2 .left)
-    (same-by (c .before .before .before .same-bytes .ensures) (c .before .before .before .before .before .element2 .ensures) (c .before .before .before .before .opening-control .ensures) true (not-false _ (c .before .before .if3 .left)))
+    let same = c .before .before in
+    let compared = same .before in
+    let st = compared .before in
+    let se = st .before in
+    let right = se .before in
+    let some = right .before .before in
+    let told = some .before in
+    let at = start told in
+    all-closed (counted told) (at .args .state .count) (control at) (opening at) (full at) (some .if1 .left) (right .if2 .left)
+    (same-by (compared .same-bytes .ensures) (se .element2 .ensures) (st .opening-control .ensures) true (not-false _ (same .if3 .left)))
     (sym (c .before .all-filled .ensures) ∙ not-false _ (c .if4 .left))
 
 pub judge-se-spec : {M : Type 1} → statement M

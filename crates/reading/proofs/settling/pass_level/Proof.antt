@@ -4,21 +4,22 @@ use Prim.Native.Nat.{ℕ, _/_, _<_}
 use mathlib.Core.Path.{refl}
 use native.Mathlib.Omega.{arith}
 use lib.ListN.{length}
+use Rattle.levels.specs.Widths.{segmentWidth, levelWidth}
 use Rattle.reading.proofs.reader.Settles.{room, no-room, full-level, full-levels, settles-level}
 use borrow.Author.Needs.{needs}
 use Rattle.reading.proofs.settling.pass_level.Statement.{statement}
 use Rattle.reading.proofs.settling.pass_level.Tie as tie
 
 -- behind the test of the segment table there is room in it
-segment-fits : (c : tie.Else1) → c .before .before .before .before .before .args .state .count < length (c .before .before .before .before .before .args .segments .now) / 3
+segment-fits : (c : tie.Else1) → c .before .before .before .before .before .args .state .count < length (c .before .before .before .before .before .args .segments .now) / segmentWidth
 segment-fits c = room (c .before .segment-room .result) _ _ (c .before .segment-room .ensures) (c .if1 .left)
 
 -- and behind that of the level table in that one
-level-fits : (c : tie.Else2) → c .before .before .before .before .before .before .before .before .args .state .known .levels < length (c .before .before .before .before .before .before .before .before .args .levels .now) / 4
+level-fits : (c : tie.Else2) → c .before .before .before .before .before .before .before .before .args .state .known .levels < length (c .before .before .before .before .before .before .before .before .args .levels .now) / levelWidth
 level-fits c = room (c .before .level-room .result) _ _ (c .before .level-room .ensures) (c .if2 .left)
 
 -- no table has room for more records
-small : (c : tie.Start) (n : ℕ) → n < length (c .args .segments .now) / 3 → n < 9000000000000000000
+small : (c : tie.Start) (n : ℕ) → n < length (c .args .segments .now) / segmentWidth → n < 9000000000000000000
 small c n room = omega arith
 
 segment-room-requires : tie.Need-segment-room-requires
@@ -31,7 +32,7 @@ same-length : tie.Need-same-length
 same-length c = search needs
 
 returns : tie.Need-returns
-returns c = λ how before s gs rows g more t. full-level t _ _ _ _ _ refl (no-room (c .before .before .segment-room .result) _ _ (c .before .before .segment-room .ensures) (c .before .if1 .taken)) _ (c .refusal .ensures)
+returns c = λ how before s gs rows g more t. full-level t _ _ _ refl (no-room (c .before .before .segment-room .result) _ _ (c .before .before .segment-room .ensures) (c .before .if1 .taken)) _ (c .refusal .ensures)
 
 level-room-requires : tie.Need-level-room-requires
 level-room-requires c κs = search needs
@@ -46,7 +47,7 @@ same-length-3 : tie.Need-same-length-3
 same-length-3 c = search needs
 
 returns-2 : tie.Need-returns-2
-returns-2 c = λ how before s gs rows g more t. full-levels t _ _ _ _ _ refl (no-room (c .before .before .level-room .result) _ _ (c .before .before .level-room .ensures) (c .before .if2 .taken)) _ (c .refusal2 .ensures)
+returns-2 c = λ how before s gs rows g more t. full-levels t _ _ _ refl (no-room (c .before .before .level-room .result) _ _ (c .before .before .level-room .ensures) (c .before .if2 .taken)) _ (c .refusal2 .ensures)
 
 sub-put-segment : tie.Need-sub-put-segment
 sub-put-segment c = search needs
@@ -76,7 +77,7 @@ returns-3 c = λ how before s gs rows g more t.
     let put = c .before .before .before in
     let stored = put .before .before .before .before .before in
     let fitting = stored .before .before .before in
-    settles-level t _ _ _ _ _ refl (segment-fits (fitting .before .before .before)) (level-fits fitting) _ (stored .put-segment .ensures) _
+    settles-level t _ _ _ refl (segment-fits (fitting .before .before .before)) (level-fits fitting) _ (stored .put-segment .ensures) _
     (put .put-level .ensures) _ (c .after .ensures)
 
 pub pass-level-spec : {M : Type 1} → statement M
