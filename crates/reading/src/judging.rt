@@ -10,7 +10,7 @@ ghost use Rattle.finding.specs.internal.Knows.{knownAfter};
 ghost use Rattle.reading.specs.internal.Cutting.{segmentOf};
 ghost use Rattle.reading.specs.internal.Judgements.{openingControl, closingIn, Inside, brokenBy, byLevel, JudgesLate, KnownTag, JudgesNext};
 use crate::placing;
-use crate::storing::Entry;
+use crate::storing::NewLevel;
 use elements::layout;
 use elements::layout::Layout;
 use elements::ruled;
@@ -32,8 +32,8 @@ pub(crate) enum Judgement {
     Broken(usize, usize),
     // Its row; it makes no level and does not close the transaction.
     Plain(u8),
-    // Its row, the entry of the level that it makes, and what is known of the levels then.
-    Level { row: u8, entry: Entry, known: Known },
+    // Its row, the level that it makes, and what is known of the levels then.
+    Level { row: u8, level: NewLevel, known: Known },
     // The row of the SE that closes the transaction.
     Last(u8),
 }
@@ -71,7 +71,7 @@ fn by_level(row: u8, known: Known, id: &[u8], judged: Judged) -> Judgement
     match judged {
         Judged::Entitled(parent, depth, code) => Judgement::Level {
             row,
-            entry: Entry {
+            level: NewLevel {
                 parent,
                 depth,
                 code,

@@ -7,7 +7,7 @@ ghost use Rattle.reading.specs.internal.Settling.{stateAfter, refusedAt,
 use crate::judging::Judgement;
 use crate::judging::State;
 use crate::storing;
-use crate::storing::Entry;
+use crate::storing::NewLevel;
 use elements::layout::Layout;
 use finding::known::Known;
 use gate::answer::Answer;
@@ -75,7 +75,7 @@ fn pass_plain(row: u8, layout: Layout, state: State, segments: &mut [u64]) -> St
 // Passes a segment that makes a level, where there is room for both records.
 fn pass_level(
     row: u8,
-    entry: Entry,
+    level: NewLevel,
     known: Known,
     layout: Layout,
     state: State,
@@ -83,7 +83,7 @@ fn pass_level(
     levels: &mut [u64],
 ) -> Step
     requires { ⌜ InRoom (now segments) (now levels) layout state ⌝ }
-    ensures { λ r. ⌜ SettlesLevel row entry known layout state (now (segments .entry)) (now (levels .entry)) (now (segments .exit)) (now (levels .exit)) r ⌝ }
+    ensures { λ r. ⌜ SettlesLevel row level known layout state (now (segments .entry)) (now (levels .entry)) (now (segments .exit)) (now (levels .exit)) r ⌝ }
 {
     if !storing::segment_room(segments, state.count) {
         return refusal(17, layout, state, 0);
@@ -92,7 +92,7 @@ fn pass_level(
         return refusal(17, layout, state, 0);
     }
     storing::put_segment(segments, state.count, layout.at, layout.end - layout.at, row);
-    storing::put_level(levels, state.known.levels, state.count + 1, entry);
+    storing::put_level(levels, state.known.levels, state.count + 1, level);
     Step::Passed(after(state, row, known))
 }
 
@@ -132,10 +132,10 @@ pub(crate) fn settle(
         Judgement::Plain(row) => pass_plain(row, layout, state, segments),
         Judgement::Level {
             row,
-            entry,
+            level,
             known,
         } => {
-            pass_level(row, entry, known, layout, state, segments, levels)
+            pass_level(row, level, known, layout, state, segments, levels)
         }
         Judgement::Last(row) => close(row, layout, state, segments),
     }

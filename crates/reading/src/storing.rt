@@ -7,8 +7,8 @@ ghost use lib.ListN.{length, set};
 ghost use Rattle.levels.specs.Widths.{segmentWidth, levelWidth};
 ghost use Rattle.finding.specs.internal.Entries.{storedAt};
 
-// What the record of a level says beside its segment: the parent's level number, the depth and the code.
-pub(crate) struct Entry {
+// A level that a segment makes: its parent's level number, its depth and its code.
+pub(crate) struct NewLevel {
     pub parent: usize,
     pub depth: usize,
     pub code: usize,
@@ -47,14 +47,14 @@ pub(crate) fn put_segment(segments: &mut [u64], n: usize, start: usize, len: usi
     store(segments, at + 2, row as usize);
 }
 
-// The segment number of a level and its entry, behind the first n records.
-pub(crate) fn put_level(levels: &mut [u64], n: usize, segment: usize, entry: Entry)
+// The segment number of a level, its parent, depth and code, behind the first n records.
+pub(crate) fn put_level(levels: &mut [u64], n: usize, segment: usize, level: NewLevel)
     requires { ⌜ n < length (now levels) / levelWidth ⌝ }
-    ensures { λ _. ⌜ now (levels .exit) ≡ storedAt levelWidth (now (levels .entry)) n (segment ∷ entry .parent ∷ entry .depth ∷ entry .code ∷ []) ⌝ }
+    ensures { λ _. ⌜ now (levels .exit) ≡ storedAt levelWidth (now (levels .entry)) n (segment ∷ level .parent ∷ level .depth ∷ level .code ∷ []) ⌝ }
 {
     let at = n * 4;
     store(levels, at, segment);
-    store(levels, at + 1, entry.parent);
-    store(levels, at + 2, entry.depth);
-    store(levels, at + 3, entry.code);
+    store(levels, at + 1, level.parent);
+    store(levels, at + 2, level.depth);
+    store(levels, at + 3, level.code);
 }

@@ -26,7 +26,7 @@ use Rattle.reading.specs.declared.judging.Judgement.{Judgement}
 use Rattle.reading.specs.declared.judging.Judgement.the-variants.{Broken, Plain, Level, Last}
 use Rattle.elements.specs.declared.layout.Layout.{Layout}
 use Rattle.reading.specs.declared.judging.State.{State}
-use Rattle.reading.specs.declared.storing.Entry.{Entry}
+use Rattle.reading.specs.declared.storing.NewLevel.{NewLevel}
 use Rattle.reading.specs.declared.settling.Step.{Step}
 use Rattle.gate.specs.Rules.{Sound}
 use Rattle.reading.proofs.reader.Standings.{standing-refuses, no-segment-room, no-level-room, standing-plain, standing-level, standing-closes, history-long}
@@ -88,15 +88,15 @@ module _ {how : How} {before : Tables} {s : Bytes} {segments levels : List ℕ} 
       → Settles how before s layout segments levels r
   full-plain row q l = full row (says (Plain row) q .0) (no-segment-room (t .standing) g more (t .cut) (t .whole) l)
 
-  pub full-level : (row : ℕ) (entry : Entry) (known : Known) → j ≡ Level row entry known → length segments / segmentWidth ≤ state .count → (r : Step)
+  pub full-level : (row : ℕ) (level : NewLevel) (known : Known) → j ≡ Level row level known → length segments / segmentWidth ≤ state .count → (r : Step)
       → r ≡ refusedAt 17 layout state 0 → Settles how before s layout segments levels r
-  full-level row entry known q l =
-      full row (says (Level row entry known) q .0) (no-segment-room (t .standing) g more (t .cut) (t .whole) l)
+  full-level row level known q l =
+      full row (says (Level row level known) q .0) (no-segment-room (t .standing) g more (t .cut) (t .whole) l)
 
-  pub full-levels : (row : ℕ) (entry : Entry) (known : Known) → j ≡ Level row entry known → length levels / levelWidth ≤ state .known .levels → (r : Step)
+  pub full-levels : (row : ℕ) (level : NewLevel) (known : Known) → j ≡ Level row level known → length levels / levelWidth ≤ state .known .levels → (r : Step)
       → r ≡ refusedAt 17 layout state 0 → Settles how before s layout segments levels r
-  full-levels row entry known q l =
-      let p = says (Level row entry known) q in
+  full-levels row level known q l =
+      let p = says (Level row level known) q in
       full row (p .0) (no-level-room (t .standing) g more (t .cut) (t .whole) (p .1) l)
 
   pub full-last : (row : ℕ) → j ≡ Last row → length segments / segmentWidth ≤ state .count → (r : Step) → r ≡ refusedAt 17 layout state 0
@@ -115,19 +115,19 @@ module _ {how : How} {before : Tables} {s : Bytes} {segments levels : List ℕ} 
         standing = standing-plain (t .standing) g more (t .cut) (t .whole) row (p .0) (p .1) (p .2) room;
       })
 
-  pub settles-level : (row : ℕ) (entry : Entry) (known : Known) → j ≡ Level row entry known → state .count < length segments / segmentWidth → state .known .levels < length levels / levelWidth
+  pub settles-level : (row : ℕ) (level : NewLevel) (known : Known) → j ≡ Level row level known → state .count < length segments / segmentWidth → state .known .levels < length levels / levelWidth
       → (segments′ : List ℕ) → segments′ ≡ storedAt segmentWidth segments (state .count) (layout .at ∷ (layout .end - layout .at) ∷ row ∷ []) → (levels′ : List ℕ)
-      → levels′ ≡ storedAt levelWidth levels (state .known .levels) ((state .count + 1) ∷ entry .parent ∷ entry .depth ∷ entry .code ∷ []) → (after : State)
+      → levels′ ≡ storedAt levelWidth levels (state .known .levels) ((state .count + 1) ∷ level .parent ∷ level .depth ∷ level .code ∷ []) → (after : State)
       → after ≡ stateAfter state row known → Stands how before s segments′ levels′ (layout .end + 1) after
-  settles-level row entry known q room level-room segments′ stored levels′ stored′ after is =
-      let p = says (Level row entry known) q in
+  settles-level row level known q room level-room segments′ stored levels′ stored′ after is =
+      let p = says (Level row level known) q in
       let number : suc (length h) ≡ state .count + 1 = omega (arith, history-long how gs, t .standing .count-is) in
       rw (stored, stored′, is, long, ← next-at) (record {
         gs = gs ++ (record { at = layout .at; segment = g } ∷ []);
         rows = rows ++ (row ∷ []);
         standing =
             standing-level (t .standing) g more (t .cut) (t .whole) (t .fit) row (p .0) (p .1) (p .2) room level-room _
-            (ap (λ (n : ℕ). n ∷ entry .parent ∷ entry .depth ∷ entry .code ∷ []) (sym number) ∙ p .3) known (p .4);
+            (ap (λ (n : ℕ). n ∷ level .parent ∷ level .depth ∷ level .code ∷ []) (sym number) ∙ p .3) known (p .4);
       })
 
   -- accepted

@@ -111,9 +111,9 @@ module _ (profile : Profile) (rows : List ℕ) (h : List View) (v : View) where
   abbrev pub Judges : Judgement → Type 0
   Judges (Broken number element) = FirstBroken (rules profile rows h v) number element
   Judges (Plain r) = Sound profile rows h v r × (isHL v ≡ false) × T (not (isSE v))
-  Judges (Level r entry known) =
+  Judges (Level r level known) =
       Sound profile rows h v r × (isHL v ≡ true) × T (not (isSE v))
-      × (suc (length h) ∷ entry .parent ∷ entry .depth ∷ entry .code ∷ [] ≡ recordOf newLevel)
+      × (suc (length h) ∷ level .parent ∷ level .depth ∷ level .code ∷ [] ≡ recordOf newLevel)
       × Knows known (newLevel ∷ levelsIn profile h)
   Judges (Last r) = Sound profile rows h v r × (isHL v ≡ false) × T (isSE v)
 

@@ -26,7 +26,7 @@ use Rattle.reading.specs.declared.judging.Judgement.{Judgement}
 use Rattle.reading.specs.declared.judging.Judgement.the-variants.{Plain, Level, Last}
 use Rattle.elements.specs.declared.layout.Layout.{Layout}
 use Rattle.reading.specs.declared.judging.State.{State}
-use Rattle.reading.specs.declared.storing.Entry.{Entry}
+use Rattle.reading.specs.declared.storing.NewLevel.{NewLevel}
 use Rattle.reading.specs.declared.settling.Step.{Step}
 use Rattle.reading.specs.declared.settling.Step.the-variants.{Done, Passed}
 
@@ -85,8 +85,8 @@ SettlesBy judgement layout state segments levels segments′ levels′ r =
 abbrev pub SettlesPlain : ℕ → Layout → State → (segments segments′ : List ℕ) → Step → Type 0
 SettlesPlain row layout state segments segments′ r = (levels : List ℕ) → SettlesBy (Plain row) layout state segments levels segments′ levels r
 
-abbrev pub SettlesLevel : ℕ → Entry → Known → Layout → State → (segments levels segments′ levels′ : List ℕ) → Step → Type 0
-SettlesLevel row entry known = SettlesBy (Level row entry known)
+abbrev pub SettlesLevel : ℕ → NewLevel → Known → Layout → State → (segments levels segments′ levels′ : List ℕ) → Step → Type 0
+SettlesLevel row level known = SettlesBy (Level row level known)
 
 abbrev pub SettlesLast : ℕ → Layout → State → (segments segments′ : List ℕ) → Step → Type 0
 SettlesLast row layout state segments segments′ r = (levels : List ℕ) → SettlesBy (Last row) layout state segments levels segments′ levels r

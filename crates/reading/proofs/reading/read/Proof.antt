@@ -1,10 +1,16 @@
--- `read` meets its contract.
+-- `read` meets its contract: 1 and 2, then what the segments say.
 -- Assumes nothing.
+use native.Mathlib.Omega.{arith}
+use borrow.Author.Tests.{not-false}
 use borrow.Author.Needs.{needs}
 use Rattle.text.proofs.View.{fitted}
-use Rattle.reading.proofs.reader.FirstTests.{passed-test, unfit-refuses, long-refuses, segments-decide}
+use Rattle.reading.proofs.reader.FirstTests.{unfit-refuses, long-refuses, segments-decide}
 use Rattle.reading.proofs.reading.read.Statement.{statement}
 use Rattle.reading.proofs.reading.read.Tie as tie
+
+-- where both tests are passed, by the place before the last call
+abbrev tested : tie.After-read-on-arg2 → tie.Else2
+tested c = c .before .before .before .before .before .before .before
 
 fit-requires : tie.Need-fit-requires
 fit-requires c κs = search needs
@@ -13,7 +19,10 @@ returns : tie.Need-returns
 returns c = unfit-refuses _ _ _ (c .before .fit .result) (c .before .fit .ensures) (c .if1 .taken)
 
 returns-2 : tie.Need-returns-2
-returns-2 c = long-refuses _ _ _ (c .before .before .fit .result) (c .before .before .fit .ensures) (c .before .if1 .left) (c .if2 .taken)
+returns-2 c =
+    let fitting = c .before in
+    let told = fitting .before .fit in
+    long-refuses _ _ _ (told .result) (told .ensures) (fitting .if1 .left) (omega (arith, c .if2 .taken))
 
 set-special-requires : tie.Need-set-special-requires
 set-special-requires c κs = search needs
@@ -23,7 +32,14 @@ next-table-requires c κs = search needs
 
 read-on-requires : tie.Need-read-on-requires
 read-on-requires c κs =
-    (fitted _ (rw (← c .before .before .before .before .before .before .before .before .before .fit .ensures, passed-test (c .before .before .before .before .before .before .before .before .before .fit .result) (c .before .before .before .before .before .before .before .before .if1 .left)) tt), (c .before .before .before .before .before .before .before .if2 .left, (c .before .before .before .before .before .set-special .ensures, c .before .before .before .before .next-table .ensures)))
+    let made = c .before .before .before .before in
+    let short = tested c in
+    let fitting = short .before in
+    let told = fitting .before .fit in
+    (
+      fitted _ (rw (← told .ensures, not-false (told .result) (fitting .if1 .left)) tt),
+      (omega (arith, short .if2 .left), (made .before .set-special .ensures, made .next-table .ensures)),
+    )
 
 same-length : tie.Need-same-length
 same-length c = search needs
@@ -32,7 +48,12 @@ same-length-2 : tie.Need-same-length-2
 same-length-2 c = search needs
 
 returns-3 : tie.Need-returns-3
-returns-3 c = segments-decide _ _ _ (c .before .before .before .before .before .before .before .before .before .before .before .before .before .before .fit .result) (c .before .before .before .before .before .before .before .before .before .before .before .before .before .before .fit .ensures) (c .before .before .before .before .before .before .before .before .before .before .before .before .before .if1 .left) (c .before .before .before .before .before .before .before .before .before .before .before .before .if2 .left) _ _ (c .before .before .before .before .read-on .ensures)
+returns-3 c =
+    let ended = c .before .before .before .before in
+    let short = tested (ended .before) in
+    let fitting = short .before in
+    let told = fitting .before .fit in
+    segments-decide _ _ _ (told .result) (told .ensures) (fitting .if1 .left) (omega (arith, short .if2 .left)) _ _ (ended .read-on .ensures)
 
 pub read-spec : {M : Type 1} → statement M
 read-spec =
