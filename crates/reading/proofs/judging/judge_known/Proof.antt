@@ -10,6 +10,10 @@ use borrow.Author.Needs.{needs}
 use Rattle.reading.proofs.judging.judge_known.Statement.{statement}
 use Rattle.reading.proofs.judging.judge_known.Tie as tie
 
+-- where the function starts, by the place behind its first call
+abbrev start : tie.After-row-after → tie.Start
+start c = c .before .before .before .before
+
 -- no table has room for more levels
 few : (c : tie.Start) (n : ℕ) → n ≤ length (c .args .levels .now) / levelWidth → n ≤ mostLevels
 few c n room = omega arith
@@ -18,9 +22,9 @@ row-after-requires : tie.Need-row-after-requires
 row-after-requires c κs = search needs
 
 returns : tie.Need-returns
-returns c =
-    let start = c .before .before .before .before .before in
-    λ before gs rows g more fit nt st. judges-row fit nt st _ (start .pre .1 .tagged) (start .pre .1 .listed) (start .pre .1 .ended) _ (start .pre .0) (c .before .row-after .ensures) (c .if1 .taken)
+returns c = λ before gs rows g more fit nt st.
+    let pre = start (c .before) .pre in
+    judges-row fit nt st _ (pre .1 .tagged) (pre .1 .listed) (pre .1 .ended) _ (pre .0) (c .before .row-after .ensures) (c .if1 .taken)
 
 ruled-verdict-requires : tie.Need-ruled-verdict-requires
 ruled-verdict-requires c κs = search needs
@@ -35,14 +39,21 @@ judge-late-requires : tie.Need-judge-late-requires
 judge-late-requires c κs = search needs
 
 returns-2 : tie.Need-returns-2
-returns-2 c =
-    let start = c .before .before .before .before .before .before .before .before .before in
-    λ before gs rows g more fit nt st. judges-element fit nt st _ (start .pre .1 .tagged) (start .pre .1 .listed) (start .pre .1 .ended) _ (start .pre .0) (c .before .before .before .before .before .row-after .ensures) (c .before .before .before .before .if1 .left) _ (c .before .before .before .ruled-verdict .ensures) _ _ (c .before .number .given .1)
+returns-2 c = λ before gs rows g more fit nt st.
+    let ruled = c .before .before .before in
+    let rowed = ruled .before in
+    let pre = start (rowed .before) .pre in
+    judges-element fit nt st _ (pre .1 .tagged) (pre .1 .listed) (pre .1 .ended) _ (pre .0) (rowed .before .row-after .ensures) (rowed .if1 .left) _
+    (ruled .ruled-verdict .ensures) _ _ (c .before .number .given .1)
 
 returns-3 : tie.Need-returns-3
-returns-3 c =
-    let start = c .before .before .before .before .before .before .before .before .before in
-    λ before gs rows g more fit nt st. judges-rest fit nt st _ (start .pre .1 .tagged) (start .pre .1 .listed) (start .pre .1 .ended) _ (start .pre .0) ((c .before .before .before .before .before .row-after .ensures)) (c .before .before .before .before .if1 .left) _ (c .before .before .before .ruled-verdict .ensures) (c .before .enum-told .given .1) (few start _ (st .tells .room)) _ (c .judge-late .ensures)
+returns-3 c = λ before gs rows g more fit nt st.
+    let ruled = c .before .before .before in
+    let rowed = ruled .before in
+    let at = start (rowed .before) in
+    let pre = at .pre in
+    judges-rest fit nt st _ (pre .1 .tagged) (pre .1 .listed) (pre .1 .ended) _ (pre .0) (rowed .before .row-after .ensures) (rowed .if1 .left) _
+    (ruled .ruled-verdict .ensures) (c .before .enum-told .given .1) (few at _ (st .tells .room)) _ (c .judge-late .ensures)
 
 pub judge-known-spec : {M : Type 1} → statement M
 judge-known-spec =

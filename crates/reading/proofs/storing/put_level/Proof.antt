@@ -34,7 +34,12 @@ same-length c = search needs
 
 returns : tie.Need-returns
 returns c =
-    rw (c .before .before .store4 .ensures, c .before .before .before .before .before .before .store3 .ensures, c .before .before .before .before .before .before .before .before .before .before .store2 .ensures, c .before .before .before .before .before .before .before .before .before .before .before .before .before .before .store .ensures) (level-set _ _ _ _ _ _ (c .before .before .before .before .before .before .before .before .before .before .before .before .before .before .before .before .before .pre))
+    let fourth = c .before .before in
+    let third = fourth .before .before .before .before in
+    let second = third .before .before .before .before in
+    let first = second .before .before .before .before in
+    rw (fourth .store4 .ensures, third .store3 .ensures, second .store2 .ensures, first .store .ensures)
+    (level-set _ _ _ _ _ _ (first .before .before .before .pre))
 
 pub put-level-spec : {M : Type 1} → statement M
 put-level-spec =

@@ -28,7 +28,10 @@ same-length c = search needs
 
 returns : tie.Need-returns
 returns c =
-    rw (c .before .before .store3 .ensures, c .before .before .before .before .before .before .store2 .ensures, c .before .before .before .before .before .before .before .before .before .before .store .ensures) (segment-set _ _ _ _ _ (c .before .before .before .before .before .before .before .before .before .before .before .before .before .pre))
+    let third = c .before .before in
+    let second = third .before .before .before .before in
+    let first = second .before .before .before .before in
+    rw (third .store3 .ensures, second .store2 .ensures, first .store .ensures) (segment-set _ _ _ _ _ (first .before .before .before .pre))
 
 pub put-segment-spec : {M : Type 1} → statement M
 put-segment-spec =
