@@ -2,17 +2,23 @@
 -- Assumes nothing.
 use mathlib.Core.Path.{_≡_, refl, ap, _∙_}
 use mathlib.Core.Bool.{false}
-use mathlib.Core.List.{_∷_}
+use mathlib.Core.List.{List, [], _∷_, _++_}
 use Prim.Native.Nat.{ℕ, suc, _-_, _<_, _≤_}
 use native.Mathlib.Omega.{arith}
 use lib.ListN.{getD, List·getD-eq-default}
 use Rattle.text.proofs.Tables.{tab}
 use Rattle.text.proofs.Lists.{any-default}
-use Rattle.rows.specs.Rows.{list842}
-use Rattle.rows.specs.RowList.{rowsWithin, numbersOf, noRow, rowAt}
+use Rattle.rows.specs.Rows.{Items, end, row, loop, list842}
+use Rattle.rows.specs.RowList.{rowsWithin, noRow, rowAt}
 
--- the rows of the bracketed list are numbered 1 to 79 in the order in which they stand
-pub rows-numbered : numbersOf list842 ≡ tab 79 suc
+-- the numbers of the rows, in the order in which they stand
+abbrev rowNumbers : Items → List ℕ
+rowNumbers end = []
+rowNumbers (row n t maximum mandatory rest) = n ∷ rowNumbers rest
+rowNumbers (loop n t mandatory body rest) = n ∷ (rowNumbers body ++ rowNumbers rest)
+
+-- they are 1 to 79
+pub rows-numbered : rowNumbers list842 ≡ tab 79 suc
 unfolding tab list842
 rows-numbered = refl
 

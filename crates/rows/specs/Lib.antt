@@ -3,5 +3,4 @@ pub mod Rows
 pub mod RowList
 pub mod Following
 pub mod NextTable
-pub mod Profile
 pub mod internal

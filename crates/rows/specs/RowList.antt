@@ -16,12 +16,6 @@ rowsWithin around (row n t maximum mandatory rest) =
 rowsWithin around (loop n t mandatory body rest) =
     (t, 1, mandatory, around) ∷ (rowsWithin n body ++ rowsWithin around rest)
 
--- the numbers of the rows, in the same order
-abbrev pub numbersOf : Items → List ℕ
-numbersOf end = []
-numbersOf (row n t maximum mandatory rest) = n ∷ numbersOf rest
-numbersOf (loop n t mandatory body rest) = n ∷ (numbersOf body ++ numbersOf rest)
-
 -- what stands for a row where there is none: no tag has its tag number
 abbrev pub noRow : Row
 noRow = (34, 0, false, 0)
