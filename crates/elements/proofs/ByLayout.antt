@@ -13,7 +13,7 @@ use lib.ListN.{length, take, drop, getD}
 use borrow.Author.Tests.{le-leb, lt-leb, lt-ltb, le-ltb, ne-eqb}
 use Rattle.text.specs.Bytes.{Bytes}
 use Rattle.text.specs.View.{View, empty, present, elementOf, elementCount}
-use Rattle.elements.specs.internal.Layouts.{partBetween, pieceIn, componentsBy, upTo, layoutView, elementIn, thereIn, componentsIn}
+use Rattle.elements.specs.internal.Layouts.{partBetween, pieceIn, componentsBy, upTo, layoutView, elementIn, earlyElement, thereIn, componentsIn}
 use Rattle.elements.specs.declared.layout.Layout.{Layout}
 use Rattle.elements.proofs.PresentPieces.{some, present-pieces, present-single}
 
@@ -69,6 +69,10 @@ module _ (s : Bytes) (starts : List ℕ) (layout : Layout) where
   unfolding elementIn
   element-last k l u = rw (le-leb k (layout .count) l, le-ltb k (layout .count) u)
 
+  -- the elements up to 31 are found as they are
+  pub element-early : (k : ℕ) → k < 32 → earlyElement s starts layout k ≡ elementIn s starts layout k
+  element-early k l = rw (lt-ltb k 32 l) refl
+
   module _ (component : ℕ) where
     abbrev view : View
     view = layoutView s starts layout component
@@ -96,6 +100,11 @@ module _ (s : Bytes) (starts : List ℕ) (layout : Layout) where
     view-at k =
         by-cases (decLt (layout .count) k) (λ l. view-past k l ∙ rw (lt-leb k (layout .count) l) (sym (components-empty (layout .single) component)))
         (λ l. let up : k ≤ (layout .count) = omega arith in view-element k up ∙ rw (le-leb k (layout .count) up))
+
+    -- past the last element there is nothing
+    pub at-past : (k : ℕ) → (layout .count) < k → componentsIn s starts layout component k ≡ empty
+    unfolding componentsIn
+    at-past k l = rw (← element-past k l) (components-empty (layout .single) component)
 
     pub at-present : (k : ℕ) → present (componentsIn s starts layout component k) ≡ thereIn s starts layout k
     unfolding componentsIn

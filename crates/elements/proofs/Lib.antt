@@ -8,8 +8,4 @@ pub mod ComponentPass
 pub mod EveryTag
 pub mod RuleTable
 pub mod ElementPass
-pub mod Pairings
-pub mod RuleOrder
-pub mod UsualSegments
-pub mod UpTo31
-pub mod OwnView
+pub mod EarlyRules

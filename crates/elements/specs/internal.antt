@@ -4,4 +4,3 @@ pub mod Layouts
 pub mod Components
 pub mod Verdicts
 pub mod Table
-pub mod Usual

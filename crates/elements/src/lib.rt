@@ -1,8 +1,7 @@
 // What makes a segment right by itself.
 mod components;
+pub mod early;
 pub mod layout;
-pub mod ruled;
 mod rules;
 pub mod segment;
-mod usual;
 pub mod verdict;

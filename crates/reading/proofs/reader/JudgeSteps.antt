@@ -29,7 +29,7 @@ use Rattle.elements.specs.internal.Layouts.{layoutView, elementIn}
 use Rattle.elements.specs.declared.verdict.Verdict.{Verdict}
 use Rattle.elements.specs.declared.verdict.Verdict.the-variants.{Holds, Broken as Faulty}
 use Rattle.elements.proofs.FirstBroken.{keeps-holds}
-use Rattle.elements.proofs.OwnView.{LaidOut, ruled-own, text-own}
+use Rattle.ruling.proofs.OwnView.{LaidOut, ruled-own, text-own}
 use Rattle.levels.specs.Levels.{Claim, claimOf, textOf, levelOf}
 use Rattle.levels.proofs.LevelTests.{keeps-passes}
 use Rattle.finding.proofs.KnownLevels.{knows-after}

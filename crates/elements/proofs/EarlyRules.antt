@@ -1,0 +1,51 @@
+-- 9, 8 and 10 of a ruled segment, put together in their order from what the code finds of the elements.
+-- Assumes nothing.
+use Prim.Native.Nat.{ℕ, _≤_}
+use mathlib.Core.Path.{_≡_, sym, ap, ap₂, _∙_}
+use mathlib.Core.List.{List, _++_}
+use lib.ListN.{length}
+use Rattle.text.specs.Bytes.{Bytes}
+use Rattle.text.specs.View.{Piece}
+use Rattle.elements.specs.Checks.{each, firstBroken}
+use Rattle.elements.specs.Rules.{fewBy}
+use Rattle.elements.specs.internal.Layouts.{componentsIn}
+use Rattle.elements.specs.internal.Verdicts.{rulesOf, lastMust, manyVerdict, completeAt, suitsAt, elementsVerdict, earlyVerdict}
+use Rattle.elements.specs.declared.verdict.Verdict.{Verdict}
+use Rattle.elements.specs.declared.verdict.Verdict.the-variants.{Holds, Broken}
+use Rattle.elements.specs.declared.layout.Layout.{Layout}
+use Rattle.elements.proofs.FirstBroken.{andThen, broken-append, first-holds}
+use Rattle.elements.proofs.ByLayout.{at-past}
+use Rattle.elements.proofs.ElementPass.{elements-upto, few-count}
+
+module _ (s : Bytes) (starts : List ℕ) (layout : Layout) (component tag : ℕ) where
+  abbrev at : ℕ → Piece
+  at = componentsIn s starts layout component
+
+  abbrev nine : Verdict
+  nine = manyVerdict (rulesOf tag) at (layout .count)
+
+  abbrev eightTen : Verdict
+  eightTen = elementsVerdict (rulesOf tag) at (length (rulesOf tag .elements))
+
+  abbrev early : Verdict
+  early = earlyVerdict (rulesOf tag) at (layout .count)
+
+  pub early-is : early ≡ andThen nine eightTen
+  unfolding earlyVerdict
+  early-is =
+      broken-append (each 9 1 (layout .count) (λ (k : ℕ). fewBy (rulesOf tag) k (at k)))
+      (each 8 1 (length (rulesOf tag .elements)) (completeAt (rulesOf tag) at) ++ each 10 1 (length (rulesOf tag .elements)) (suitsAt (rulesOf tag) at))
+
+  -- 9 decides among them, or is silent and leaves it to 8 and 10 of the elements up to one that reaches far enough
+  pub early-many : (n e : ℕ) → Broken n e ≡ nine → Broken n e ≡ early
+  early-many n e q = sym (early-is ∙ ap (λ (v : Verdict). andThen v eightTen) (sym q))
+
+  pub early-elements : (upto : ℕ) → Holds ≡ nine → layout .count ≤ upto → lastMust (rulesOf tag .elements) ≤ upto
+      → upto ≤ length (rulesOf tag .elements) → elementsVerdict (rulesOf tag) at upto ≡ early
+  early-elements upto few far enough near =
+      sym
+      (early-is ∙ ap₂ andThen (sym few) (elements-upto tag (layout .count) upto at (at-past s starts layout component) far enough near))
+
+  -- where they are silent, there are no more elements than rules
+  pub early-few : Holds ≡ early → layout .count ≤ length (rulesOf tag .elements)
+  early-few q = few-count tag (layout .count) at (first-holds nine eightTen (sym early-is ∙ sym q))

@@ -1,0 +1,37 @@
+-- `is_few` meets its contract: one value, or NCA05.
+-- Assumes nothing.
+use Prim.Native.Nat.{ℕ}
+use mathlib.Core.Path.{sym, ap, _∙_}
+use lib.Dec.{leb}
+use lib.ListN.{length}
+use denote.Ref.{now}
+use Rattle.text.specs.View.{Piece}
+use Rattle.rows.specs.Tags.{tagNumber}
+use Rattle.elements.specs.internal.Layouts.{componentsIn}
+use Rattle.elements.proofs.EveryTag.{few-but-NCA}
+use Rattle.elements.proofs.ElementPass.{few-fifth}
+use Rattle.elements.proofs.ByLayout.{element-at}
+use borrow.Author.Needs.{needs}
+use Rattle.elements.proofs.early.is_few.Statement.{statement}
+use Rattle.elements.proofs.early.is_few.Tie as tie
+
+abbrev at : tie.Start → ℕ → Piece
+at c = componentsIn (now (c .args .s)) (now (c .args .starts)) (c .args .layout) (c .args .component)
+
+returns : tie.Need-returns
+unfolding tagNumber
+returns c = sym (few-but-NCA (c .before .before .args .tag) (at (c .before .before) 5) (c .if1 .taken))
+
+early-element-requires : tie.Need-early-element-requires
+early-element-requires c κs = search needs
+
+few-units-requires : tie.Need-few-units-requires
+few-units-requires c κs = search needs
+
+returns-2 : tie.Need-returns-2
+unfolding tagNumber
+returns-2 c = c .few-units .ensures ∙ ap (λ (p : Piece). leb (length p) 15) (element-at _ _ _ _ 5 _ (c .before .early-element .ensures))
+    ∙ few-fifth (c .before .before .before .before .args .tag) (at (c .before .before .before .before) 5) (c .before .before .if1 .left)
+
+pub is-few-spec : {M : Type 1} → statement M
+is-few-spec = tie.close (tie.spec returns early-element-requires few-units-requires returns-2)

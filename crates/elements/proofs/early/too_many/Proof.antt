@@ -1,0 +1,45 @@
+-- `too_many` meets its contract: element 5, an element past the last, or neither.
+-- Assumes nothing.
+use Prim.Native.Nat.{ℕ}
+use mathlib.Core.Path.{_≡_, sym, _∙_}
+use mathlib.Core.Bool.{true}
+use denote.Ref.{now}
+use borrow.Author.Tests.{not-true, not-false}
+use Rattle.text.specs.View.{Piece}
+use Rattle.elements.specs.Rules.{ruleOf, fewComponents}
+use Rattle.elements.specs.internal.Layouts.{componentsIn}
+use Rattle.elements.specs.internal.Verdicts.{rulesOf}
+use Rattle.elements.proofs.ElementPass.{too-many-five, too-many-past, few-all}
+use Rattle.elements.proofs.ByLayout.{at-past}
+use borrow.Author.Needs.{needs}
+use Rattle.elements.proofs.early.too_many.Statement.{statement}
+use Rattle.elements.proofs.early.too_many.Tie as tie
+
+abbrev at : tie.Start → ℕ → Piece
+at c = componentsIn (now (c .args .s)) (now (c .args .starts)) (c .args .layout) (c .args .component)
+
+few : (c : tie.Else1) → fewComponents (ruleOf (rulesOf (c .before .before .before .args .tag)) 5 .shape) (at (c .before .before .before) 5) ≡ true
+few c = sym (c .before .is-few .ensures) ∙ not-false (c .before .is-few .result) (c .if1 .left)
+
+is-few-requires : tie.Need-is-few-requires
+is-few-requires c κs = search needs
+
+returns : tie.Need-returns
+returns c =
+    too-many-five (c .before .before .before .args .tag) (c .before .before .before .args .layout .count) (at (c .before .before .before))
+    (λ l. at-past _ _ _ _ 5 l)
+    (sym (c .before .is-few .ensures) ∙ not-true (c .before .is-few .result) (c .if1 .taken))
+
+returns-2 : tie.Need-returns-2
+returns-2 c = too-many-past (c .before .before .before .before .before .args .tag) (c .before .before .before .before .before .args .layout .count)
+    (at (c .before .before .before .before .before)) (few (c .before .before)) _ (c .before .before .before .before .before .pre) (c .if2 .taken)
+
+returns-3 : tie.Need-returns-3
+returns-3 c = few-all (c .before .before .before .before .before .args .tag) (c .before .before .before .before .before .args .layout .count)
+    (at (c .before .before .before .before .before)) (few (c .before .before)) (rw (c .before .before .before .before .before .pre) at (c .if2 .left))
+
+add-t9 : tie.Need-add-t9
+add-t9 c = search needs
+
+pub too-many-spec : {M : Type 1} → statement M
+too-many-spec = tie.close (tie.spec is-few-requires returns add-t9 returns-2 returns-3)

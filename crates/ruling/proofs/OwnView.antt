@@ -1,0 +1,163 @@
+-- The layout of a segment in the bytes describes the segment's own view, up to element 31, and so the same verdict.
+-- Assumes nothing.
+use Prim.Native.Nat.{ℕ, zero, suc, _+_, _-_, _≤_, _<_}
+use mathlib.Core.Path.{_≡_, refl, sym, ap, ap₂, _∙_}
+use mathlib.Core.Logic.{by-cases}
+use mathlib.Core.Bool.{Bool, true, false, cond}
+use mathlib.Core.List.{List, [], _∷_, _++_}
+use native.Mathlib.Omega.{arith}
+use native.Mathlib.Decide.{decLt}
+use native.Mathlib.Nat.{add-sub-cancel-left}
+use lib.Dec.{ltb}
+use lib.ListN.{length, take, drop, getD, length-append, length-drop, length-map, take-append-drop, List·getD-map, List·getD-eq-default}
+use lib.Seq.{take-all, take-suc, take-append-le, drop-append-le, drop-drop}
+use borrow.Author.Tests.{lt-ltb, le-ltb, lt-leb, le-leb}
+use Rattle.text.specs.Bytes.{Bytes}
+use Rattle.text.specs.Pieces.{pieces, joined, closed}
+use Rattle.text.proofs.Pieces.{Clean, pieces-some, joined-pieces, pieces-free, closed-snoc}
+use Rattle.text.specs.internal.Search.{Free}
+use Rattle.text.specs.View.{View, viewOf, elementOf, elementCount}
+use Rattle.text.specs.Lookup.{pieceSpan}
+use Rattle.text.specs.declared.separators.Separators.{Separators}
+use Rattle.text.specs.declared.lookup.Span.{Span}
+use Rattle.text.proofs.Spans.{lies, span-there}
+use Rattle.text.proofs.View.{free-pieces}
+use Rattle.elements.specs.Checks.{firstBroken}
+use Rattle.elements.specs.Data.{nonconformance}
+use Rattle.elements.specs.Rules.{ruledChecks}
+use Rattle.elements.specs.internal.Layouts.{elementIn, partBetween, pieceIn, componentsBy, layoutView}
+use Rattle.elements.specs.declared.layout.Layout.{Layout}
+use Rattle.elements.proofs.ByLayout.{part-inside, view-count, view-element, view-at, at-past}
+use Rattle.ruling.proofs.UpTo31.{ruled-agree}
+
+-- one piece more, with its separator
+start-more : (sep : ℕ) (ps : List Bytes) (n : ℕ) → n < length ps
+    → length (closed sep (take (suc n) ps)) ≡ length (closed sep (take n ps)) + length (getD ps n []) + 1
+start-more sep ps n h =
+    rw (take-suc ps n [] h, closed-snoc sep (take n ps) (getD ps n [])) (simp length-append (omega arith))
+
+closed-joined : (sep : ℕ) (ps : List Bytes) → 0 < length ps → length (closed sep ps) ≡ suc (length (joined sep ps))
+closed-joined sep [] l = absurd (omega arith)
+closed-joined sep (p ∷ []) l = simp length-append (omega arith)
+closed-joined sep (p ∷ (q ∷ ps)) l =
+    omega (arith, length-append p (sep ∷ closed sep (q ∷ ps)), length-append p (sep ∷ joined sep (q ∷ ps)), closed-joined sep (q ∷ ps) (omega arith))
+
+module _ (sep : ℕ) (s : Bytes) (n : ℕ) (h : n < length (pieces sep s)) where
+  -- the next piece starts behind the separator; the last ends at the end
+  next-start : suc n < length (pieces sep s) → pieceSpan sep s (suc n) .start ≡ pieceSpan sep s n .start + pieceSpan sep s n .len + 1
+  next-start u = rw (span-there sep s n h, span-there sep s (suc n) u) (start-more sep (pieces sep s) n h)
+
+  last-end : suc n ≡ length (pieces sep s) → pieceSpan sep s n .start + pieceSpan sep s n .len ≡ length s
+  last-end e =
+      rw (span-there sep s n h)
+      (omega (
+        arith,
+        start-more sep (pieces sep s) n h,
+        ap (λ (ps : List Bytes). length (closed sep ps)) (take-all (suc n) (pieces sep s) (omega arith)),
+        closed-joined sep (pieces sep s) (pieces-some sep s),
+        ap length (joined-pieces sep s),
+      ))
+
+-- a part of a part
+part-of-part : (s : Bytes) (at : ℕ) (g : Bytes) (from len : ℕ) → take (length g) (drop at s) ≡ g → from + len ≤ length g
+    → take len (drop (at + from) s) ≡ take len (drop from g)
+part-of-part s at g from len here l =
+    let whole : drop at s ≡ g ++ drop (length g) (drop at s) =
+    sym (take-append-drop (length g) (drop at s)) ∙ ap (λ (x : Bytes). x ++ drop (length g) (drop at s)) here in
+    let room : len ≤ length (drop from g) = rw (length-drop from g) (omega arith) in
+    ap (take len)
+    (sym (drop-drop from at s) ∙ ap (drop from) whole ∙ drop-append-le from g (drop (length g) (drop at s)) (omega arith))
+    ∙ take-append-le len (drop from g) (drop (length g) (drop at s)) room
+
+clean-at : (x : ℕ) (ps : List Bytes) (k : ℕ) → Clean x ps → Free x (getD ps k [])
+clean-at x [] k c = tt
+clean-at x (p ∷ ps) zero c = c .0
+clean-at x (p ∷ ps) (suc k) c = clean-at x ps k (c .1)
+
+-- the layout is of this segment: it stands there, has so many elements, and they start where they are said to; "single" is said of none with
+-- a component separator, and need not be said
+pub record LaidOut (q : Separators) (s segment : Bytes) (starts : List ℕ) (layout : Layout) : Type 0 where
+  pub here : take (length segment) (drop (layout .at) s) ≡ segment
+  pub ends : layout .end ≡ layout .at + length segment
+  pub inside : layout .end ≤ length s
+  pub counted : suc (layout .count) ≡ length (pieces (q .element) segment)
+  pub started : (k : ℕ) → k ≤ layout .count → k ≤ 32 → getD starts k 0 ≡ layout .at + pieceSpan (q .element) segment k .start
+  pub singly : layout .single ≡ true → Free (q .component) segment
+
+module _ {q : Separators} {s segment : Bytes} {starts : List ℕ} {layout : Layout} (laid : LaidOut q s segment starts layout) where
+  abbrev ps : List Bytes
+  ps = pieces (q .element) segment
+
+  abbrev view : View
+  view = layoutView s starts layout (q .component)
+
+  -- piece k lies where it says
+  module _ (k : ℕ) (low : k ≤ (layout .count)) (high : k ≤ 31) where
+    there : k < length ps
+    there = omega (arith, laid .counted)
+
+    abbrev place : Span
+    place = pieceSpan (q .element) segment k
+
+    stop : cond (ltb k (layout .count)) (getD starts (suc k) 0 - 1) (layout .end) ≡ layout .at + place .start + place .len
+    stop =
+        by-cases (decLt k (layout .count))
+        (λ l.
+        rw (lt-ltb k (layout .count) l)
+        (omega
+        (arith, laid .started (suc k) l (omega arith), next-start (q .element) segment k there (omega (arith, laid .counted)))))
+        (λ l.
+        rw (le-ltb k (layout .count) (omega arith))
+        (omega (arith, laid .ends, last-end (q .element) segment k there (omega (arith, laid .counted)))))
+
+    own-piece : pieceIn s starts layout k ≡ getD ps k []
+    own-piece =
+        let lie = lies (q .element) segment k in
+        let from = layout .at + place .start in
+        let to = from + place .len in
+        ap₂ (partBetween s) (laid .started k low (omega arith)) stop
+        ∙ sym (part-inside s from to (omega arith) (omega (arith, lie .inside, laid .ends, laid .inside)))
+        ∙ ap (λ (n : ℕ). take n (drop from s)) (add-sub-cancel-left from (place .len))
+        ∙ part-of-part s (layout .at) segment (place .start) (place .len) (laid .here) (lie .inside)
+        ∙ lie .holds
+
+    own-pieces : componentsBy (layout .single) (q .component) (getD ps k []) ≡ pieces (q .component) (getD ps k [])
+    own-pieces = by-single (layout .single) (laid .singly)
+      where
+        by-single : (t : Bool) → (t ≡ true → Free (q .component) segment)
+            → componentsBy t (q .component) (getD ps k []) ≡ pieces (q .component) (getD ps k [])
+        by-single true f =
+            sym
+            (pieces-free (q .component) (getD ps k []) (clean-at (q .component) ps k (free-pieces (q .element) (q .component) segment (f refl))))
+        by-single false f = refl
+
+  own-element : (k : ℕ) → elementOf (viewOf q segment) k ≡ pieces (q .component) (getD ps k [])
+  own-element k = List·getD-map (pieces (q .component)) ps k []
+
+  -- the elements agree up to 31, and their numbers do
+  pub view-own : (k : ℕ) → k ≤ 31 → elementOf view k ≡ elementOf (viewOf q segment) k
+  view-own k high =
+      by-cases (decLt (layout .count) k)
+      (λ l.
+      view-at s starts layout (q .component) k ∙ at-past s starts layout (q .component) k l
+      ∙ sym (own-element k ∙ ap (pieces (q .component)) (List·getD-eq-default ps [] {n = k} (omega (arith, laid .counted)))))
+      (λ l.
+      let low : k ≤ (layout .count) = omega arith in
+      view-element s starts layout (q .component) k low ∙ ap (componentsBy (layout .single) (q .component)) (own-piece k low high)
+      ∙ own-pieces k low high ∙ sym (own-element k))
+
+  pub count-own : elementCount view ≡ elementCount (viewOf q segment)
+  count-own =
+      view-count s starts layout (q .component) ∙ omega (arith, laid .counted, length-map ps (pieces (q .component)))
+
+  -- so the verdict by the layout is that over the segment
+  pub ruled-own : (tag : ℕ) → firstBroken (ruledChecks nonconformance tag view) ≡ firstBroken (ruledChecks nonconformance tag (viewOf q segment))
+  ruled-own tag = ruled-agree view (viewOf q segment) count-own view-own tag
+
+  -- and the bytes of an element by the layout are the segment's piece
+  pub text-own : (k : ℕ) → k ≤ 31 → elementIn s starts layout k ≡ getD ps k []
+  unfolding elementIn
+  text-own k high =
+      by-cases (decLt (layout .count) k)
+      (λ l. rw (lt-leb k (layout .count) l) (sym (List·getD-eq-default ps [] {n = k} (omega (arith, laid .counted)))))
+      (λ l. let low : k ≤ (layout .count) = omega arith in rw (le-leb k (layout .count) low) (own-piece k low high))

@@ -1,0 +1,3 @@
+-- Contracts among the functions of this crate. No rule is stated with anything here.
+-- Assumes nothing.
+pub mod Usual

@@ -1,0 +1,3 @@
+// The rules of a ruled segment, applied to it by its layout.
+pub mod ruled;
+mod usual;
