@@ -13,10 +13,9 @@ use Rattle.text.proofs.Lists.{map-append}
 use Rattle.text.proofs.View.{CleanView, written-view, view-unseparated, unseparated-clean, element-separates, component-separates, terminator-separates}
 use Rattle.text.specs.Separators.{Fitted}
 use Rattle.gate.specs.Segments.{seen}
-use Rattle.gate.specs.declared.how.How.{How}
-use Rattle.rewriting.specs.Rewrites.{rewritten}
+use Rattle.rewriting.specs.Rewrites.{strictly, rewritten}
 use Rattle.rewriting.specs.Collisions.{newByte}
-use Rattle.rewriting.proofs.Spelling.{texts}
+use Rattle.rewriting.proofs.SegmentBytes.{texts}
 
 -- a map goes through joining and closing
 map-joined : (f : ℕ → ℕ) (sep : ℕ) (ps : List Bytes) → map f (joined sep ps) ≡ joined (f sep) (map (map f) ps)
@@ -85,13 +84,13 @@ module _ (old new : Separators) (fit : Fitted old) where
       )
 
 -- all segments
-pub segments-change : (how : How) (new : Separators) → Fitted (how .separators) → (gs : List Placed) → Clean (how .separators .terminator) (texts gs)
-    → map (newByte (how .separators) new) (closed (how .separators .terminator) (texts gs)) ≡ rewritten how new gs
-segments-change how new fit gs clean =
-    map-closed (newByte (how .separators) new) (how .separators .terminator) (texts gs)
-    ∙ rw (new-terminator (how .separators) new fit, each gs clean)
+pub segments-change : (old new : Separators) → Fitted old → (gs : List Placed) → Clean (old .terminator) (texts gs)
+    → map (newByte old new) (closed (old .terminator) (texts gs)) ≡ rewritten old new gs
+segments-change old new fit gs clean =
+    map-closed (newByte old new) (old .terminator) (texts gs)
+    ∙ rw (new-terminator old new fit, each gs clean)
   where
-    each : (gs : List Placed) → Clean (how .separators .terminator) (texts gs)
-        → map (map (newByte (how .separators) new)) (texts gs) ≡ map (written new) (seen how gs)
+    each : (gs : List Placed) → Clean (old .terminator) (texts gs)
+        → map (map (newByte old new)) (texts gs) ≡ map (written new) (seen (strictly old) gs)
     each [] c = refl
-    each (g ∷ gs) c = rw (segment-changes (how .separators) new fit (g .segment) (c .0), each gs (c .1))
+    each (g ∷ gs) c = rw (segment-changes old new fit (g .segment) (c .0), each gs (c .1))

@@ -18,11 +18,10 @@ use Rattle.text.proofs.Bools.{and-false, passes}
 use Rattle.text.proofs.View.{terminator-separates}
 use Rattle.elements.proofs.Bytewise.{badFrom, each-bad}
 use Rattle.gate.specs.Reads.{cutBy, skipBy}
-use Rattle.gate.specs.declared.how.How.{How}
-use Rattle.rewriting.specs.Rewrites.{Clash, orLater, collision}
+use Rattle.rewriting.specs.Rewrites.{strictly, Clash, orLater, collision}
 use Rattle.rewriting.specs.Collisions.{clashOf, collides, placeAfter, collisionFrom}
 use Rattle.rewriting.specs.declared.collisions.Place.{Place}
-use Rattle.rewriting.proofs.Spelling.{texts, spelt}
+use Rattle.rewriting.proofs.SegmentBytes.{texts, spelt}
 
 abbrev place : ℕ → ℕ → ℕ → Place
 place segment byte element = record { segment = segment; byte = byte; element = element }
@@ -80,18 +79,17 @@ module _ (old new : Separators) where
       (λ k. segment-found n at (gone + 1) g rest k (f .1)))
 
 -- all segments
-pub collision-found : (how : How) (new : Separators) (n at : ℕ) (s : Bytes) (gs : List Placed) (end : ℕ) (rest : Bytes)
-    → Leads (cutBy how) (skipBy how) at s gs end rest
-    → clashOf (collisionFrom (how .separators) new (place n at 0) at (closed (how .separators .terminator) (texts gs))) ≡ collision how new n gs
-collision-found how new n at s [] end rest l = refl
-collision-found how new n at s (g ∷ gs) end rest l =
-    let old = how .separators in
-    let clean = spelt how at s (g ∷ gs) end rest l .clean in
+pub collision-found : (old new : Separators) (n at : ℕ) (s : Bytes) (gs : List Placed) (end : ℕ) (rest : Bytes)
+    → Leads (cutBy (strictly old)) (skipBy (strictly old)) at s gs end rest
+    → clashOf (collisionFrom old new (place n at 0) at (closed (old .terminator) (texts gs))) ≡ collision old new n gs
+collision-found old new n at s [] end rest l = refl
+collision-found old new n at s (g ∷ gs) end rest l =
+    let clean = spelt old at s (g ∷ gs) end rest l .clean in
     let next : at + length (g .segment) + 1 + 0 ≡ at + length (g .segment) + 1 = omega arith in
     segment-found old new n at at (g .segment) (closed (old .terminator) (texts gs)) 0 (clean .0)
     ∙ rw (
       add-one n,
       sym (each-bad 18 (λ (b : ℕ). not (isSeparator new b)) old (g .segment)),
       l .2,
-      collision-found how new (suc n) (at + length (g .segment) + 1) (l .0) gs end rest (rw next at (l .3)),
+      collision-found old new (suc n) (at + length (g .segment) + 1) (l .0) gs end rest (rw next at (l .3)),
     )

@@ -15,8 +15,7 @@ use Rattle.gate.specs.Records.{Tables}
 use Rattle.gate.specs.Reads.{Reads}
 use Rattle.gate.specs.declared.answer.Answer.{Answer}
 use Rattle.gate.specs.declared.answer.Answer.the-variants.{Accepted, Refused}
-use Rattle.gate.specs.declared.how.How.{How}
-use Rattle.rewriting.specs.Rewrites.{Outcome, Rewrites}
+use Rattle.rewriting.specs.Rewrites.{strictly, Outcome, Rewrites}
 use Rattle.rewriting.specs.Collisions.{clashOf, outset, collisionFrom, newByte}
 use Rattle.rewriting.specs.declared.collisions.Place.{Place}
 use Rattle.rewriting.specs.declared.collisions.Collision.{Collision}
@@ -50,32 +49,32 @@ module _ (s : Bytes) (old new : Separators) (segments levels bytes : ℕ) (outpu
       rw (e, le-leb bytes (length output) l) (refl, w ∙ ap (λ (k : ℕ). changed ++ drop k output) (sym n))
 
 -- with the two tests of fitness as they came out
-module _ (how : How) (new : Separators) (s : Bytes) (before : Tables) (output : Bytes) (old-fit new-fit : Bool)
-    (old-is : old-fit ≡ fitSeparators (how .separators)) where
-  pub old-unfit : not old-fit ≡ true → Rewrites how new s before output (Refused 1 0 0 0) before output
+module _ (old new : Separators) (s : Bytes) (before : Tables) (output : Bytes) (old-fit new-fit : Bool)
+    (old-is : old-fit ≡ fitSeparators old) where
+  pub old-unfit : not old-fit ≡ true → Rewrites old new s before output (Refused 1 0 0 0) before output
   unfolding Rewrites
   old-unfit n = rw (← old-is, not-true old-fit n) (record { answer = refl; tables-kept = refl; output-kept = refl })
 
   module _ (old-passes : not old-fit ≡ false) (new-is : new-fit ≡ fitSeparators new) where
-    pub new-unfit : not new-fit ≡ true → Rewrites how new s before output (Refused 1 0 0 1) before output
+    pub new-unfit : not new-fit ≡ true → Rewrites old new s before output (Refused 1 0 0 1) before output
     unfolding Rewrites
     new-unfit n = rw (← old-is, not-false old-fit old-passes, ← new-is, not-true new-fit n)
         (record { answer = refl; tables-kept = refl; output-kept = refl })
 
     module _ (new-passes : not new-fit ≡ false) (tables : Tables) where
-      pub reading-refused : (number segment byte element : ℕ) → Reads how s before (Refused number segment byte element) tables
-          → Rewrites how new s before output (Refused number segment byte element) tables output
+      pub reading-refused : (number segment byte element : ℕ) → Reads (strictly old) s before (Refused number segment byte element) tables
+          → Rewrites old new s before output (Refused number segment byte element) tables output
       unfolding Rewrites
       reading-refused number segment byte element x =
           rw (← old-is, not-false old-fit old-passes, ← new-is, not-false new-fit new-passes)
           (record { answer = Refused number segment byte element; reads = x; follows = (refl, refl) })
 
-      pub reading-accepted : (a l b : ℕ) → Reads how s before (Accepted a l b) tables → (r : Answer) (after : Bytes)
-          → Outcome (clashOf (collisionFrom (how .separators) new outset 0 (take b s))) (leb b (length output)) (Accepted a l b)
-          (map (newByte (how .separators) new) (take b s)) output r after
-          → Rewrites how new s before output r tables after
+      pub reading-accepted : (a l b : ℕ) → Reads (strictly old) s before (Accepted a l b) tables → (r : Answer) (after : Bytes)
+          → Outcome (clashOf (collisionFrom old new outset 0 (take b s))) (leb b (length output)) (Accepted a l b)
+          (map (newByte old new) (take b s)) output r after
+          → Rewrites old new s before output r tables after
       unfolding Rewrites
       reading-accepted a l b x r after y =
-          let fit : T (fitSeparators (how .separators)) = rw (← old-is, not-false old-fit old-passes) tt in
+          let fit : T (fitSeparators old) = rw (← old-is, not-false old-fit old-passes) tt in
           rw (← old-is, not-false old-fit old-passes, ← new-is, not-false new-fit new-passes)
-          (record { answer = Accepted a l b; reads = x; follows = accepting how s before a l b tables x new fit output r after y })
+          (record { answer = Accepted a l b; reads = x; follows = accepting old s before a l b tables x new fit output r after y })

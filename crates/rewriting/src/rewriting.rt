@@ -58,16 +58,16 @@ fn write_accepted(
 // left as reading alone leaves them.
 pub fn rewrite(
     s: &[u8],
-    how: How,
+    old: Separators,
     new: Separators,
     segments: &mut [u64],
     levels: &mut [u64],
     output: &mut [u8],
 ) -> Answer
-    ensures { λ r. ⌜ Rewrites how new (now (s .entry)) (record { segments = now (segments .entry); levels = now (levels .entry) }) (now (output .entry)) r
+    ensures { λ r. ⌜ Rewrites old new (now (s .entry)) (record { segments = now (segments .entry); levels = now (levels .entry) }) (now (output .entry)) r
         (record { segments = now (segments .exit); levels = now (levels .exit) }) (now (output .exit)) ⌝ }
 {
-    if !how.separators.fit() {
+    if !old.fit() {
         return Answer::Refused {
             number: 1,
             segment: 0,
@@ -83,12 +83,13 @@ pub fn rewrite(
             element: 1,
         };
     }
-    match reading::reading::read(s, how, segments, levels) {
+    let strictly = How { separators: old };
+    match reading::reading::read(s, strictly, segments, levels) {
         Answer::Accepted {
             segments: count,
             levels: known,
             bytes,
-        } => write_accepted(s, how.separators, new, count, known, bytes, output),
+        } => write_accepted(s, old, new, count, known, bytes, output),
         Answer::Refused {
             number,
             segment,
