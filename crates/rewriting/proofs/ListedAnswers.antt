@@ -18,15 +18,17 @@ use Rattle.gate.specs.declared.answer.Answer.the-variants.{Accepted, Refused}
 use Rattle.gate.proofs.reading.Numbers.{refusal-of}
 use Rattle.gate.proofs.conditions.Conditions.{accepted-numbered, answered}
 use Rattle.gate.proofs.reading.Listing.{listed}
-use Rattle.rewriting.specs.Rewrites.{strictly, rewritten, Clash, NoClash, ClashAt, collision, Outcome, AfterReading, Unfit, RewritesFit, Rewrites}
+use Rattle.rewriting.specs.Rewrites.{strictly, rewritten, collision, Outcome, AfterReading, Unfit, RewritesFit, Rewrites}
+use Rattle.rewriting.specs.declared.collisions.Clash.{Clash}
+use Rattle.rewriting.specs.declared.collisions.Clash.the-variants.{At, Nowhere}
 use Rattle.rewriting.specs.Conditions.{Listed}
 
 -- some answer and output
 outcome-some : (x : Clash) (room : Bool) (accepted : Answer) (new output : Bytes) → (r : Answer) × (after : Bytes) × Outcome x room accepted new output r after
 unfolding Outcome
-outcome-some (ClashAt k b e) room accepted new output = (Refused 18 k b e, output, (refl, refl))
-outcome-some NoClash false accepted new output = (Refused 19 0 0 0, output, (refl, refl))
-outcome-some NoClash true accepted new output = (accepted, new ++ drop (length new) output, (refl, refl))
+outcome-some (At k b e) room accepted new output = (Refused 18 k b e, output, (refl, refl))
+outcome-some Nowhere false accepted new output = (Refused 19 0 0 0, output, (refl, refl))
+outcome-some Nowhere true accepted new output = (accepted, new ++ drop (length new) output, (refl, refl))
 
 module _ (old new : Separators) (s : Bytes) (before : Tables) (output : Bytes) where
   following-some : (answer : Answer) (tables : Tables) → Reads (strictly old) s before answer tables
@@ -59,10 +61,10 @@ wider (Refused n k b e) x = (omega (arith, x .0), omega (arith, x .1))
 outcome-listed : (x : Clash) (room : Bool) (accepted : Answer) (new output : Bytes) (r : Answer) (after : Bytes) → Listed accepted
     → Outcome x room accepted new output r after → Listed r
 unfolding Outcome
-outcome-listed (ClashAt k b e) room accepted new output r after l x =
+outcome-listed (At k b e) room accepted new output r after l x =
     rw (refusal-of r 18 k b e (omega arith) (x .0)) (omega arith, omega arith)
-outcome-listed NoClash false accepted new output r after l x = rw (refusal-of r 19 0 0 0 (omega arith) (x .0)) (omega arith, omega arith)
-outcome-listed NoClash true accepted new output r after l x = rw (x .0) l
+outcome-listed Nowhere false accepted new output r after l x = rw (refusal-of r 19 0 0 0 (omega arith) (x .0)) (omega arith, omega arith)
+outcome-listed Nowhere true accepted new output r after l x = rw (x .0) l
 
 module _ (old new : Separators) (s : Bytes) (before : Tables) (output : Bytes) (r : Answer) (tables : Tables) (after : Bytes) where
   following-listed : (answer : Answer) → Listed answer → AfterReading old new s answer output r after → Listed r

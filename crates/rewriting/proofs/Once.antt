@@ -18,15 +18,17 @@ use Rattle.gate.specs.declared.answer.Answer.the-variants.{Accepted, Refused}
 use Rattle.gate.proofs.reading.Numbers.{refusal-once}
 use Rattle.gate.proofs.reading.Once.{reads-once}
 use Rattle.gate.proofs.conditions.Conditions.{numbering-once}
-use Rattle.rewriting.specs.Rewrites.{strictly, rewritten, Clash, NoClash, ClashAt, collision, Outcome, AfterReading, Rewriting, Unfit, RewritesFit, Rewrites}
+use Rattle.rewriting.specs.Rewrites.{strictly, rewritten, collision, Outcome, AfterReading, Rewriting, Unfit, RewritesFit, Rewrites}
+use Rattle.rewriting.specs.declared.collisions.Clash.{Clash}
+use Rattle.rewriting.specs.declared.collisions.Clash.the-variants.{At, Nowhere}
 
 outcome-once : (x : Clash) (room : Bool) (accepted : Answer) (new output : Bytes) (r r′ : Answer) (after after′ : Bytes)
     → Outcome x room accepted new output r after → Outcome x room accepted new output r′ after′ → (r ≡ r′) × (after ≡ after′)
 unfolding Outcome
-outcome-once (ClashAt k b e) room accepted new output r r′ after after′ x y =
+outcome-once (At k b e) room accepted new output r r′ after after′ x y =
     (refusal-once r r′ 18 k b e (omega arith) (x .0) (y .0), x .1 ∙ sym (y .1))
-outcome-once NoClash false accepted new output r r′ after after′ x y = (refusal-once r r′ 19 0 0 0 (omega arith) (x .0) (y .0), x .1 ∙ sym (y .1))
-outcome-once NoClash true accepted new output r r′ after after′ x y = (x .0 ∙ sym (y .0), x .1 ∙ sym (y .1))
+outcome-once Nowhere false accepted new output r r′ after after′ x y = (refusal-once r r′ 19 0 0 0 (omega arith) (x .0) (y .0), x .1 ∙ sym (y .1))
+outcome-once Nowhere true accepted new output r r′ after after′ x y = (x .0 ∙ sym (y .0), x .1 ∙ sym (y .1))
 
 module _ (old new : Separators) (s : Bytes) (before : Tables) (output : Bytes) where
   -- an accepted reading has one numbering, and the rest follows from its segments

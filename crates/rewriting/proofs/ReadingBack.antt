@@ -23,15 +23,12 @@ use Rattle.gate.proofs.conditions.Conditions.{accepted-numbered, accepted-prope
 use Rattle.rewriting.specs.Rewrites.{strictly, rewritten, Rewrites}
 use Rattle.rewriting.specs.Conditions.{SameReport, ReadsTo, WritesExactly}
 use Rattle.rewriting.proofs.SegmentBytes.{texts, spelt, used-length, used-taken}
-use Rattle.rewriting.proofs.WrittenSegments.{again, AllKeep, all-keep, same-views, same-places, same-used, same-records}
-use Rattle.rewriting.proofs.Accepted.{bytesOf}
+use Rattle.rewriting.proofs.WrittenSegments.{rewritten-length, again, AllKeep, all-keep, same-views, same-places, same-used, same-records}
+use Rattle.rewriting.proofs.AcceptedTable.{bytesOf}
 use Rattle.rewriting.proofs.SuccessFacts.{Success, succeeded}
 
 module _ (old new : Separators) (s : Bytes) (before : Tables) (output : Bytes) (a l b : ℕ) (tables : Tables) (after : Bytes)
     (x : Success old new s before output a l b tables after) where
-  abbrev old-fitted : Fitted old
-  old-fitted = fitted old (x .old-fit)
-
   abbrev new-fitted : Fitted new
   new-fitted = fitted new (x .new-fit)
 
@@ -40,13 +37,13 @@ module _ (old new : Separators) (s : Bytes) (before : Tables) (output : Bytes) (
 
   -- the segments as they stand in the output, and its bytes
   abbrev renewed : List Placed
-  renewed = again old new old-fitted new-fitted (x .gs)
+  renewed = again old new new-fitted (x .gs)
 
   abbrev out : Bytes
   out = rewritten old new (x .gs)
 
-  keep : AllKeep old new old-fitted new-fitted (x .gs)
-  keep = all-keep old new old-fitted new-fitted 1 (x .gs) (spelt old 0 s (x .gs) (n .end) (n .rest) (n .leads) .clean) (x .apart)
+  keep : AllKeep old new new-fitted (x .gs)
+  keep = all-keep old new new-fitted 1 (x .gs) (x .apart)
 
   -- the reading of the old bytes
   abbrev short : length s ≤ limit
@@ -64,19 +61,8 @@ module _ (old new : Separators) (s : Bytes) (before : Tables) (output : Bytes) (
   used = ap bytesOf (shows .answer)
 
   -- the new bytes are as many
-  spelt-again : (gs : List Placed) → rewritten old new gs ≡ closed (new .terminator) (texts (again old new old-fitted new-fitted gs))
-  spelt-again [] = refl
-  spelt-again (g ∷ gs) = rw (spelt-again gs)
-
-  leads-again : Leads (cutBy (strictly new)) (skipBy (strictly new)) 0 out renewed (n .end) []
-  leads-again = same-places old new old-fitted new-fitted 0 s (x .gs) (n .end) (n .rest) keep (n .leads)
-
   long : length out ≡ b
-  long =
-      ap length (spelt-again (x .gs))
-      ∙ sym (used-length new out renewed (n .end) [] leads-again)
-      ∙ same-used old new old-fitted new-fitted (x .gs) keep
-      ∙ sym used
+  long = rewritten-length old new (x .gs) ∙ sym (used-length old s (x .gs) (n .end) (n .rest) (n .leads)) ∙ sym used
 
   pub taken-again : take b after ≡ out
   taken-again = ap (take b) (x .output-is) ∙ take-at out (drop (length out) output) b long
@@ -90,7 +76,10 @@ module _ (old new : Separators) (s : Bytes) (before : Tables) (output : Bytes) (
 
   -- the same report
   views : seen (strictly new) renewed ≡ seen (strictly old) (x .gs)
-  views = same-views old new old-fitted new-fitted (x .gs) keep
+  views = same-views old new new-fitted (x .gs) keep
+
+  leads-again : Leads (cutBy (strictly new)) (skipBy (strictly new)) 0 out renewed (n .end) []
+  leads-again = same-places old new new-fitted 0 s (x .gs) (n .end) (n .rest) keep (n .leads)
 
   numbering-again : Numbering (strictly new) out renewed (x .rows)
   numbering-again = record { end = n .end; rest = []; leads = leads-again; meets = rw views (n .meets) }
@@ -110,10 +99,10 @@ module _ (old new : Separators) (s : Bytes) (before : Tables) (output : Bytes) (
   room-again = rw views room
 
   answer-again : Accepted a l b ≡ Accepted (length renewed) (length (levelsIn nonconformance (onto [] (seen (strictly new) renewed)))) (usedBy renewed)
-  answer-again = shows .answer ∙ rw (views, same-used old new old-fitted new-fitted (x .gs) keep, length-map)
+  answer-again = shows .answer ∙ rw (views, same-used old new new-fitted (x .gs) keep, length-map)
 
   tables-again : recorded nonconformance (strictly new) before renewed (x .rows) ≡ tables
-  tables-again = rw (views, same-records old new old-fitted new-fitted [] (x .gs) (x .rows) keep) (sym (shows .tables))
+  tables-again = rw (views, same-records old new new-fitted [] (x .gs) (x .rows) keep) (sym (shows .tables))
 
   short-again : length out ≤ limit
   short-again = omega (

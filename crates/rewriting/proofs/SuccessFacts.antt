@@ -17,8 +17,10 @@ use Rattle.gate.specs.Reads.{Reads}
 use Rattle.gate.specs.Conditions.{Numbering}
 use Rattle.gate.specs.declared.answer.Answer.{Answer}
 use Rattle.gate.specs.declared.answer.Answer.the-variants.{Accepted, Refused}
-use Rattle.rewriting.specs.Rewrites.{strictly, rewritten, Clash, NoClash, ClashAt, collision, Outcome, AfterReading, RewritesFit, Rewrites}
-use Rattle.rewriting.proofs.Accepted.{bytesOf}
+use Rattle.rewriting.specs.Rewrites.{strictly, rewritten, collision, Outcome, AfterReading, RewritesFit, Rewrites}
+use Rattle.rewriting.specs.declared.collisions.Clash.{Clash}
+use Rattle.rewriting.specs.declared.collisions.Clash.the-variants.{At, Nowhere}
+use Rattle.rewriting.proofs.AcceptedTable.{bytesOf}
 
 -- an acceptance is no refusal
 accepted-refused : {a l b n k y e : ℕ} → Accepted a l b ≡ Refused n k y e → ⊥
@@ -35,13 +37,13 @@ pub record Success (old new : Separators) (s : Bytes) (before : Tables) (output 
   pub gs : List Placed
   pub rows : List ℕ
   pub numbering : Numbering (strictly old) s gs rows
-  pub apart : collision old new 1 gs ≡ NoClash
+  pub apart : collision old new 1 gs ≡ Nowhere
   pub room : b ≤ length output
   pub output-is : after ≡ rewritten old new gs ++ drop (length (rewritten old new gs)) output
 
 -- 18 and 19 are ruled out
 record Written (x : Clash) (room : Bool) (accepted : Answer) (new output : Bytes) (r : Answer) (after : Bytes) : Type 0 where
-  none : x ≡ NoClash
+  none : x ≡ Nowhere
   fits : room ≡ true
   same : r ≡ accepted
   output-is : after ≡ new ++ drop (length new) output
@@ -49,9 +51,9 @@ record Written (x : Clash) (room : Bool) (accepted : Answer) (new output : Bytes
 outcome-written : (x : Clash) (room : Bool) (accepted : Answer) (new output : Bytes) (a l b : ℕ) (after : Bytes)
     → Outcome x room accepted new output (Accepted a l b) after → Written x room accepted new output (Accepted a l b) after
 unfolding Outcome
-outcome-written (ClashAt k y e) room accepted new output a l b after x = absurd (omega (arith, head-eq-of-cons-eq (x .0)))
-outcome-written NoClash false accepted new output a l b after x = absurd (omega (arith, head-eq-of-cons-eq (x .0)))
-outcome-written NoClash true accepted new output a l b after x = record { none = refl; fits = refl; same = x .0; output-is = x .1 }
+outcome-written (At k y e) room accepted new output a l b after x = absurd (omega (arith, head-eq-of-cons-eq (x .0)))
+outcome-written Nowhere false accepted new output a l b after x = absurd (omega (arith, head-eq-of-cons-eq (x .0)))
+outcome-written Nowhere true accepted new output a l b after x = record { none = refl; fits = refl; same = x .0; output-is = x .1 }
 
 module _ (old new : Separators) (s : Bytes) (before : Tables) (output : Bytes) (a l b : ℕ) (tables : Tables) (after : Bytes) where
   -- and the reading's refusals

@@ -1,13 +1,13 @@
--- The segments written again: where no data byte is a new separator they are cut at the same places, and their views are the same.
+-- The segments written again are as long; where no data byte is a new separator they are cut at the same places, and their views are the same.
 -- Assumes nothing.
 use Prim.Native.Nat.{ℕ, suc, _+_}
-use mathlib.Core.Path.{_≡_, refl, sym, ap, _∙_}
+use mathlib.Core.Path.{_≡_, refl, ap}
 use mathlib.Core.List.{List, [], _∷_, _++_, map}
 use native.Mathlib.Omega.{arith}
 use lib.Dec.{T}
-use lib.ListN.{length, length-map}
+use lib.ListN.{length, length-append}
 use Rattle.text.specs.Bytes.{Bytes}
-use Rattle.text.specs.Pieces.{Clean}
+use Rattle.text.specs.Pieces.{closed}
 use Rattle.text.specs.View.{View, viewOf, written, empty}
 use Rattle.text.specs.Cut.{Placed, Leads, Whole}
 use Rattle.text.specs.declared.separators.Separators.{Separators}
@@ -22,25 +22,31 @@ use Rattle.gate.specs.Records.{segmentRecords}
 use Rattle.gate.specs.Reads.{cutBy, skipBy}
 use Rattle.gate.specs.Conditions.{usedBy}
 use Rattle.elements.proofs.FirstBroken.{each-every}
-use Rattle.rewriting.specs.Rewrites.{strictly, rewritten, apartFrom, collisionChecks, Clash, NoClash, ClashAt, orLater, collision}
-use Rattle.rewriting.specs.Collisions.{newByte}
+use Rattle.rewriting.specs.Rewrites.{strictly, rewritten, apartFrom, collisionChecks, orLater, collision}
+use Rattle.rewriting.specs.declared.collisions.Clash.{Clash}
+use Rattle.rewriting.specs.declared.collisions.Clash.the-variants.{At, Nowhere}
 use Rattle.rewriting.proofs.SegmentBytes.{texts}
-use Rattle.rewriting.proofs.Changing.{segment-changes}
+use Rattle.rewriting.proofs.WritingPieces.{written-length}
 
 -- a clash is one
-clash-none : {segment byte element : ℕ} → ClashAt segment byte element ≡ NoClash → ⊥
+clash-none : {segment byte element : ℕ} → At segment byte element ≡ Nowhere → ⊥
 clash-none e = let z : _≡_ {A = ℕ} 1 0 = ap count e in omega arith
   where
     count : Clash → ℕ
-    count (ClashAt segment byte element) = 1
-    count NoClash = 0
+    count (At segment byte element) = 1
+    count Nowhere = 0
 
 -- no collision in a segment, and none in those behind it
-silent : (v : Verdict) (n byte : ℕ) (later : Clash) → orLater v n byte later ≡ NoClash → (v ≡ Holds) × (later ≡ NoClash)
+silent : (v : Verdict) (n byte : ℕ) (later : Clash) → orLater v n byte later ≡ Nowhere → (v ≡ Holds) × (later ≡ Nowhere)
 silent Holds n byte later e = (refl, e)
 silent (Broken number element) n byte later e = absurd (clash-none e)
 
-module _ (old new : Separators) (old-fit : Fitted old) (new-fit : Fitted new) where
+-- as many bytes as before
+pub rewritten-length : (old new : Separators) (gs : List Placed) → length (rewritten old new gs) ≡ length (closed (old .terminator) (texts gs))
+rewritten-length old new [] = refl
+rewritten-length old new (g ∷ gs) = simp length-append (omega (arith, written-length old new (g .segment), rewritten-length old new gs))
+
+module _ (old new : Separators) (new-fit : Fitted new) where
   -- a segment with its view written again, at the same place
   abbrev pub renewed : Placed → Placed
   renewed g = record { at = g .at; segment = written new (viewOf old (g .segment)) }
@@ -59,18 +65,18 @@ module _ (old new : Separators) (old-fit : Fitted old) (new-fit : Fitted new) wh
   AllKeep [] = Unit {0}
   AllKeep (g ∷ gs) = Keeps g × AllKeep gs
 
-  pub all-keep : (n : ℕ) (gs : List Placed) → Clean (old .terminator) (texts gs) → collision old new n gs ≡ NoClash → AllKeep gs
-  all-keep n [] c e = tt
-  all-keep n (g ∷ gs) c e =
+  pub all-keep : (n : ℕ) (gs : List Placed) → collision old new n gs ≡ Nowhere → AllKeep gs
+  all-keep n [] e = tt
+  all-keep n (g ∷ gs) e =
       let v = viewOf old (g .segment) in
       let i = silent (firstBroken (collisionChecks new v)) n (g .at) (collision old new (suc n) gs) e in
       let u : T (unseparated new v) = each-every 18 (apartFrom new) empty v (i .0) in (
         record {
           view = view-written new new-fit v (view-well-formed old (g .segment)) u;
           cut = λ rest. cut-whole new (written new v) rest (written-free new new-fit v u);
-          long = ap length (sym (segment-changes old new old-fit (g .segment) (c .0))) ∙ length-map (g .segment) (newByte old new);
+          long = written-length old new (g .segment);
         },
-        all-keep (suc n) gs (c .1) (i .1),
+        all-keep (suc n) gs (i .1),
       )
 
   -- the same views

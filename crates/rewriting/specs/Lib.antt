@@ -1,3 +1,3 @@
 pub mod Rewrites
 pub mod Conditions
-pub mod Collisions
+pub mod internal

@@ -24,6 +24,8 @@ use Rattle.gate.specs.Conditions.{Numbering}
 use Rattle.gate.specs.declared.answer.Answer.{Answer}
 use Rattle.gate.specs.declared.answer.Answer.the-variants.{Accepted, Refused}
 use Rattle.gate.specs.declared.how.How.{How}
+use Rattle.rewriting.specs.declared.collisions.Clash.{Clash}
+use Rattle.rewriting.specs.declared.collisions.Clash.the-variants.{At, Nowhere}
 
 -- reading by these separators and nothing else; rewriting reads so, whatever its caller's way of reading is
 abbrev pub strictly : Separators → How
@@ -40,28 +42,24 @@ apartFrom new p = every (every (λ (b : ℕ). not (isSeparator new b))) p
 abbrev pub collisionChecks : Separators → View → List Check
 collisionChecks new v = each 18 0 (length v) (λ (k : ℕ). apartFrom new (elementOf v k))
 
--- where such a piece stands: the segment's number, the byte where it starts, and the element; or that there is none
-pub data Clash : Type 0 where
-  NoClash : Clash
-  ClashAt : ℕ → ℕ → ℕ → Clash
-
--- the first segment with such a piece decides, and in it the first such piece; n is the number of the first of these segments
+-- a clash is such a piece: its segment's number, the byte where the segment starts, and the element. The first segment with such a piece
+-- decides, and in it the first such piece; n is the number of the first of these segments
 abbrev pub orLater : Verdict → ℕ → ℕ → Clash → Clash
 orLater Holds n byte later = later
-orLater (Broken number element) n byte later = ClashAt n byte element
+orLater (Broken number element) n byte later = At n byte element
 
 abbrev pub collision : Separators → Separators → ℕ → List Placed → Clash
-collision old new n [] = NoClash
+collision old new n [] = Nowhere
 collision old new n (g ∷ gs) =
     orLater (firstBroken (collisionChecks new (viewOf old (g .segment)))) n (g .at) (collision old new (suc n) gs)
 
 -- what becomes of an accepted reading: 18, then 19 where the output has no room, both with the output as it was; else the reading's own answer,
 -- and the new bytes at the start of the output
 unfoldable pub Outcome : Clash → (room : Bool) → Answer → Bytes → Bytes → Answer → Bytes → Type 0
-Outcome (ClashAt segment byte element) room accepted new output r after =
+Outcome (At segment byte element) room accepted new output r after =
     (numbersOf r ≡ 18 ∷ segment ∷ byte ∷ element ∷ []) × (after ≡ output)
-Outcome NoClash false accepted new output r after = (numbersOf r ≡ 19 ∷ 0 ∷ 0 ∷ 0 ∷ []) × (after ≡ output)
-Outcome NoClash true accepted new output r after = (r ≡ accepted) × (after ≡ new ++ drop (length new) output)
+Outcome Nowhere false accepted new output r after = (numbersOf r ≡ 19 ∷ 0 ∷ 0 ∷ 0 ∷ []) × (after ≡ output)
+Outcome Nowhere true accepted new output r after = (r ≡ accepted) × (after ≡ new ++ drop (length new) output)
 
 -- an accepted reading has the segments of the one numbering that meets every rule
 pub record AfterAcceptance (old new : Separators) (s : Bytes) (accepted : Answer) (bytes : ℕ) (output : Bytes) (r : Answer) (after : Bytes) : Type 0 where
