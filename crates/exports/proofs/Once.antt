@@ -21,10 +21,10 @@ told-once {how} {s} {before} {x} {x′} a b =
     (a .numbers ∙ ap numbersOf (o .0) ∙ sym (b .numbers), o .1)
 
 -- the numbers of a rewriting, both tables and the output are one
-pub told-again-once : {how : How} {new : Separators} {s : Bytes} {before x x′ : Tables} {output w w′ : Bytes} {four four′ : List ℕ}
-    → ToldAgain how new s before output x w four → ToldAgain how new s before output x′ w′ four′ → (four ≡ four′) × (x ≡ x′) × (w ≡ w′)
-told-again-once {how} {new} {s} {before} {x} {x′} {output} {w} {w′} a b =
-    let o = rewrites-once how new s output before (a .answer) (b .answer) x x′ w w′ (a .rewrites) (b .rewrites) in
+pub told-again-once : {old new : Separators} {s : Bytes} {before x x′ : Tables} {output w w′ : Bytes} {four four′ : List ℕ}
+    → ToldAgain old new s before output x w four → ToldAgain old new s before output x′ w′ four′ → (four ≡ four′) × (x ≡ x′) × (w ≡ w′)
+told-again-once {old} {new} {s} {before} {x} {x′} {output} {w} {w′} a b =
+    let o = rewrites-once old new s before output (a .answer) (b .answer) x x′ w w′ (a .rewrites) (b .rewrites) in
     (a .numbers ∙ ap numbersOf (o .0) ∙ sym (b .numbers), o .1, o .2)
 
 -- the numbers of a part are one

@@ -18,6 +18,6 @@ module _ (s : Bytes) (before after : Tables) (r : Answer) (four : List ℕ) (giv
   tell e x n = record { answer = r; reads = rw e at x; numbers = n }
 
   pub tell-again : (new new′ : Separators) (output written : Bytes) → given′ ≡ given → new′ ≡ new
-      → Rewrites (record { separators = given′ }) new′ s before output r after written → four ≡ numbersOf r
-      → ToldAgain (record { separators = given }) new s before output after written four
+      → Rewrites given′ new′ s before output r after written → four ≡ numbersOf r
+      → ToldAgain given new s before output after written four
   tell-again new new′ output written e f x n = record { answer = r; rewrites = rw (e, f) at x; numbers = n }

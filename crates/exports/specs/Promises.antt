@@ -32,9 +32,9 @@ pub record Told (how : How) (s : Bytes) (before after : Tables) (four : List ℕ
   pub numbers : four ≡ numbersOf answer
 
 -- a rewriting, told by the four numbers of its answer
-pub record ToldAgain (how : How) (new : Separators) (s : Bytes) (before : Tables) (output : Bytes) (after : Tables) (written : Bytes) (four : List ℕ) : Type 0 where
+pub record ToldAgain (old new : Separators) (s : Bytes) (before : Tables) (output : Bytes) (after : Tables) (written : Bytes) (four : List ℕ) : Type 0 where
   pub answer : Answer
-  pub rewrites : Rewrites how new s before output answer after written
+  pub rewrites : Rewrites old new s before output answer after written
   pub numbers : four ≡ numbersOf answer
 
 -- the two numbers of a part: where it starts, and how long it is

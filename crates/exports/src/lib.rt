@@ -83,15 +83,13 @@ pub extern "C" fn stormhlaw_rewrite(
     output: &mut [u8],
     answer: &mut [u64; 4],
 )
-    ensures { λ _. ⌜ ToldAgain (howOf element component terminator) (separatorsOf «new_element» «new_component» «new_terminator») (now (input .entry))
+    ensures { λ _. ⌜ ToldAgain (separatorsOf element component terminator) (separatorsOf «new_element» «new_component» «new_terminator») (now (input .entry))
         (tablesOf (now (segments .entry)) (now (levels .entry))) (now (output .entry))
         (tablesOf (now (segments .exit)) (now (levels .exit))) (now (output .exit)) (now (answer .exit)) ⌝ }
 {
-    let how = How {
-        separators: separators_of(element, component, terminator),
-    };
+    let old = separators_of(element, component, terminator);
     let new = separators_of(new_element, new_component, new_terminator);
-    *answer = four(rewriting::rewriting::rewrite(input, how, new, segments, levels, output));
+    *answer = four(rewriting::rewriting::rewrite(input, old, new, segments, levels, output));
 }
 
 // Where an element of the segment stands, 0 being the tag: start and length.

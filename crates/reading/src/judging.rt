@@ -19,7 +19,9 @@ use finding::filling;
 use finding::known::Known;
 use gate::how::How;
 use levels::judging::Judged;
+use levels::widths::SEGMENT_WIDTH;
 use numbering::next;
+use rows::list::ENTRIES;
 use rows::tags;
 use ruling::ruled;
 use text::compare;
@@ -86,7 +88,7 @@ fn by_level(row: u8, known: Known, id: &[u8], judged: Judged) -> Judgement
 fn opening_control<'a>(s: &'a [u8], separator: u8, segments: &[u64]) -> &'a [u8]
     ensures { λ r. ⌜ now r ≡ openingControl (now (s .entry)) separator (now (segments .entry)) ⌝ }
 {
-    if segments.len() < 3 {
+    if segments.len() < SEGMENT_WIDTH {
         return &s[0..0];
     }
     let len = segments[1] as usize;
@@ -172,7 +174,7 @@ fn judge_late(
 fn judge_known(
     s: &[u8],
     how: How,
-    table: &[u8; 2686],
+    table: &[u8; ENTRIES],
     starts: &[usize; 33],
     layout: Layout,
     state: State,
@@ -198,7 +200,7 @@ fn judge_known(
 pub(crate) fn judge(
     s: &[u8],
     how: How,
-    table: &[u8; 2686],
+    table: &[u8; ENTRIES],
     starts: &[usize; 33],
     layout: Layout,
     state: State,

@@ -28,6 +28,7 @@ use elements::verdict::Verdict;
 use gate::answer::Answer;
 use gate::how::How;
 use numbering::next;
+use rows::list::ENTRIES;
 
 // The longest input.
 pub const LIMIT: usize = 1048576;
@@ -68,7 +69,7 @@ fn read_on(
     s: &[u8],
     how: How,
     specials: &[bool; 256],
-    table: &[u8; 2686],
+    table: &[u8; ENTRIES],
     segments: &mut [u64],
     levels: &mut [u64],
 ) -> Answer

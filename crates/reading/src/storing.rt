@@ -6,6 +6,8 @@ ghost use lib.Dec.{ltb};
 ghost use lib.ListN.{length, set};
 ghost use Rattle.levels.specs.Widths.{segmentWidth, levelWidth};
 ghost use Rattle.finding.specs.internal.Entries.{storedAt};
+use levels::widths::LEVEL_WIDTH;
+use levels::widths::SEGMENT_WIDTH;
 
 // A level that a segment makes: its parent's level number, its depth and its code.
 pub(crate) struct NewLevel {
@@ -18,14 +20,14 @@ pub(crate) struct NewLevel {
 pub(crate) fn segment_room(segments: &[u64], n: usize) -> bool
     ensures { λ r. ⌜ r ≡ ltb n (length (now (segments .entry)) / segmentWidth) ⌝ }
 {
-    n < segments.len() / 3
+    n < segments.len() / SEGMENT_WIDTH
 }
 
 // Whether the level table has room for one record behind the first n.
 pub(crate) fn level_room(levels: &[u64], n: usize) -> bool
     ensures { λ r. ⌜ r ≡ ltb n (length (now (levels .entry)) / levelWidth) ⌝ }
 {
-    n < levels.len() / 4
+    n < levels.len() / LEVEL_WIDTH
 }
 
 // Stores one number of a record.
@@ -41,7 +43,7 @@ pub(crate) fn put_segment(segments: &mut [u64], n: usize, start: usize, len: usi
     requires { ⌜ n < length (now segments) / segmentWidth ⌝ }
     ensures { λ _. ⌜ now (segments .exit) ≡ storedAt segmentWidth (now (segments .entry)) n (start ∷ len ∷ row ∷ []) ⌝ }
 {
-    let at = n * 3;
+    let at = n * SEGMENT_WIDTH;
     store(segments, at, start);
     store(segments, at + 1, len);
     store(segments, at + 2, row as usize);
@@ -52,7 +54,7 @@ pub(crate) fn put_level(levels: &mut [u64], n: usize, segment: usize, level: New
     requires { ⌜ n < length (now levels) / levelWidth ⌝ }
     ensures { λ _. ⌜ now (levels .exit) ≡ storedAt levelWidth (now (levels .entry)) n (segment ∷ level .parent ∷ level .depth ∷ level .code ∷ []) ⌝ }
 {
-    let at = n * 4;
+    let at = n * LEVEL_WIDTH;
     store(levels, at, segment);
     store(levels, at + 1, level.parent);
     store(levels, at + 2, level.depth);

@@ -15,52 +15,53 @@ use Rattle.gate.specs.Profile.{nonconformance}
 use Rattle.gate.specs.Records.{Tables}
 use Rattle.gate.specs.declared.answer.Answer.{Answer}
 use Rattle.gate.specs.declared.answer.Answer.the-variants.{Accepted, Refused}
-use Rattle.gate.specs.declared.how.How.{How}
 use Rattle.gate.proofs.reading.Numbers.{refusal-once}
 use Rattle.gate.proofs.reading.Once.{reads-once}
 use Rattle.gate.proofs.conditions.Conditions.{numbering-once}
-use Rattle.rewriting.specs.Rewrites.{rewritten, Clash, NoClash, ClashAt, collision, Outcome, Following, Rewriting, Unfit, RewritesFit, Rewrites}
+use Rattle.rewriting.specs.Rewrites.{strictly, rewritten, collision, Outcome, AfterReading, Rewriting, Unfit, RewritesFit, Rewrites}
+use Rattle.rewriting.specs.declared.collisions.Clash.{Clash}
+use Rattle.rewriting.specs.declared.collisions.Clash.the-variants.{At, Nowhere}
 
 outcome-once : (x : Clash) (room : Bool) (accepted : Answer) (new output : Bytes) (r r′ : Answer) (after after′ : Bytes)
     → Outcome x room accepted new output r after → Outcome x room accepted new output r′ after′ → (r ≡ r′) × (after ≡ after′)
 unfolding Outcome
-outcome-once (ClashAt k b e) room accepted new output r r′ after after′ x y =
+outcome-once (At k b e) room accepted new output r r′ after after′ x y =
     (refusal-once r r′ 18 k b e (omega arith) (x .0) (y .0), x .1 ∙ sym (y .1))
-outcome-once NoClash false accepted new output r r′ after after′ x y = (refusal-once r r′ 19 0 0 0 (omega arith) (x .0) (y .0), x .1 ∙ sym (y .1))
-outcome-once NoClash true accepted new output r r′ after after′ x y = (x .0 ∙ sym (y .0), x .1 ∙ sym (y .1))
+outcome-once Nowhere false accepted new output r r′ after after′ x y = (refusal-once r r′ 19 0 0 0 (omega arith) (x .0) (y .0), x .1 ∙ sym (y .1))
+outcome-once Nowhere true accepted new output r r′ after after′ x y = (x .0 ∙ sym (y .0), x .1 ∙ sym (y .1))
 
-module _ (how : How) (new : Separators) (s : Bytes) (output : Bytes) where
+module _ (old new : Separators) (s : Bytes) (before : Tables) (output : Bytes) where
   -- an accepted reading has one numbering, and the rest follows from its segments
-  following-once : (answer : Answer) (r r′ : Answer) (after after′ : Bytes) → Following how new s answer output r after
-      → Following how new s answer output r′ after′ → (r ≡ r′) × (after ≡ after′)
+  following-once : (answer : Answer) (r r′ : Answer) (after after′ : Bytes) → AfterReading old new s answer output r after
+      → AfterReading old new s answer output r′ after′ → (r ≡ r′) × (after ≡ after′)
   following-once (Accepted a l b) r r′ after after′ x y =
-      let gs = numbering-once how s (x .gs) (y .gs) (x .rows) (y .rows) (x .numbering) (y .numbering) .0 in
-      outcome-once (collision how new 1 (y .gs)) (leb b (length output)) (Accepted a l b) (rewritten how new (y .gs)) output r r′ after after′
-      (subst (λ (gs : List Placed). Outcome (collision how new 1 gs) (leb b (length output)) (Accepted a l b) (rewritten how new gs) output r after) gs
+      let gs = numbering-once (strictly old) s (x .gs) (y .gs) (x .rows) (y .rows) (x .numbering) (y .numbering) .0 in
+      outcome-once (collision old new 1 (y .gs)) (leb b (length output)) (Accepted a l b) (rewritten old new (y .gs)) output r r′ after after′
+      (subst (λ (gs : List Placed). Outcome (collision old new 1 gs) (leb b (length output)) (Accepted a l b) (rewritten old new gs) output r after) gs
       (x .outcome))
       (y .outcome)
   following-once (Refused n k b e) r r′ after after′ x y = (x .0 ∙ sym (y .0), x .1 ∙ sym (y .1))
 
   -- the answer, the tables and the output of a rewriting are one
-  pub rewrites-once : (before : Tables) (r r′ : Answer) (tables tables′ : Tables) (after after′ : Bytes) → Rewrites how new s before output r tables after
-      → Rewrites how new s before output r′ tables′ after′ → (r ≡ r′) × (tables ≡ tables′) × (after ≡ after′)
+  pub rewrites-once : (r r′ : Answer) (tables tables′ : Tables) (after after′ : Bytes) → Rewrites old new s before output r tables after
+      → Rewrites old new s before output r′ tables′ after′ → (r ≡ r′) × (tables ≡ tables′) × (after ≡ after′)
   unfolding Rewrites
-  rewrites-once before r r′ tables tables′ after after′ x y = fit (fitSeparators (how .separators)) (fitSeparators new) x y
+  rewrites-once r r′ tables tables′ after after′ x y = fit (fitSeparators old) (fitSeparators new) x y
     where
       unfit : (e : ℕ) → Unfit e before output r tables after → Unfit e before output r′ tables′ after′ → (r ≡ r′) × (tables ≡ tables′) × (after ≡ after′)
       unfit e x y = (refusal-once r r′ 1 0 0 e (omega arith) (x .answer) (y .answer), x .tables-kept ∙ sym (y .tables-kept), x .output-kept ∙ sym (y .output-kept))
 
-      read : Rewriting how new s before output r tables after → Rewriting how new s before output r′ tables′ after′
+      read : Rewriting old new s before output r tables after → Rewriting old new s before output r′ tables′ after′
           → (r ≡ r′) × (tables ≡ tables′) × (after ≡ after′)
       read x y =
-          let first = reads-once nonconformance how s before (x .answer) (y .answer) tables tables′ (x .reads) (y .reads) in
+          let first = reads-once nonconformance (strictly old) s before (x .answer) (y .answer) tables tables′ (x .reads) (y .reads) in
           let then =
-          following-once (y .answer) r r′ after after′ (subst (λ (a : Answer). Following how new s a output r after) (first .0) (x .follows))
+          following-once (y .answer) r r′ after after′ (subst (λ (a : Answer). AfterReading old new s a output r after) (first .0) (x .follows))
           (y .follows) in
           (then .0, first .1, then .1)
 
-      fit : (old-fit new-fit : Bool) → RewritesFit old-fit new-fit how new s before output r tables after
-          → RewritesFit old-fit new-fit how new s before output r′ tables′ after′ → (r ≡ r′) × (tables ≡ tables′) × (after ≡ after′)
+      fit : (old-fit new-fit : Bool) → RewritesFit old-fit new-fit old new s before output r tables after
+          → RewritesFit old-fit new-fit old new s before output r′ tables′ after′ → (r ≡ r′) × (tables ≡ tables′) × (after ≡ after′)
       fit false new-fit x y = unfit 0 x y
       fit true false x y = unfit 1 x y
       fit true true x y = read x y

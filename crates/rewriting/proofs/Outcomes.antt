@@ -1,13 +1,13 @@
 -- The ways in which rewriting ends, each as the promise says it.
 -- Assumes nothing.
-use Prim.Native.Nat.{ℕ, _≤_, _<_}
-use mathlib.Core.Path.{_≡_, refl, sym, ap, _∙_}
-use mathlib.Core.Bool.{Bool, true, false, not}
-use mathlib.Core.List.{_++_, map}
-use lib.Dec.{T, leb}
-use lib.ListN.{length, take, drop, length-map}
-use lib.Seq.{length-take-le}
-use borrow.Author.Tests.{le-leb, lt-leb, not-true, not-false}
+use Prim.Native.Nat.{ℕ, _+_, _≤_, _<_}
+use mathlib.Core.Path.{_≡_, refl, ap, _∙_}
+use mathlib.Core.Bool.{true, false}
+use mathlib.Core.List.{List, _++_}
+use native.Mathlib.Omega.{arith}
+use lib.Dec.{leb}
+use lib.ListN.{length, drop}
+use borrow.Author.Tests.{le-leb, lt-leb}
 use Rattle.text.specs.Bytes.{Bytes}
 use Rattle.text.specs.Separators.{fitSeparators}
 use Rattle.text.specs.declared.separators.Separators.{Separators}
@@ -15,67 +15,61 @@ use Rattle.gate.specs.Records.{Tables}
 use Rattle.gate.specs.Reads.{Reads}
 use Rattle.gate.specs.declared.answer.Answer.{Answer}
 use Rattle.gate.specs.declared.answer.Answer.the-variants.{Accepted, Refused}
-use Rattle.gate.specs.declared.how.How.{How}
-use Rattle.rewriting.specs.Rewrites.{Outcome, Rewrites}
-use Rattle.rewriting.specs.Collisions.{clashOf, outset, collisionFrom, newByte}
-use Rattle.rewriting.specs.declared.collisions.Place.{Place}
-use Rattle.rewriting.specs.declared.collisions.Collision.{Collision}
-use Rattle.rewriting.specs.declared.collisions.Collision.the-variants.{At, Nowhere}
-use Rattle.rewriting.proofs.Accepted.{accepting}
+use Rattle.rewriting.specs.Rewrites.{strictly, rewritten, collision, Outcome, Rewrites}
+use Rattle.rewriting.specs.declared.collisions.Clash.{Clash}
+use Rattle.rewriting.specs.declared.collisions.Clash.the-variants.{At, Nowhere}
+use Rattle.rewriting.specs.internal.SegmentTable.{segmentsFrom}
+use Rattle.rewriting.specs.internal.Output.{putAt}
+use Rattle.rewriting.proofs.AcceptedTable.{accepting}
 
 -- after an accepted reading: 18, 19, and the bytes written
-module _ (s : Bytes) (old new : Separators) (segments levels bytes : ℕ) (output : Bytes) where
-  abbrev found : Collision
-  found = collisionFrom old new outset 0 (take bytes s)
+module _ (old new : Separators) (s : Bytes) (table : List ℕ) (count levels bytes : ℕ) (output : Bytes) where
+  abbrev found : Clash
+  found = collision old new 1 (segmentsFrom s table 0 count)
 
-  abbrev changed : Bytes
-  changed = map (newByte old new) (take bytes s)
+  abbrev again : Bytes
+  again = rewritten old new (segmentsFrom s table 0 count)
 
   abbrev Ends : Answer → Bytes → Type 0
-  Ends r after = Outcome (clashOf found) (leb bytes (length output)) (Accepted segments levels bytes) changed output r after
+  Ends r after = Outcome found (leb bytes (length output)) (Accepted count levels bytes) again output r after
 
-  pub collided : (p : Place) → found ≡ At p → Ends (Refused 18 (p .segment) (p .byte) (p .element)) output
+  pub collided : (segment byte element : ℕ) → At segment byte element ≡ found → Ends (Refused 18 segment byte element) output
   unfolding Outcome
-  collided p e = rw e (refl, refl)
+  collided segment byte element e = rw (← e) (refl, refl)
 
-  pub too-short : found ≡ Nowhere → length output < bytes → Ends (Refused 19 0 0 0) output
+  pub too-short : Nowhere ≡ found → length output < bytes → Ends (Refused 19 0 0 0) output
   unfolding Outcome
-  too-short e l = rw (e, lt-leb bytes (length output) l) (refl, refl)
+  too-short e l = rw (← e, lt-leb bytes (length output) l) (refl, refl)
 
-  pub put : found ≡ Nowhere → bytes ≤ length output → bytes ≤ length s → (after : Bytes) → after ≡ changed ++ drop bytes output
-      → Ends (Accepted segments levels bytes) after
+  pub put : Nowhere ≡ found → bytes ≤ length output → (after : Bytes) → after ≡ putAt 0 again output → Ends (Accepted count levels bytes) after
   unfolding Outcome
-  put e l inside after w =
-      let n : length changed ≡ bytes = length-map (take bytes s) (newByte old new) ∙ length-take-le bytes s inside in
-      rw (e, le-leb bytes (length output) l) (refl, w ∙ ap (λ (k : ℕ). changed ++ drop k output) (sym n))
+  put e l after w =
+      let same : 0 + length again ≡ length again = omega arith in
+      rw (← e, le-leb bytes (length output) l) (refl, w ∙ ap (λ (k : ℕ). again ++ drop k output) same)
 
--- with the two tests of fitness as they came out
-module _ (how : How) (new : Separators) (s : Bytes) (before : Tables) (output : Bytes) (old-fit new-fit : Bool)
-    (old-is : old-fit ≡ fitSeparators (how .separators)) where
-  pub old-unfit : not old-fit ≡ true → Rewrites how new s before output (Refused 1 0 0 0) before output
+-- the two sets are tested, and the transaction is read
+module _ (old new : Separators) (s : Bytes) (before : Tables) (output : Bytes) where
+  pub old-unfit : fitSeparators old ≡ false → Rewrites old new s before output (Refused 1 0 0 0) before output
   unfolding Rewrites
-  old-unfit n = rw (← old-is, not-true old-fit n) (record { answer = refl; tables-kept = refl; output-kept = refl })
+  old-unfit e = rw e (record { answer = refl; tables-kept = refl; output-kept = refl })
 
-  module _ (old-passes : not old-fit ≡ false) (new-is : new-fit ≡ fitSeparators new) where
-    pub new-unfit : not new-fit ≡ true → Rewrites how new s before output (Refused 1 0 0 1) before output
+  module _ (old-fits : fitSeparators old ≡ true) where
+    pub new-unfit : fitSeparators new ≡ false → Rewrites old new s before output (Refused 1 0 0 1) before output
     unfolding Rewrites
-    new-unfit n = rw (← old-is, not-false old-fit old-passes, ← new-is, not-true new-fit n)
-        (record { answer = refl; tables-kept = refl; output-kept = refl })
+    new-unfit e = rw (old-fits, e) (record { answer = refl; tables-kept = refl; output-kept = refl })
 
-    module _ (new-passes : not new-fit ≡ false) (tables : Tables) where
-      pub reading-refused : (number segment byte element : ℕ) → Reads how s before (Refused number segment byte element) tables
-          → Rewrites how new s before output (Refused number segment byte element) tables output
+    module _ (new-fits : fitSeparators new ≡ true) (tables : Tables) where
+      pub reading-refused : (number segment byte element : ℕ) → Reads (strictly old) s before (Refused number segment byte element) tables
+          → Rewrites old new s before output (Refused number segment byte element) tables output
       unfolding Rewrites
       reading-refused number segment byte element x =
-          rw (← old-is, not-false old-fit old-passes, ← new-is, not-false new-fit new-passes)
-          (record { answer = Refused number segment byte element; reads = x; follows = (refl, refl) })
+          rw (old-fits, new-fits) (record { answer = Refused number segment byte element; reads = x; follows = (refl, refl) })
 
-      pub reading-accepted : (a l b : ℕ) → Reads how s before (Accepted a l b) tables → (r : Answer) (after : Bytes)
-          → Outcome (clashOf (collisionFrom (how .separators) new outset 0 (take b s))) (leb b (length output)) (Accepted a l b)
-          (map (newByte (how .separators) new) (take b s)) output r after
-          → Rewrites how new s before output r tables after
+      pub reading-accepted : (a l b : ℕ) → Reads (strictly old) s before (Accepted a l b) tables → (r : Answer) (after : Bytes)
+          → Outcome (collision old new 1 (segmentsFrom s (tables .segments) 0 a)) (leb b (length output)) (Accepted a l b)
+          (rewritten old new (segmentsFrom s (tables .segments) 0 a)) output r after
+          → Rewrites old new s before output r tables after
       unfolding Rewrites
       reading-accepted a l b x r after y =
-          let fit : T (fitSeparators (how .separators)) = rw (← old-is, not-false old-fit old-passes) tt in
-          rw (← old-is, not-false old-fit old-passes, ← new-is, not-false new-fit new-passes)
-          (record { answer = Accepted a l b; reads = x; follows = accepting how s before a l b tables x new fit output r after y })
+          rw (old-fits, new-fits)
+          (record { answer = Accepted a l b; reads = x; follows = accepting old s before a l b tables x new output r after y })

@@ -1,3 +1,3 @@
 pub mod Rewrites
-pub mod Laws
-pub mod Collisions
+pub mod Conditions
+pub mod internal

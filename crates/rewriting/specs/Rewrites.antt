@@ -24,10 +24,16 @@ use Rattle.gate.specs.Conditions.{Numbering}
 use Rattle.gate.specs.declared.answer.Answer.{Answer}
 use Rattle.gate.specs.declared.answer.Answer.the-variants.{Accepted, Refused}
 use Rattle.gate.specs.declared.how.How.{How}
+use Rattle.rewriting.specs.declared.collisions.Clash.{Clash}
+use Rattle.rewriting.specs.declared.collisions.Clash.the-variants.{At, Nowhere}
+
+-- reading by these separators and nothing else; rewriting reads so, whatever its caller's way of reading is
+abbrev pub strictly : Separators → How
+strictly old = record { separators = old }
 
 -- the segments as they are written with the new separators: every view again, and a terminator after each
-abbrev pub rewritten : How → Separators → List Placed → Bytes
-rewritten how new gs = closed (new .terminator) (map (written new) (seen how gs))
+abbrev pub rewritten : Separators → Separators → List Placed → Bytes
+rewritten old new gs = closed (new .terminator) (map (written new) (seen (strictly old) gs))
 
 -- 18: a data byte of a piece equals a new separator; the tag is element 0
 abbrev pub apartFrom : Separators → Piece → Bool
@@ -36,46 +42,43 @@ apartFrom new p = every (every (λ (b : ℕ). not (isSeparator new b))) p
 abbrev pub collisionChecks : Separators → View → List Check
 collisionChecks new v = each 18 0 (length v) (λ (k : ℕ). apartFrom new (elementOf v k))
 
--- where such a piece stands: the segment's number, the byte where it starts, and the element; or that there is none
-pub data Clash : Type 0 where
-  NoClash : Clash
-  ClashAt : ℕ → ℕ → ℕ → Clash
-
--- the first segment with such a piece decides, and in it the first such piece; n is the number of the first of these segments
+-- a clash is such a piece: its segment's number, the byte where the segment starts, and the element. The first segment with such a piece
+-- decides, and in it the first such piece; n is the number of the first of these segments
 abbrev pub orLater : Verdict → ℕ → ℕ → Clash → Clash
 orLater Holds n byte later = later
-orLater (Broken number element) n byte later = ClashAt n byte element
+orLater (Broken number element) n byte later = At n byte element
 
-abbrev pub collision : How → Separators → ℕ → List Placed → Clash
-collision how new n [] = NoClash
-collision how new n (g ∷ gs) =
-    orLater (firstBroken (collisionChecks new (viewOf (how .separators) (g .segment)))) n (g .at) (collision how new (suc n) gs)
+abbrev pub collision : Separators → Separators → ℕ → List Placed → Clash
+collision old new n [] = Nowhere
+collision old new n (g ∷ gs) =
+    orLater (firstBroken (collisionChecks new (viewOf old (g .segment)))) n (g .at) (collision old new (suc n) gs)
 
 -- what becomes of an accepted reading: 18, then 19 where the output has no room, both with the output as it was; else the reading's own answer,
 -- and the new bytes at the start of the output
 unfoldable pub Outcome : Clash → (room : Bool) → Answer → Bytes → Bytes → Answer → Bytes → Type 0
-Outcome (ClashAt segment byte element) room accepted new output r after =
+Outcome (At segment byte element) room accepted new output r after =
     (numbersOf r ≡ 18 ∷ segment ∷ byte ∷ element ∷ []) × (after ≡ output)
-Outcome NoClash false accepted new output r after = (numbersOf r ≡ 19 ∷ 0 ∷ 0 ∷ 0 ∷ []) × (after ≡ output)
-Outcome NoClash true accepted new output r after = (r ≡ accepted) × (after ≡ new ++ drop (length new) output)
+Outcome Nowhere false accepted new output r after = (numbersOf r ≡ 19 ∷ 0 ∷ 0 ∷ 0 ∷ []) × (after ≡ output)
+Outcome Nowhere true accepted new output r after = (r ≡ accepted) × (after ≡ new ++ drop (length new) output)
 
 -- an accepted reading has the segments of the one numbering that meets every rule
-pub record Accepting (how : How) (new : Separators) (s : Bytes) (accepted : Answer) (bytes : ℕ) (output : Bytes) (r : Answer) (after : Bytes) : Type 0 where
+pub record AfterAcceptance (old new : Separators) (s : Bytes) (accepted : Answer) (bytes : ℕ) (output : Bytes) (r : Answer) (after : Bytes) : Type 0 where
   pub gs : List Placed
   pub rows : List ℕ
-  pub numbering : Numbering how s gs rows
-  pub outcome : Outcome (collision how new 1 gs) (leb bytes (length output)) accepted (rewritten how new gs) output r after
+  pub numbering : Numbering (strictly old) s gs rows
+  pub outcome : Outcome (collision old new 1 gs) (leb bytes (length output)) accepted (rewritten old new gs) output r after
 
--- a refused reading's answer is returned as it is
-abbrev pub Following : How → Separators → Bytes → Answer → Bytes → Answer → Bytes → Type 0
-Following how new s (Accepted segments levels bytes) output r after = Accepting how new s (Accepted segments levels bytes) bytes output r after
-Following how new s (Refused number segment byte element) output r after = (r ≡ Refused number segment byte element) × (after ≡ output)
+-- what follows the reading's answer; a refusal is returned as it is
+abbrev pub AfterReading : Separators → Separators → Bytes → Answer → Bytes → Answer → Bytes → Type 0
+AfterReading old new s (Accepted segments levels bytes) output r after =
+    AfterAcceptance old new s (Accepted segments levels bytes) bytes output r after
+AfterReading old new s (Refused number segment byte element) output r after = (r ≡ Refused number segment byte element) × (after ≡ output)
 
 -- with both sets fit: the reading, which leaves the tables, and what follows it
-pub record Rewriting (how : How) (new : Separators) (s : Bytes) (before : Tables) (output : Bytes) (r : Answer) (tables : Tables) (after : Bytes) : Type 0 where
+pub record Rewriting (old new : Separators) (s : Bytes) (before : Tables) (output : Bytes) (r : Answer) (tables : Tables) (after : Bytes) : Type 0 where
   pub answer : Answer
-  pub reads : Reads how s before answer tables
-  pub follows : Following how new s answer output r after
+  pub reads : Reads (strictly old) s before answer tables
+  pub follows : AfterReading old new s answer output r after
 
 -- 1 with this element: nothing is written
 pub record Unfit (element : ℕ) (before : Tables) (output : Bytes) (r : Answer) (tables : Tables) (after : Bytes) : Type 0 where
@@ -84,12 +87,12 @@ pub record Unfit (element : ℕ) (before : Tables) (output : Bytes) (r : Answer)
   pub output-kept : after ≡ output
 
 -- both sets are tested first, the old one with element 0, the new one with element 1
-abbrev pub RewritesFit : (old-fit new-fit : Bool) → How → Separators → Bytes → Tables → Bytes → Answer → Tables → Bytes → Type 0
-RewritesFit false new-fit how new s before output r tables after = Unfit 0 before output r tables after
-RewritesFit true false how new s before output r tables after = Unfit 1 before output r tables after
-RewritesFit true true how new s before output r tables after = Rewriting how new s before output r tables after
+abbrev pub RewritesFit : (old-fit new-fit : Bool) → Separators → Separators → Bytes → Tables → Bytes → Answer → Tables → Bytes → Type 0
+RewritesFit false new-fit old new s before output r tables after = Unfit 0 before output r tables after
+RewritesFit true false old new s before output r tables after = Unfit 1 before output r tables after
+RewritesFit true true old new s before output r tables after = Rewriting old new s before output r tables after
 
 -- the promise of rewriting
-unfoldable pub Rewrites : How → Separators → Bytes → Tables → Bytes → Answer → Tables → Bytes → Type 0
-Rewrites how new s before output r tables after =
-    RewritesFit (fitSeparators (how .separators)) (fitSeparators new) how new s before output r tables after
+unfoldable pub Rewrites : Separators → Separators → Bytes → Tables → Bytes → Answer → Tables → Bytes → Type 0
+Rewrites old new s before output r tables after =
+    RewritesFit (fitSeparators old) (fitSeparators new) old new s before output r tables after

@@ -1,21 +1,24 @@
 // Answer 18: the first data byte that equals a new separator.
 ghost use mathlib.Core.Path.{_≡_};
-ghost use Prim.Native.Nat.{_≤_, _<_};
-ghost use lib.ListN.{length, take};
+ghost use Rattle.text.specs.Pieces.{pieces};
 ghost use Rattle.text.specs.Separators.{isSeparator};
-ghost use Rattle.rewriting.specs.Collisions.{collides, placeAfter, outset, collisionFrom};
+ghost use Rattle.text.specs.View.{viewOf};
+ghost use Rattle.elements.specs.Checks.{firstBroken};
+ghost use Rattle.rewriting.specs.Rewrites.{apartFrom, collisionChecks, collision};
+ghost use Rattle.rewriting.specs.internal.SegmentTable.{segmentsFrom, NamesFrom};
+use crate::change::Change;
+use crate::table;
+use elements::verdict::Verdict;
+use text::lookup;
 use text::separators::Separators;
 
-// A place in a transaction: the segment's number, the byte where it starts, and the element; the tag is element 0.
-pub(crate) struct Place {
-    pub segment: usize,
-    pub byte: usize,
-    pub element: usize,
-}
-
-// Where a data byte equals a new separator.
-pub(crate) enum Collision {
-    At(Place),
+// Where a data byte equals a new separator: the segment's number, the byte where the segment starts, and the element; the tag is element 0.
+pub(crate) enum Clash {
+    At {
+        segment: usize,
+        byte: usize,
+        element: usize,
+    },
     Nowhere,
 }
 
@@ -26,48 +29,58 @@ fn separates(separators: Separators, byte: u8) -> bool
     (byte == separators.element) | (byte == separators.component) | (byte == separators.terminator)
 }
 
-// The place of what follows the byte, where `next` is the number of bytes so far.
-fn place_after(place: Place, old: Separators, byte: u8, next: usize) -> Place
-    requires { ⌜ place .segment < 18446744073709551615 ⌝ }
-    requires { ⌜ place .element < 18446744073709551615 ⌝ }
-    ensures { λ r. ⌜ r ≡ placeAfter old place byte next ⌝ }
+// Whether no data byte of the piece, the tag or an element, is a new separator.
+fn apart(piece: &[u8], change: Change) -> bool
+    ensures { λ r. ⌜ r ≡ apartFrom (change .new) (pieces (change .old .component) (now (piece .entry))) ⌝ }
 {
-    if byte == old.terminator {
-        return Place {
-            segment: place.segment + 1,
-            byte: next,
-            element: 0,
-        };
-    }
-    if byte == old.element {
-        return Place {
-            segment: place.segment,
-            byte: place.byte,
-            element: place.element + 1,
-        };
-    }
-    place
-}
-
-// The first of the `used` bytes that is a new separator and was no old one.
-pub(crate) fn first_collision(s: &[u8], used: usize, old: Separators, new: Separators) -> Collision
-    requires { ⌜ used ≤ length (now s) ⌝ }
-    ensures { λ r. ⌜ r ≡ collisionFrom old new outset 0 (take used (now (s .entry))) ⌝ }
-{
-    let mut place = Place {
-        segment: 1,
-        byte: 0,
-        element: 0,
-    };
-    let mut i: usize = 0;
-    while i < used {
-        let byte = s[i];
-        if separates(new, byte) & !separates(old, byte) {
-            return Collision::At(place);
+    let mut i = 0;
+    while i < piece.len() {
+        let byte = piece[i];
+        if (byte != change.old.component) & separates(change.new, byte) {
+            return false;
         }
         i += 1;
-        let next = place_after(place, old, byte, i);
-        place = next;
     }
-    Collision::Nowhere
+    true
+}
+
+// The first element of the segment that collides; the tag is element 0.
+fn segment_collision(segment: &[u8], change: Change) -> Verdict
+    ensures { λ r. ⌜ r ≡ firstBroken (collisionChecks (change .new) (viewOf (change .old) (now (segment .entry)))) ⌝ }
+{
+    let mut element: usize = 0;
+    let mut start: usize = 0;
+    while start <= segment.len() {
+        let piece = lookup::element(&segment[start..], change.old.element, 0);
+        if !apart(piece, change) {
+            return Verdict::Broken(18, element);
+        }
+        start += piece.len() + 1;
+        element += 1;
+    }
+    Verdict::Holds
+}
+
+// The first segment that collides, of those that the first `count` records name.
+pub(crate) fn first_collision(s: &[u8], segments: &[u64], count: usize, change: Change) -> Clash
+    requires { ⌜ NamesFrom (now s) (now segments) 0 count ⌝ }
+    ensures { λ r. ⌜ r ≡ collision (change .old) (change .new) 1 (segmentsFrom (now (s .entry)) (now (segments .entry)) 0 count) ⌝ }
+{
+    let mut k: usize = 0;
+    while k < count {
+        let segment = table::segment_in(s, segments, k);
+        match segment_collision(segment, change) {
+            Verdict::Broken(_, element) => {
+                return Clash::At {
+                    segment: k + 1,
+                    byte: table::start_in(segments, k),
+                    element,
+                };
+            }
+            Verdict::Holds => {
+                k += 1;
+            }
+        }
+    }
+    Clash::Nowhere
 }

@@ -1,41 +1,46 @@
 // Rewriting one transaction with other separators.
 ghost use mathlib.Core.Path.{_≡_};
-ghost use mathlib.Core.List.{map};
-ghost use Prim.Native.Nat.{_≤_};
 ghost use lib.Dec.{leb};
-ghost use lib.ListN.{length, take};
+ghost use lib.ListN.{length};
 ghost use Rattle.gate.specs.declared.answer.Answer.the-variants.{Accepted};
-ghost use Rattle.rewriting.specs.Collisions.{clashOf, newByte, outset, collisionFrom};
-ghost use Rattle.rewriting.specs.Rewrites.{Outcome, Rewrites};
+ghost use Rattle.rewriting.specs.Rewrites.{rewritten, collision, Outcome, Rewrites};
+ghost use Rattle.rewriting.specs.internal.SegmentTable.{segmentsFrom, NamesFrom};
+use crate::change::Change;
 use crate::collisions;
-use crate::collisions::Collision;
+use crate::collisions::Clash;
 use crate::writing;
 use gate::answer::Answer;
 use gate::how::How;
 use text::separators::Separators;
 
-// Writes the bytes that an accepted reading used; 18 or 19 where that cannot be.
+// Writes the segments of an accepted reading; 18 or 19 where that cannot be.
 fn write_accepted(
     s: &[u8],
-    old: Separators,
-    new: Separators,
-    segments: usize,
+    change: Change,
+    segments: &[u64],
+    count: usize,
     levels: usize,
     bytes: usize,
     output: &mut [u8],
 ) -> Answer
-    requires { ⌜ bytes ≤ length (now s) ⌝ }
-    ensures { λ r. ⌜ Outcome (clashOf (collisionFrom old new outset 0 (take bytes (now (s .entry))))) (leb bytes (length (now (output .entry)))) (Accepted segments levels bytes)
-        (map (newByte old new) (take bytes (now (s .entry)))) (now (output .entry)) r (now (output .exit)) ⌝ }
+    requires { ⌜ NamesFrom (now s) (now segments) 0 count ⌝ }
+    requires { ⌜ bytes ≡ length (rewritten (change .old) (change .new) (segmentsFrom (now s) (now segments) 0 count)) ⌝ }
+    ensures { λ r. ⌜ Outcome (collision (change .old) (change .new) 1 (segmentsFrom (now (s .entry)) (now (segments .entry)) 0 count))
+        (leb bytes (length (now (output .entry)))) (Accepted count levels bytes)
+        (rewritten (change .old) (change .new) (segmentsFrom (now (s .entry)) (now (segments .entry)) 0 count)) (now (output .entry)) r (now (output .exit)) ⌝ }
 {
-    match collisions::first_collision(s, bytes, old, new) {
-        Collision::At(place) => Answer::Refused {
+    match collisions::first_collision(s, segments, count, change) {
+        Clash::At {
+            segment,
+            byte,
+            element,
+        } => Answer::Refused {
             number: 18,
-            segment: place.segment,
-            byte: place.byte,
-            element: place.element,
+            segment,
+            byte,
+            element,
         },
-        Collision::Nowhere => {
+        Clash::Nowhere => {
             if output.len() < bytes {
                 return Answer::Refused {
                     number: 19,
@@ -44,9 +49,9 @@ fn write_accepted(
                     element: 0,
                 };
             }
-            writing::write_new(s, bytes, old, new, output);
+            writing::write_segments(s, segments, count, change, output);
             Answer::Accepted {
-                segments,
+                segments: count,
                 levels,
                 bytes,
             }
@@ -58,16 +63,16 @@ fn write_accepted(
 // left as reading alone leaves them.
 pub fn rewrite(
     s: &[u8],
-    how: How,
+    old: Separators,
     new: Separators,
     segments: &mut [u64],
     levels: &mut [u64],
     output: &mut [u8],
 ) -> Answer
-    ensures { λ r. ⌜ Rewrites how new (now (s .entry)) (record { segments = now (segments .entry); levels = now (levels .entry) }) (now (output .entry)) r
+    ensures { λ r. ⌜ Rewrites old new (now (s .entry)) (record { segments = now (segments .entry); levels = now (levels .entry) }) (now (output .entry)) r
         (record { segments = now (segments .exit); levels = now (levels .exit) }) (now (output .exit)) ⌝ }
 {
-    if !how.separators.fit() {
+    if !old.fit() {
         return Answer::Refused {
             number: 1,
             segment: 0,
@@ -83,12 +88,16 @@ pub fn rewrite(
             element: 1,
         };
     }
-    match reading::reading::read(s, how, segments, levels) {
+    let strictly = How { separators: old };
+    match reading::reading::read(s, strictly, segments, levels) {
         Answer::Accepted {
             segments: count,
             levels: known,
             bytes,
-        } => write_accepted(s, how.separators, new, count, known, bytes, output),
+        } => {
+            let change = Change { old, new };
+            write_accepted(s, change, segments, count, known, bytes, output)
+        }
         Answer::Refused {
             number,
             segment,

@@ -1,36 +1,75 @@
-// The same bytes with other separators.
+// The segments with other separators.
 ghost use mathlib.Core.Path.{_≡_};
-ghost use mathlib.Core.List.{_++_, map};
-ghost use Prim.Native.Nat.{_≤_};
-ghost use lib.ListN.{length, take, drop};
-ghost use Rattle.rewriting.specs.Collisions.{newByte};
-use text::separators::Separators;
+ghost use Prim.Native.Nat.{_+_, _≤_};
+ghost use lib.ListN.{length};
+ghost use Rattle.text.specs.View.{viewOf, written};
+ghost use Rattle.rewriting.specs.Rewrites.{rewritten};
+ghost use Rattle.rewriting.specs.internal.SegmentTable.{segmentsFrom, NamesFrom};
+ghost use Rattle.rewriting.specs.internal.Output.{putAt, pieceAgain, byteAgain};
+use crate::change::Change;
+use crate::table;
+use text::lookup;
 
-// What a byte becomes.
-fn new_byte(old: Separators, new: Separators, byte: u8) -> u8
-    ensures { λ r. ⌜ r ≡ newByte old new byte ⌝ }
+// What a byte of a piece becomes.
+fn byte_again(byte: u8, change: Change) -> u8
+    ensures { λ r. ⌜ r ≡ byteAgain (change .old) (change .new) byte ⌝ }
 {
-    if byte == old.element {
-        return new.element;
-    }
-    if byte == old.component {
-        return new.component;
-    }
-    if byte == old.terminator {
-        return new.terminator;
+    if byte == change.old.component {
+        return change.new.component;
     }
     byte
 }
 
-// Writes the first `used` bytes with the new separators to the start of the output.
-pub(crate) fn write_new(s: &[u8], used: usize, old: Separators, new: Separators, output: &mut [u8])
-    requires { ⌜ used ≤ length (now s) ⌝ }
-    requires { ⌜ used ≤ length (now output) ⌝ }
-    ensures { λ _. ⌜ now (output .exit) ≡ map (newByte old new) (take used (now (s .entry))) ++ drop used (now (output .entry)) ⌝ }
+// Writes a piece, the tag or an element, from `at` on.
+fn write_piece(piece: &[u8], change: Change, output: &mut [u8], at: usize)
+    requires { ⌜ at + length (now piece) ≤ length (now output) ⌝ }
+    ensures { λ _. ⌜ now (output .exit) ≡ putAt at (pieceAgain (change .old) (change .new) (now (piece .entry))) (now (output .entry)) ⌝ }
 {
     let mut i: usize = 0;
-    while i < used {
-        output[i] = new_byte(old, new, s[i]);
+    while i < piece.len() {
+        output[at + i] = byte_again(piece[i], change);
         i += 1;
+    }
+}
+
+// Writes a segment without its terminator from `at` on: the tag, then each element behind its separator.
+fn write_segment(segment: &[u8], change: Change, output: &mut [u8], at: usize)
+    requires { ⌜ at + length (now segment) ≤ length (now output) ⌝ }
+    ensures { λ _. ⌜ now (output .exit) ≡ putAt at (written (change .new) (viewOf (change .old) (now (segment .entry)))) (now (output .entry)) ⌝ }
+{
+    let tag = lookup::element(segment, change.old.element, 0);
+    write_piece(tag, change, output, at);
+    let mut end = tag.len();
+    while end < segment.len() {
+        output[at + end] = change.new.element;
+        let start = end + 1;
+        let piece = lookup::element(&segment[start..], change.old.element, 0);
+        write_piece(piece, change, output, at + start);
+        end = start + piece.len();
+    }
+}
+
+// Writes the segments that the first `count` records name, each with its terminator, to the start of the output.
+pub(crate) fn write_segments(
+    s: &[u8],
+    segments: &[u64],
+    count: usize,
+    change: Change,
+    output: &mut [u8],
+)
+    requires { ⌜ NamesFrom (now s) (now segments) 0 count ⌝ }
+    requires { ⌜ length (rewritten (change .old) (change .new) (segmentsFrom (now s) (now segments) 0 count)) ≤ length (now output) ⌝ }
+    ensures { λ _. ⌜ now (output .exit) ≡ putAt 0 (rewritten (change .old) (change .new) (segmentsFrom (now (s .entry)) (now (segments .entry)) 0 count))
+        (now (output .entry)) ⌝ }
+{
+    let mut at: usize = 0;
+    let mut k: usize = 0;
+    while k < count {
+        let segment = table::segment_in(s, segments, k);
+        write_segment(segment, change, output, at);
+        let end = at + segment.len();
+        output[end] = change.new.terminator;
+        at = end + 1;
+        k += 1;
     }
 }

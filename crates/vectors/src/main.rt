@@ -205,13 +205,13 @@ fn long_case(header: &[u8], input: &[u8]) {
 // The answer of a rewriting, and the tables and the output afterwards.
 fn rewrite_lent(
     input: &[u8],
-    how: How,
+    old: Separators,
     new: Separators,
     segments: &mut [u64],
     levels: &mut [u64],
     output: &mut [u8],
 ) {
-    print_answer(rewriting::rewriting::rewrite(input, how, new, segments, levels, output));
+    print_answer(rewriting::rewriting::rewrite(input, old, new, segments, levels, output));
     list(b"segments", segments);
     list(b"levels", levels);
     list_output(output);
@@ -219,9 +219,7 @@ fn rewrite_lent(
 
 // A rewriting, with tables and an output of the sizes that the header has.
 fn rewrite_case(header: &[u8], input: &[u8]) {
-    let how = How {
-        separators: separators_at(header, 1),
-    };
+    let old = separators_at(header, 1);
     let new = separators_at(header, 4);
     let segment_numbers = least(two_at(header, 7), 120);
     let level_numbers = least(two_at(header, 9), 120);
@@ -234,7 +232,7 @@ fn rewrite_case(header: &[u8], input: &[u8]) {
     lend_output(&mut output);
     rewrite_lent(
         input,
-        how,
+        old,
         new,
         &mut segments[..segment_numbers],
         &mut levels[..level_numbers],

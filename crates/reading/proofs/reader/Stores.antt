@@ -6,6 +6,7 @@ use mathlib.Core.List.{List, [], _∷_, append-assoc}
 use native.Mathlib.Omega.{arith}
 use lib.ListN.{length, take, drop, set}
 use lib.Seq.{sets, sets-eq}
+use Rattle.levels.specs.Widths.{segmentWidth, levelWidth}
 use Rattle.finding.specs.internal.Entries.{storedAt}
 
 -- the record of a width, by the numbers' sets
@@ -15,17 +16,17 @@ sets-stored width t n numbers e h =
     sets-eq numbers t (n * width) (rw e h) ∙ append-assoc (take (n * width) t) numbers (drop (n * width + length numbers) t)
     ∙ rw e
 
-pub segment-set : (t : List ℕ) (n a b c : ℕ) → n < length t / 3
-    → set (set (set t (n * 3) a) (n * 3 + 1) b) (n * 3 + 2) c ≡ storedAt 3 t n (a ∷ b ∷ c ∷ [])
+pub segment-set : (t : List ℕ) (n a b c : ℕ) → n < length t / segmentWidth
+    → set (set (set t (n * segmentWidth) a) (n * segmentWidth + 1) b) (n * segmentWidth + 2) c ≡ storedAt segmentWidth t n (a ∷ b ∷ c ∷ [])
 segment-set t n a b c h =
-    let one : n * 3 + 1 ≡ suc (n * 3) = omega arith in
-    let two : n * 3 + 2 ≡ suc (suc (n * 3)) = omega arith in
-    rw (one, two) (sets-stored 3 t n (a ∷ b ∷ c ∷ []) refl (omega arith))
+    let one : n * segmentWidth + 1 ≡ suc (n * segmentWidth) = omega arith in
+    let two : n * segmentWidth + 2 ≡ suc (suc (n * segmentWidth)) = omega arith in
+    rw (one, two) (sets-stored segmentWidth t n (a ∷ b ∷ c ∷ []) refl (omega arith))
 
-pub level-set : (t : List ℕ) (n a b c d : ℕ) → n < length t / 4
-    → set (set (set (set t (n * 4) a) (n * 4 + 1) b) (n * 4 + 2) c) (n * 4 + 3) d ≡ storedAt 4 t n (a ∷ b ∷ c ∷ d ∷ [])
+pub level-set : (t : List ℕ) (n a b c d : ℕ) → n < length t / levelWidth
+    → set (set (set (set t (n * levelWidth) a) (n * levelWidth + 1) b) (n * levelWidth + 2) c) (n * levelWidth + 3) d ≡ storedAt levelWidth t n (a ∷ b ∷ c ∷ d ∷ [])
 level-set t n a b c d h =
-    let one : n * 4 + 1 ≡ suc (n * 4) = omega arith in
-    let two : n * 4 + 2 ≡ suc (suc (n * 4)) = omega arith in
-    let three : n * 4 + 3 ≡ suc (suc (suc (n * 4))) = omega arith in
-    rw (one, two, three) (sets-stored 4 t n (a ∷ b ∷ c ∷ d ∷ []) refl (omega arith))
+    let one : n * levelWidth + 1 ≡ suc (n * levelWidth) = omega arith in
+    let two : n * levelWidth + 2 ≡ suc (suc (n * levelWidth)) = omega arith in
+    let three : n * levelWidth + 3 ≡ suc (suc (suc (n * levelWidth))) = omega arith in
+    rw (one, two, three) (sets-stored levelWidth t n (a ∷ b ∷ c ∷ d ∷ []) refl (omega arith))

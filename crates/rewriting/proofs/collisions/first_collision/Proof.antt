@@ -1,57 +1,67 @@
--- `first_collision` meets its contract: the bytes up to i hold no collision.
+-- `first_collision` meets its contract: no segment before record k collides.
 -- Assumes nothing.
 use Prim.Native.Nat.{_-_}
+use Rattle.rewriting.specs.internal.SegmentTable.{Names}
+use Rattle.rewriting.proofs.RecordByRecord.{names-next, ApartBefore, apart-start, apart-end, apart-next, apart-clash}
 use native.Mathlib.Omega.{arith}
 use borrow.Author.Needs.{needs}
-use Rattle.rewriting.proofs.Walking.{Walked, walked-none, walked-more, walked-collision, walked-all}
 use Rattle.rewriting.proofs.collisions.first_collision.Statement.{statement}
 use Rattle.rewriting.proofs.collisions.first_collision.Tie as tie
 
 abbrev Inv-loop : tie.InvT-loop
-Inv-loop s used old new place₀ i₀ place i = Walked old new s used place i
+Inv-loop s segments count change k₀ k = ApartBefore s segments count (change .old) (change .new) k
 
 abbrev μ-loop : tie.MeasureT-loop
-μ-loop s used old new place₀ i₀ place i = used - i
+μ-loop s segments count change k₀ k = count - k
+
+-- record k names a segment
+named : (c : tie.In-loop Inv-loop μ-loop) → let a = c .before .before .before .before .args in Names (a .s .now) (a .segments .now) (c .before .loop .k)
+named c = names-next _ _ _ _ (c .loop-test .taken) (c .before .loop .inv .names) .0
 
 loop-holds : tie.Need-loop-holds Inv-loop μ-loop
-loop-holds c = walked-none _ _ _ _
+loop-holds c = apart-start _ _ _ _ _ (c .before .before .pre)
 
-shared-slice-read-byte : tie.Need-shared-slice-read-byte Inv-loop μ-loop
-shared-slice-read-byte c = search needs
+segment-in-requires : tie.Need-segment-in-requires Inv-loop μ-loop
+segment-in-requires c κs = named c
 
-separates-requires : tie.Need-separates-requires Inv-loop μ-loop
-separates-requires c κs = search needs
+segment-collision-requires : tie.Need-segment-collision-requires Inv-loop μ-loop
+segment-collision-requires c κs = search needs
 
-separates-requires-2 : tie.Need-separates-requires-2 Inv-loop μ-loop
-separates-requires-2 c κs = search needs
+enum-known-element : tie.Need-enum-known-element Inv-loop μ-loop
+enum-known-element c = search needs
+
+add-t10 : tie.Need-add-t10 Inv-loop μ-loop
+add-t10 c = search needs
+
+start-in-requires : tie.Need-start-in-requires Inv-loop μ-loop
+start-in-requires c κs = omega (arith, named (c .before .before .before .before .before) .there)
 
 returns : tie.Need-returns Inv-loop μ-loop
 returns c =
-    let b = c .before .before .before .before .before in
-    walked-collision (b .before .before .pre) (b .loop .inv) (c .before .before .before .before .loop-test .taken)
-    (rw (c .before .before .separates .ensures, c .before .separates2 .ensures) at (c .if1 .taken))
+    let judged = c .before .before .before .before in
+    let round = judged .before .before in
+    rw (c .start-in .ensures)
+    (apart-clash _ _ _ _ _ (round .before .loop .inv) (judged .before .segment-in .result .now) _ (round .loop-test .taken) (judged .before .segment-in .ensures)
+    (judged .segment-collision .ensures) _ _ (c .before .before .element .given .1))
 
-add-i : tie.Need-add-i Inv-loop μ-loop
-add-i c = search needs
+enum-told : tie.Need-enum-told Inv-loop μ-loop
+enum-told c = search needs
 
-place-after-requires : tie.Need-place-after-requires Inv-loop μ-loop
-place-after-requires c κs =
-    let small = c .before .before .before .before .before .loop .inv .small in
-    let bound = c .before .before .before .before .before .before .before .good .0 in
-    (omega (arith, small .few-segments, bound), omega (arith, small .few-elements, bound))
+add-k : tie.Need-add-k Inv-loop μ-loop
+add-k c = search needs
 
 loop-less : tie.Need-loop-less Inv-loop μ-loop
 loop-less c = search needs
 
 loop-again : tie.Need-loop-again Inv-loop μ-loop
 loop-again c =
-    let b = c .before .before .before .before .before .before in
-    rw (c .place-after .ensures)
-    (walked-more (b .before .before .pre) (b .loop .inv) (c .before .before .before .before .before .loop-test .taken)
-    (rw (c .before .before .before .separates .ensures, c .before .before .separates2 .ensures) at (c .before .if1 .left)))
+    let judged = c .before .before in
+    let round = judged .before .before in
+    apart-next _ _ _ _ _ (round .before .loop .inv) (judged .before .segment-in .result .now) _ (round .loop-test .taken) (judged .before .segment-in .ensures)
+    (judged .segment-collision .ensures) (c .enum-told .given .1)
 
 returns-2 : tie.Need-returns-2 Inv-loop μ-loop
-returns-2 c = walked-all (c .before .before .before .pre) (c .before .loop .inv) (c .loop-test .left)
+returns-2 c = apart-end _ _ _ _ _ (c .before .loop .inv) (c .loop-test .left)
 
 pub first-collision-spec : {M : Type 1} → statement M
 first-collision-spec =
@@ -60,12 +70,14 @@ first-collision-spec =
     Inv-loop
     μ-loop
     loop-holds
-    shared-slice-read-byte
-    separates-requires
-    separates-requires-2
+    segment-in-requires
+    segment-collision-requires
+    enum-known-element
+    add-t10
+    start-in-requires
     returns
-    add-i
-    place-after-requires
+    enum-told
+    add-k
     loop-less
     loop-again
     returns-2)

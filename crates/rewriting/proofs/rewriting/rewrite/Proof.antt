@@ -1,23 +1,33 @@
 -- `rewrite` meets its contract.
 -- Assumes nothing.
-use mathlib.Core.Bool.{false}
-use Rattle.rewriting.proofs.Accepted.{inside}
+use mathlib.Core.Path.{_≡_, sym, _∙_}
+use mathlib.Core.Bool.{true}
+use borrow.Author.Tests.{not-true, not-false}
+use Rattle.text.specs.Separators.{fitSeparators}
+use Rattle.rewriting.proofs.AcceptedTable.{accepted-names, accepted-length}
 use Rattle.rewriting.proofs.Outcomes.{old-unfit, new-unfit, reading-refused, reading-accepted}
 use borrow.Author.Needs.{needs}
 use Rattle.rewriting.proofs.rewriting.rewrite.Statement.{statement}
 use Rattle.rewriting.proofs.rewriting.rewrite.Tie as tie
 
+-- both sets are fit
+old-fits : (c : tie.Else1) → fitSeparators (c .before .before .before .before .before .before .args .old) ≡ true
+old-fits c = sym (c .before .fit .ensures) ∙ not-false _ (c .if1 .left)
+
+new-fits : (c : tie.Else2) → fitSeparators (c .before .before .before .before .before .before .before .before .args .new) ≡ true
+new-fits c = sym (c .before .fit2 .ensures) ∙ not-false _ (c .if2 .left)
+
 fit-requires : tie.Need-fit-requires
 fit-requires c κs = search needs
 
 returns : tie.Need-returns
-returns c = old-unfit _ _ _ _ _ (c .before .fit .result) false (c .before .fit .ensures) (c .if1 .taken)
+returns c = old-unfit _ _ _ _ _ (sym (c .before .fit .ensures) ∙ not-true _ (c .if1 .taken))
 
 fit-requires-2 : tie.Need-fit-requires-2
 fit-requires-2 c κs = search needs
 
 returns-2 : tie.Need-returns-2
-returns-2 c = new-unfit _ _ _ _ _ (c .before .before .before .fit .result) (c .before .fit2 .result) (c .before .before .before .fit .ensures) (c .before .before .if1 .left) (c .before .fit2 .ensures) (c .if2 .taken)
+returns-2 c = new-unfit _ _ _ _ _ (old-fits (c .before .before)) (sym (c .before .fit2 .ensures) ∙ not-true _ (c .if2 .taken))
 
 read-requires : tie.Need-read-requires
 read-requires c κs = search needs
@@ -27,7 +37,10 @@ enum-known-count c = search needs
 
 write-accepted-requires : tie.Need-write-accepted-requires
 write-accepted-requires c κs =
-    inside _ _ _ _ _ _ _ (rw (c .before .before .count .given .1) at (c .before .before .before .before .before .before .before .before .read .ensures))
+    let counted = c .before .before .before in
+    let read = counted .before .before .before .before .before .before in
+    let accepted = rw (counted .count .given .1) at (read .read .ensures) in
+    (accepted-names _ _ _ _ _ _ _ accepted, accepted-length _ _ _ _ _ _ _ accepted _)
 
 enum-known-number : tie.Need-enum-known-number
 enum-known-number c = search needs
@@ -43,9 +56,11 @@ same-length-3 c = search needs
 
 returns-3 : tie.Need-returns-3
 returns-3 c =
-    let e = c .before .before .before .before .before .before .before .before .before .before .before .before .before .before in
-    reading-accepted _ _ _ _ _ (e .before .before .before .fit .result) (e .before .fit2 .result) (e .before .before .before .fit .ensures) (e .before .before .if1 .left)
-    (e .before .fit2 .ensures) (e .if2 .left) _ _ _ _ (rw (c .before .before .before .before .before .count .given .1) at (c .before .before .before .before .before .before .before .before .before .before .before .read .ensures)) _ _ (c .before .before .write-accepted .ensures)
+    let counted = c .before .before .before .before .before .before in
+    let read = counted .before .before .before .before .before .before in
+    let fit = read .before .before .before in
+    reading-accepted _ _ _ _ _ (old-fits (fit .before .before)) (new-fits fit) _ _ _ _ (rw (counted .count .given .1) at (read .read .ensures)) _ _
+    (c .before .before .write-accepted .ensures)
 
 same-length-4 : tie.Need-same-length-4
 same-length-4 c = search needs
@@ -55,9 +70,9 @@ same-length-5 c = search needs
 
 returns-4 : tie.Need-returns-4
 returns-4 c =
-    let e = c .before .before .before .before .before .before .before .before .before .before in
-    reading-refused _ _ _ _ _ (e .before .before .before .fit .result) (e .before .fit2 .result) (e .before .before .before .fit .ensures) (e .before .before .if1 .left)
-    (e .before .fit2 .ensures) (e .if2 .left) _ _ _ _ _ (rw (c .before .number .given .1) at (c .before .before .before .before .before .before .before .read .ensures))
+    let read = c .before .before .before .before .before .before .before in
+    let fit = read .before .before .before in
+    reading-refused _ _ _ _ _ (old-fits (fit .before .before)) (new-fits fit) _ _ _ _ _ (rw (c .before .number .given .1) at (read .read .ensures))
 
 pub rewrite-spec : {M : Type 1} → statement M
 rewrite-spec =

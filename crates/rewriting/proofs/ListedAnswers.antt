@@ -15,40 +15,41 @@ use Rattle.gate.specs.Records.{Tables}
 use Rattle.gate.specs.Reads.{Reads}
 use Rattle.gate.specs.declared.answer.Answer.{Answer}
 use Rattle.gate.specs.declared.answer.Answer.the-variants.{Accepted, Refused}
-use Rattle.gate.specs.declared.how.How.{How}
 use Rattle.gate.proofs.reading.Numbers.{refusal-of}
 use Rattle.gate.proofs.conditions.Conditions.{accepted-numbered, answered}
 use Rattle.gate.proofs.reading.Listing.{listed}
-use Rattle.rewriting.specs.Rewrites.{rewritten, Clash, NoClash, ClashAt, collision, Outcome, Following, Unfit, RewritesFit, Rewrites}
-use Rattle.rewriting.specs.Laws.{Listed}
+use Rattle.rewriting.specs.Rewrites.{strictly, rewritten, collision, Outcome, AfterReading, Unfit, RewritesFit, Rewrites}
+use Rattle.rewriting.specs.declared.collisions.Clash.{Clash}
+use Rattle.rewriting.specs.declared.collisions.Clash.the-variants.{At, Nowhere}
+use Rattle.rewriting.specs.Conditions.{Listed}
 
 -- some answer and output
 outcome-some : (x : Clash) (room : Bool) (accepted : Answer) (new output : Bytes) → (r : Answer) × (after : Bytes) × Outcome x room accepted new output r after
 unfolding Outcome
-outcome-some (ClashAt k b e) room accepted new output = (Refused 18 k b e, output, (refl, refl))
-outcome-some NoClash false accepted new output = (Refused 19 0 0 0, output, (refl, refl))
-outcome-some NoClash true accepted new output = (accepted, new ++ drop (length new) output, (refl, refl))
+outcome-some (At k b e) room accepted new output = (Refused 18 k b e, output, (refl, refl))
+outcome-some Nowhere false accepted new output = (Refused 19 0 0 0, output, (refl, refl))
+outcome-some Nowhere true accepted new output = (accepted, new ++ drop (length new) output, (refl, refl))
 
-module _ (how : How) (new : Separators) (s : Bytes) (before : Tables) (output : Bytes) where
-  following-some : (answer : Answer) (tables : Tables) → Reads how s before answer tables
-      → (r : Answer) × (after : Bytes) × Following how new s answer output r after
+module _ (old new : Separators) (s : Bytes) (before : Tables) (output : Bytes) where
+  following-some : (answer : Answer) (tables : Tables) → Reads (strictly old) s before answer tables
+      → (r : Answer) × (after : Bytes) × AfterReading old new s answer output r after
   following-some (Accepted a l b) tables x =
-      let m = accepted-numbered how s before a l b tables x in
-      let o = outcome-some (collision how new 1 (m .gs)) (leb b (length output)) (Accepted a l b) (rewritten how new (m .gs)) output in
+      let m = accepted-numbered (strictly old) s before a l b tables x in
+      let o = outcome-some (collision old new 1 (m .gs)) (leb b (length output)) (Accepted a l b) (rewritten old new (m .gs)) output in
       (o .0, o .1, record { gs = m .gs; rows = m .rows; numbering = m .numbering; outcome = o .2 })
   following-some (Refused n k b e) tables x = (Refused n k b e, output, (refl, refl))
 
   -- every input, both sets of separators, every tables and every output have an answer that the promise allows
-  pub rewriting-answered : (r : Answer) × (tables : Tables) × (after : Bytes) × Rewrites how new s before output r tables after
+  pub rewriting-answered : (r : Answer) × (tables : Tables) × (after : Bytes) × Rewrites old new s before output r tables after
   unfolding Rewrites
-  rewriting-answered = fit (fitSeparators (how .separators)) (fitSeparators new)
+  rewriting-answered = fit (fitSeparators old) (fitSeparators new)
     where
       fit : (old-fit new-fit : Bool)
-          → (r : Answer) × (tables : Tables) × (after : Bytes) × RewritesFit old-fit new-fit how new s before output r tables after
+          → (r : Answer) × (tables : Tables) × (after : Bytes) × RewritesFit old-fit new-fit old new s before output r tables after
       fit false new-fit = (Refused 1 0 0 0, before, output, record { answer = refl; tables-kept = refl; output-kept = refl })
       fit true false = (Refused 1 0 0 1, before, output, record { answer = refl; tables-kept = refl; output-kept = refl })
       fit true true =
-          let a = answered how s before in
+          let a = answered (strictly old) s before in
           let f = following-some (a .0) (a .1) (a .2) in
           (f .0, a .1, f .1, record { answer = a .0; reads = a .2; follows = f .2 })
 
@@ -60,26 +61,26 @@ wider (Refused n k b e) x = (omega (arith, x .0), omega (arith, x .1))
 outcome-listed : (x : Clash) (room : Bool) (accepted : Answer) (new output : Bytes) (r : Answer) (after : Bytes) → Listed accepted
     → Outcome x room accepted new output r after → Listed r
 unfolding Outcome
-outcome-listed (ClashAt k b e) room accepted new output r after l x =
+outcome-listed (At k b e) room accepted new output r after l x =
     rw (refusal-of r 18 k b e (omega arith) (x .0)) (omega arith, omega arith)
-outcome-listed NoClash false accepted new output r after l x = rw (refusal-of r 19 0 0 0 (omega arith) (x .0)) (omega arith, omega arith)
-outcome-listed NoClash true accepted new output r after l x = rw (x .0) l
+outcome-listed Nowhere false accepted new output r after l x = rw (refusal-of r 19 0 0 0 (omega arith) (x .0)) (omega arith, omega arith)
+outcome-listed Nowhere true accepted new output r after l x = rw (x .0) l
 
-module _ (how : How) (new : Separators) (s : Bytes) (before : Tables) (output : Bytes) (r : Answer) (tables : Tables) (after : Bytes) where
-  following-listed : (answer : Answer) → Listed answer → Following how new s answer output r after → Listed r
+module _ (old new : Separators) (s : Bytes) (before : Tables) (output : Bytes) (r : Answer) (tables : Tables) (after : Bytes) where
+  following-listed : (answer : Answer) → Listed answer → AfterReading old new s answer output r after → Listed r
   following-listed (Accepted a l b) h x =
-      outcome-listed (collision how new 1 (x .gs)) (leb b (length output)) (Accepted a l b) (rewritten how new (x .gs)) output r after h (x .outcome)
+      outcome-listed (collision old new 1 (x .gs)) (leb b (length output)) (Accepted a l b) (rewritten old new (x .gs)) output r after h (x .outcome)
   following-listed (Refused n k b e) h x = rw (x .0) h
 
   -- every answer is one of the list
-  pub rewriting-listed : Rewrites how new s before output r tables after → Listed r
+  pub rewriting-listed : Rewrites old new s before output r tables after → Listed r
   unfolding Rewrites
-  rewriting-listed x = fit (fitSeparators (how .separators)) (fitSeparators new) x
+  rewriting-listed x = fit (fitSeparators old) (fitSeparators new) x
     where
       unfit : (e : ℕ) → Unfit e before output r tables after → Listed r
       unfit e x = rw (refusal-of r 1 0 0 e (omega arith) (x .answer)) (omega arith, omega arith)
 
-      fit : (old-fit new-fit : Bool) → RewritesFit old-fit new-fit how new s before output r tables after → Listed r
+      fit : (old-fit new-fit : Bool) → RewritesFit old-fit new-fit old new s before output r tables after → Listed r
       fit false new-fit x = unfit 0 x
       fit true false x = unfit 1 x
-      fit true true x = following-listed (x .answer) (wider (x .answer) (listed how s before (x .answer) tables (x .reads))) (x .follows)
+      fit true true x = following-listed (x .answer) (wider (x .answer) (listed (strictly old) s before (x .answer) tables (x .reads))) (x .follows)

@@ -17,9 +17,10 @@ use Rattle.gate.specs.Reads.{Reads}
 use Rattle.gate.specs.Conditions.{Numbering}
 use Rattle.gate.specs.declared.answer.Answer.{Answer}
 use Rattle.gate.specs.declared.answer.Answer.the-variants.{Accepted, Refused}
-use Rattle.gate.specs.declared.how.How.{How}
-use Rattle.rewriting.specs.Rewrites.{rewritten, Clash, NoClash, ClashAt, collision, Outcome, Following, RewritesFit, Rewrites}
-use Rattle.rewriting.proofs.Accepted.{bytesOf}
+use Rattle.rewriting.specs.Rewrites.{strictly, rewritten, collision, Outcome, AfterReading, RewritesFit, Rewrites}
+use Rattle.rewriting.specs.declared.collisions.Clash.{Clash}
+use Rattle.rewriting.specs.declared.collisions.Clash.the-variants.{At, Nowhere}
+use Rattle.rewriting.proofs.AcceptedTable.{bytesOf}
 
 -- an acceptance is no refusal
 accepted-refused : {a l b n k y e : ℕ} → Accepted a l b ≡ Refused n k y e → ⊥
@@ -29,20 +30,20 @@ accepted-refused p = let z : _≡_ {A = ℕ} 1 0 = ap isAccepted p in omega arit
     isAccepted (Accepted a l b) = 1
     isAccepted (Refused n k y e) = 0
 
-pub record Success (how : How) (new : Separators) (s : Bytes) (before : Tables) (output : Bytes) (a l b : ℕ) (tables : Tables) (after : Bytes) : Type 0 where
-  pub old-fit : T (fitSeparators (how .separators))
+pub record Success (old new : Separators) (s : Bytes) (before : Tables) (output : Bytes) (a l b : ℕ) (tables : Tables) (after : Bytes) : Type 0 where
+  pub old-fit : T (fitSeparators old)
   pub new-fit : T (fitSeparators new)
-  pub reads : Reads how s before (Accepted a l b) tables
+  pub reads : Reads (strictly old) s before (Accepted a l b) tables
   pub gs : List Placed
   pub rows : List ℕ
-  pub numbering : Numbering how s gs rows
-  pub apart : collision how new 1 gs ≡ NoClash
+  pub numbering : Numbering (strictly old) s gs rows
+  pub apart : collision old new 1 gs ≡ Nowhere
   pub room : b ≤ length output
-  pub output-is : after ≡ rewritten how new gs ++ drop (length (rewritten how new gs)) output
+  pub output-is : after ≡ rewritten old new gs ++ drop (length (rewritten old new gs)) output
 
 -- 18 and 19 are ruled out
 record Written (x : Clash) (room : Bool) (accepted : Answer) (new output : Bytes) (r : Answer) (after : Bytes) : Type 0 where
-  none : x ≡ NoClash
+  none : x ≡ Nowhere
   fits : room ≡ true
   same : r ≡ accepted
   output-is : after ≡ new ++ drop (length new) output
@@ -50,18 +51,18 @@ record Written (x : Clash) (room : Bool) (accepted : Answer) (new output : Bytes
 outcome-written : (x : Clash) (room : Bool) (accepted : Answer) (new output : Bytes) (a l b : ℕ) (after : Bytes)
     → Outcome x room accepted new output (Accepted a l b) after → Written x room accepted new output (Accepted a l b) after
 unfolding Outcome
-outcome-written (ClashAt k y e) room accepted new output a l b after x = absurd (omega (arith, head-eq-of-cons-eq (x .0)))
-outcome-written NoClash false accepted new output a l b after x = absurd (omega (arith, head-eq-of-cons-eq (x .0)))
-outcome-written NoClash true accepted new output a l b after x = record { none = refl; fits = refl; same = x .0; output-is = x .1 }
+outcome-written (At k y e) room accepted new output a l b after x = absurd (omega (arith, head-eq-of-cons-eq (x .0)))
+outcome-written Nowhere false accepted new output a l b after x = absurd (omega (arith, head-eq-of-cons-eq (x .0)))
+outcome-written Nowhere true accepted new output a l b after x = record { none = refl; fits = refl; same = x .0; output-is = x .1 }
 
-module _ (how : How) (new : Separators) (s : Bytes) (before : Tables) (output : Bytes) (a l b : ℕ) (tables : Tables) (after : Bytes) where
+module _ (old new : Separators) (s : Bytes) (before : Tables) (output : Bytes) (a l b : ℕ) (tables : Tables) (after : Bytes) where
   -- and the reading's refusals
-  following-success : T (fitSeparators (how .separators)) → T (fitSeparators new) → (answer : Answer) → Reads how s before answer tables
-      → Following how new s answer output (Accepted a l b) after → Success how new s before output a l b tables after
+  following-success : T (fitSeparators old) → T (fitSeparators new) → (answer : Answer) → Reads (strictly old) s before answer tables
+      → AfterReading old new s answer output (Accepted a l b) after → Success old new s before output a l b tables after
   following-success old-fit new-fit (Refused n k y e) reads x = absurd (accepted-refused (x .0))
   following-success old-fit new-fit (Accepted a′ l′ b′) reads x =
       let w =
-      outcome-written (collision how new 1 (x .gs)) (leb b′ (length output)) (Accepted a′ l′ b′) (rewritten how new (x .gs)) output a l b after (x .outcome) in
+      outcome-written (collision old new 1 (x .gs)) (leb b′ (length output)) (Accepted a′ l′ b′) (rewritten old new (x .gs)) output a l b after (x .outcome) in
       let bytes : b ≡ b′ = ap bytesOf (w .same) in
       record {
         old-fit = old-fit;
@@ -75,12 +76,12 @@ module _ (how : How) (new : Separators) (s : Bytes) (before : Tables) (output : 
         output-is = w .output-is;
       }
 
-  pub succeeded : Rewrites how new s before output (Accepted a l b) tables after → Success how new s before output a l b tables after
+  pub succeeded : Rewrites old new s before output (Accepted a l b) tables after → Success old new s before output a l b tables after
   unfolding Rewrites
-  succeeded x = fit (fitSeparators (how .separators)) (fitSeparators new) refl refl x
+  succeeded x = fit (fitSeparators old) (fitSeparators new) refl refl x
     where
-      fit : (old-fit new-fit : Bool) → fitSeparators (how .separators) ≡ old-fit → fitSeparators new ≡ new-fit
-          → RewritesFit old-fit new-fit how new s before output (Accepted a l b) tables after → Success how new s before output a l b tables after
+      fit : (old-fit new-fit : Bool) → fitSeparators old ≡ old-fit → fitSeparators new ≡ new-fit
+          → RewritesFit old-fit new-fit old new s before output (Accepted a l b) tables after → Success old new s before output a l b tables after
       fit false new-fit p q x = absurd (omega (arith, head-eq-of-cons-eq (x .answer)))
       fit true false p q x = absurd (omega (arith, head-eq-of-cons-eq (x .answer)))
       fit true true p q x = following-success (rw p tt) (rw q tt) (x .answer) (x .reads) (x .follows)

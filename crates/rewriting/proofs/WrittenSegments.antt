@@ -1,13 +1,13 @@
--- The segments written again: where no data byte is a new separator they are cut at the same places, and their views are the same.
+-- The segments written again are as long; where no data byte is a new separator they are cut at the same places, and their views are the same.
 -- Assumes nothing.
 use Prim.Native.Nat.{ℕ, suc, _+_}
-use mathlib.Core.Path.{_≡_, refl, sym, ap, _∙_}
+use mathlib.Core.Path.{_≡_, refl, ap}
 use mathlib.Core.List.{List, [], _∷_, _++_, map}
 use native.Mathlib.Omega.{arith}
 use lib.Dec.{T}
-use lib.ListN.{length, length-map}
+use lib.ListN.{length, length-append}
 use Rattle.text.specs.Bytes.{Bytes}
-use Rattle.text.proofs.Pieces.{Clean}
+use Rattle.text.specs.Pieces.{closed}
 use Rattle.text.specs.View.{View, viewOf, written, empty}
 use Rattle.text.specs.Cut.{Placed, Leads, Whole}
 use Rattle.text.specs.declared.separators.Separators.{Separators}
@@ -21,31 +21,32 @@ use Rattle.gate.specs.Segments.{seen}
 use Rattle.gate.specs.Records.{segmentRecords}
 use Rattle.gate.specs.Reads.{cutBy, skipBy}
 use Rattle.gate.specs.Conditions.{usedBy}
-use Rattle.gate.specs.declared.how.How.{How}
 use Rattle.elements.proofs.FirstBroken.{each-every}
-use Rattle.rewriting.specs.Rewrites.{rewritten, apartFrom, collisionChecks, Clash, NoClash, ClashAt, orLater, collision}
-use Rattle.rewriting.specs.Laws.{separatedBy}
-use Rattle.rewriting.specs.Collisions.{newByte}
-use Rattle.rewriting.proofs.Spelling.{texts}
-use Rattle.rewriting.proofs.Changing.{segment-changes}
+use Rattle.rewriting.specs.Rewrites.{strictly, rewritten, apartFrom, collisionChecks, orLater, collision}
+use Rattle.rewriting.specs.declared.collisions.Clash.{Clash}
+use Rattle.rewriting.specs.declared.collisions.Clash.the-variants.{At, Nowhere}
+use Rattle.rewriting.proofs.SegmentBytes.{texts}
+use Rattle.rewriting.proofs.WritingPieces.{written-length}
 
 -- a clash is one
-clash-none : {segment byte element : ℕ} → ClashAt segment byte element ≡ NoClash → ⊥
+clash-none : {segment byte element : ℕ} → At segment byte element ≡ Nowhere → ⊥
 clash-none e = let z : _≡_ {A = ℕ} 1 0 = ap count e in omega arith
   where
     count : Clash → ℕ
-    count (ClashAt segment byte element) = 1
-    count NoClash = 0
+    count (At segment byte element) = 1
+    count Nowhere = 0
 
 -- no collision in a segment, and none in those behind it
-silent : (v : Verdict) (n byte : ℕ) (later : Clash) → orLater v n byte later ≡ NoClash → (v ≡ Holds) × (later ≡ NoClash)
+silent : (v : Verdict) (n byte : ℕ) (later : Clash) → orLater v n byte later ≡ Nowhere → (v ≡ Holds) × (later ≡ Nowhere)
 silent Holds n byte later e = (refl, e)
 silent (Broken number element) n byte later e = absurd (clash-none e)
 
-module _ (how : How) (new : Separators) (old-fit : Fitted (how .separators)) (new-fit : Fitted new) where
-  abbrev old : Separators
-  old = how .separators
+-- as many bytes as before
+pub rewritten-length : (old new : Separators) (gs : List Placed) → length (rewritten old new gs) ≡ length (closed (old .terminator) (texts gs))
+rewritten-length old new [] = refl
+rewritten-length old new (g ∷ gs) = simp length-append (omega (arith, written-length old new (g .segment), rewritten-length old new gs))
 
+module _ (old new : Separators) (new-fit : Fitted new) where
   -- a segment with its view written again, at the same place
   abbrev pub renewed : Placed → Placed
   renewed g = record { at = g .at; segment = written new (viewOf old (g .segment)) }
@@ -56,7 +57,7 @@ module _ (how : How) (new : Separators) (old-fit : Fitted (how .separators)) (ne
   -- what the segments have where they do not collide
   pub record Keeps (g : Placed) : Type 0 where
     pub view : viewOf new (written new (viewOf old (g .segment))) ≡ viewOf old (g .segment)
-    pub cut : (rest : Bytes) → cutBy (separatedBy how new) (written new (viewOf old (g .segment)) ++ new .terminator ∷ rest)
+    pub cut : (rest : Bytes) → cutBy (strictly new) (written new (viewOf old (g .segment)) ++ new .terminator ∷ rest)
         ≡ Whole (written new (viewOf old (g .segment))) rest
     pub long : length (written new (viewOf old (g .segment))) ≡ length (g .segment)
 
@@ -64,32 +65,32 @@ module _ (how : How) (new : Separators) (old-fit : Fitted (how .separators)) (ne
   AllKeep [] = Unit {0}
   AllKeep (g ∷ gs) = Keeps g × AllKeep gs
 
-  pub all-keep : (n : ℕ) (gs : List Placed) → Clean (old .terminator) (texts gs) → collision how new n gs ≡ NoClash → AllKeep gs
-  all-keep n [] c e = tt
-  all-keep n (g ∷ gs) c e =
+  pub all-keep : (n : ℕ) (gs : List Placed) → collision old new n gs ≡ Nowhere → AllKeep gs
+  all-keep n [] e = tt
+  all-keep n (g ∷ gs) e =
       let v = viewOf old (g .segment) in
-      let i = silent (firstBroken (collisionChecks new v)) n (g .at) (collision how new (suc n) gs) e in
+      let i = silent (firstBroken (collisionChecks new v)) n (g .at) (collision old new (suc n) gs) e in
       let u : T (unseparated new v) = each-every 18 (apartFrom new) empty v (i .0) in (
         record {
           view = view-written new new-fit v (view-well-formed old (g .segment)) u;
           cut = λ rest. cut-whole new (written new v) rest (written-free new new-fit v u);
-          long = ap length (sym (segment-changes old new old-fit (g .segment) (c .0))) ∙ length-map (g .segment) (newByte old new);
+          long = written-length old new (g .segment);
         },
-        all-keep (suc n) gs (c .1) (i .1),
+        all-keep (suc n) gs (i .1),
       )
 
   -- the same views
-  pub same-views : (gs : List Placed) → AllKeep gs → seen (separatedBy how new) (again gs) ≡ seen how gs
+  pub same-views : (gs : List Placed) → AllKeep gs → seen (strictly new) (again gs) ≡ seen (strictly old) gs
   same-views [] k = refl
   same-views (g ∷ gs) k = rw (k .0 .view, same-views gs (k .1))
 
   -- the same places, and nothing behind them
-  pub same-places : (at : ℕ) (s : Bytes) (gs : List Placed) (end : ℕ) (rest : Bytes) → AllKeep gs → Leads (cutBy how) (skipBy how) at s gs end rest
-      → Leads (cutBy (separatedBy how new)) (skipBy (separatedBy how new)) at (rewritten how new gs) (again gs) end []
+  pub same-places : (at : ℕ) (s : Bytes) (gs : List Placed) (end : ℕ) (rest : Bytes) → AllKeep gs → Leads (cutBy (strictly old)) (skipBy (strictly old)) at s gs end rest
+      → Leads (cutBy (strictly new)) (skipBy (strictly new)) at (rewritten old new gs) (again gs) end []
   same-places at s [] end rest k l = (l .0, refl)
   same-places at s (g ∷ gs) end rest k l = (
-    rewritten how new gs,
-    k .0 .cut (rewritten how new gs),
+    rewritten old new gs,
+    k .0 .cut (rewritten old new gs),
     l .2,
     rw (k .0 .long) (same-places (at + length (g .segment) + 1 + 0) (l .0) gs end rest (k .1) (l .3)),
   )
@@ -101,7 +102,7 @@ module _ (how : How) (new : Separators) (old-fit : Fitted (how .separators)) (ne
 
   -- the same records
   pub same-records : (h : List View) (gs : List Placed) (rows : List ℕ) → AllKeep gs
-      → segmentRecords (separatedBy how new) h (again gs) rows ≡ segmentRecords how h gs rows
+      → segmentRecords (strictly new) h (again gs) rows ≡ segmentRecords (strictly old) h gs rows
   same-records h [] rows k = refl
   same-records h (g ∷ gs) [] k = refl
   same-records h (g ∷ gs) (r ∷ rows) k = rw (k .0 .view, k .0 .long, same-records (viewOf old (g .segment) ∷ h) gs rows (k .1))

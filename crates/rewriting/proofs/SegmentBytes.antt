@@ -10,45 +10,46 @@ use Rattle.text.specs.Bytes.{Bytes}
 use Rattle.text.specs.Pieces.{closed}
 use Rattle.text.proofs.Pieces.{Clean}
 use Rattle.text.specs.Cut.{Placed, Leads, Whole}
+use Rattle.text.specs.declared.separators.Separators.{Separators}
 use Rattle.text.proofs.DocumentCut.{Says, cut-says}
 use Rattle.gate.specs.Reads.{cutBy, skipBy}
 use Rattle.gate.specs.Conditions.{usedBy}
-use Rattle.gate.specs.declared.how.How.{How}
+use Rattle.rewriting.specs.Rewrites.{strictly}
 
 -- the bytes of each segment
 abbrev pub texts : List Placed → List Bytes
 texts gs = map (λ (g : Placed). g .segment) gs
 
-module _ (how : How) where
+module _ (old : Separators) where
   abbrev t : ℕ
-  t = how .separators .terminator
+  t = old .terminator
 
   -- the segments with their terminators, and the rest
   pub record Spelt (s : Bytes) (gs : List Placed) (rest : Bytes) : Type 0 where
     pub whole : s ≡ closed t (texts gs) ++ rest
     pub clean : Clean t (texts gs)
 
-  pub spelt : (at : ℕ) (s : Bytes) (gs : List Placed) (end : ℕ) (rest : Bytes) → Leads (cutBy how) (skipBy how) at s gs end rest → Spelt s gs rest
+  pub spelt : (at : ℕ) (s : Bytes) (gs : List Placed) (end : ℕ) (rest : Bytes) → Leads (cutBy (strictly old)) (skipBy (strictly old)) at s gs end rest → Spelt s gs rest
   spelt at s [] end rest l = record { whole = l .1; clean = tt }
   spelt at s (g ∷ gs) end rest l =
-      let says : Says (how .separators) s (Whole (g .segment) (l .0)) = rw (l .1) at (cut-says (how .separators) s) in
+      let says : Says old s (Whole (g .segment) (l .0)) = rw (l .1) at (cut-says old s) in
       let later = spelt (at + length (g .segment) + 1 + 0) (l .0) gs end rest (l .3) in
       record { whole = says .0 ∙ rw (append-assoc, later .whole); clean = (says .1, later .clean) }
 
   -- the used bytes are those of the segments
-  used-from : (at : ℕ) (s : Bytes) (g : Placed) (gs : List Placed) (end : ℕ) (rest : Bytes) → Leads (cutBy how) (skipBy how) at s (g ∷ gs) end rest
+  used-from : (at : ℕ) (s : Bytes) (g : Placed) (gs : List Placed) (end : ℕ) (rest : Bytes) → Leads (cutBy (strictly old)) (skipBy (strictly old)) at s (g ∷ gs) end rest
       → usedBy (g ∷ gs) ≡ at + length (closed t (texts (g ∷ gs)))
   used-from at s g [] end rest l = rw (l .2, length-append (g .segment) (t ∷ [])) (omega arith)
   used-from at s g (h ∷ gs) end rest l =
       used-from (at + length (g .segment) + 1 + 0) (l .0) h gs end rest (l .3)
       ∙ rw (length-append (g .segment) (t ∷ closed t (texts (h ∷ gs)))) (omega arith)
 
-  pub used-length : (s : Bytes) (gs : List Placed) (end : ℕ) (rest : Bytes) → Leads (cutBy how) (skipBy how) 0 s gs end rest
+  pub used-length : (s : Bytes) (gs : List Placed) (end : ℕ) (rest : Bytes) → Leads (cutBy (strictly old)) (skipBy (strictly old)) 0 s gs end rest
       → usedBy gs ≡ length (closed t (texts gs))
   used-length s [] end rest l = refl
   used-length s (g ∷ gs) end rest l = used-from 0 s g gs end rest l ∙ omega arith
 
-  pub used-taken : (s : Bytes) (gs : List Placed) (end : ℕ) (rest : Bytes) → Leads (cutBy how) (skipBy how) 0 s gs end rest
+  pub used-taken : (s : Bytes) (gs : List Placed) (end : ℕ) (rest : Bytes) → Leads (cutBy (strictly old)) (skipBy (strictly old)) 0 s gs end rest
       → take (usedBy gs) s ≡ closed t (texts gs)
   used-taken s gs end rest l =
       ap (take (usedBy gs)) (spelt 0 s gs end rest l .whole) ∙ take-at (closed t (texts gs)) rest (usedBy gs) (sym (used-length s gs end rest l))

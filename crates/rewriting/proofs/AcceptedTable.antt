@@ -1,0 +1,90 @@
+-- The segment table of an accepted reading names its segments, and what is written again has as many bytes as were used.
+-- Assumes nothing.
+use Prim.Native.Nat.{ℕ}
+use mathlib.Core.Path.{_≡_, refl, sym, ap, subst, _∙_}
+use mathlib.Core.List.{List, []}
+use lib.Dec.{leb}
+use lib.ListN.{length, drop, length-map}
+use Rattle.text.specs.Bytes.{Bytes}
+use Rattle.text.specs.View.{viewOf}
+use Rattle.text.specs.Cut.{Placed}
+use Rattle.text.specs.declared.separators.Separators.{Separators}
+use Rattle.rows.specs.RowList.{tagOf}
+use Rattle.gate.specs.Segments.{tagIn, seen}
+use Rattle.gate.specs.Records.{Tables, segmentRecords}
+use Rattle.gate.specs.Reads.{Reads}
+use Rattle.gate.specs.Conditions.{Numbering, Shows}
+use Rattle.gate.specs.declared.answer.Answer.{Answer}
+use Rattle.gate.specs.declared.answer.Answer.the-variants.{Accepted, Refused}
+use Rattle.gate.proofs.conditions.Conditions.{accepted-numbered, condition-2}
+use Rattle.rewriting.specs.Rewrites.{strictly, rewritten, collision, Outcome, AfterAcceptance}
+use Rattle.rewriting.specs.internal.SegmentTable.{segmentsFrom, NamesFrom}
+use Rattle.rewriting.proofs.SegmentBytes.{used-length}
+use Rattle.rewriting.proofs.WrittenSegments.{rewritten-length}
+use Rattle.rewriting.proofs.TableRecords.{stored}
+
+-- the numbers of an acceptance
+abbrev pub bytesOf : Answer → ℕ
+bytesOf (Accepted segments levels bytes) = bytes
+bytesOf (Refused number segment byte element) = 0
+
+abbrev countOf : Answer → ℕ
+countOf (Accepted segments levels bytes) = segments
+countOf (Refused number segment byte element) = 0
+
+module _ (old : Separators) (s : Bytes) (before : Tables) (a l b : ℕ) (tables : Tables) (reads : Reads (strictly old) s before (Accepted a l b) tables) where
+  -- the segments of the reading
+  pub record Kept : Type 0 where
+    pub gs : List Placed
+    pub rows : List ℕ
+    pub numbering : Numbering (strictly old) s gs rows
+    pub shows : Shows (strictly old) before gs rows (Accepted a l b) tables
+
+  kept : Kept
+  kept =
+      let m = accepted-numbered (strictly old) s before a l b tables reads in
+      record {
+        gs = m .gs;
+        rows = m .rows;
+        numbering = m .numbering;
+        shows = condition-2 .shown (strictly old) s before (Accepted a l b) tables reads tt (m .gs) (m .rows) (m .numbering);
+      }
+
+  abbrev gs : List Placed
+  gs = kept .gs
+
+  abbrev n : Numbering (strictly old) s gs (kept .rows)
+  n = kept .numbering
+
+  -- each has a row
+  numbered : length (kept .rows) ≡ length gs
+  numbered =
+      sym (length-map (kept .rows) tagOf)
+      ∙ ap length (n .meets .tags)
+      ∙ length-map (seen (strictly old) gs) tagIn
+      ∙ length-map gs (λ (g : Placed). viewOf old (g .segment))
+
+  named : (segmentsFrom s (tables .segments) 0 a ≡ gs) × NamesFrom s (tables .segments) 0 a
+  named =
+      let records = segmentRecords (strictly old) [] gs (kept .rows) in
+      subst (λ (c : ℕ). (segmentsFrom s (tables .segments) 0 c ≡ gs) × NamesFrom s (tables .segments) 0 c) (sym (ap countOf (kept .shows .answer)))
+      (stored old s (tables .segments) 0 0 [] gs (kept .rows) s (n .end) (n .rest) (drop (length records) (before .segments)) numbered
+      (ap (λ (t : Tables). t .segments) (kept .shows .tables)) refl (n .leads))
+
+  pub accepted-names : NamesFrom s (tables .segments) 0 a
+  accepted-names = named .1
+
+  -- as many bytes as were used
+  pub accepted-length : (new : Separators) → b ≡ length (rewritten old new (segmentsFrom s (tables .segments) 0 a))
+  accepted-length new =
+      ap bytesOf (kept .shows .answer)
+      ∙ used-length old s gs (n .end) (n .rest) (n .leads)
+      ∙ sym (rewritten-length old new gs)
+      ∙ ap (λ (gs : List Placed). length (rewritten old new gs)) (sym (named .0))
+
+  -- the outcome over the segments that the table names is the one that the promise asks
+  pub accepting : (new : Separators) (output : Bytes) (r : Answer) (after : Bytes)
+      → Outcome (collision old new 1 (segmentsFrom s (tables .segments) 0 a)) (leb b (length output)) (Accepted a l b)
+      (rewritten old new (segmentsFrom s (tables .segments) 0 a)) output r after
+      → AfterAcceptance old new s (Accepted a l b) b output r after
+  accepting new output r after x = record { gs = gs; rows = kept .rows; numbering = n; outcome = rw (named .0) at x }

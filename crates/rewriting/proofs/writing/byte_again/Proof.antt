@@ -1,0 +1,14 @@
+-- `byte_again` meets its contract.
+-- Assumes nothing.
+use borrow.Author.Tests.{eq-eqb, ne-eqb}
+use Rattle.rewriting.proofs.writing.byte_again.Statement.{statement}
+use Rattle.rewriting.proofs.writing.byte_again.Tie as tie
+
+returns : tie.Need-returns
+returns c = simp (eq-eqb _ _ (c .if1 .taken))
+
+returns-2 : tie.Need-returns-2
+returns-2 c = simp (ne-eqb _ _ (c .if1 .left))
+
+pub byte-again-spec : {M : Type 1} → statement M
+byte-again-spec = tie.close (tie.spec returns returns-2)

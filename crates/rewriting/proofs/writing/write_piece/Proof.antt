@@ -1,0 +1,63 @@
+-- `write_piece` meets its contract: the bytes before i are written.
+-- Assumes nothing.
+use Prim.Native.Nat.{_-_, _≤_}
+use lib.ListN.{length}
+use Rattle.rewriting.proofs.OutputSoFar.{so-far-length}
+use Rattle.rewriting.proofs.WritingPieces.{PieceTo, piece-none, piece-inside, piece-more, piece-all}
+use borrow.Author.Needs.{needs}
+use Rattle.rewriting.proofs.writing.write_piece.Statement.{statement}
+use Rattle.rewriting.proofs.writing.write_piece.Tie as tie
+
+abbrev Inv-loop : tie.InvT-loop
+Inv-loop piece change output₀ at i₀ output i = PieceTo (change .old) (change .new) output₀ at piece output i
+
+abbrev μ-loop : tie.MeasureT-loop
+μ-loop piece change output₀ at i₀ output i = length piece - i
+
+loop-holds : tie.Need-loop-holds Inv-loop μ-loop
+loop-holds c = piece-none _ _ _ _ _ (c .before .before .pre)
+
+shared-slice-read-byte-again : tie.Need-shared-slice-read-byte-again Inv-loop μ-loop
+shared-slice-read-byte-again c = search needs
+
+byte-again-requires : tie.Need-byte-again-requires Inv-loop μ-loop
+byte-again-requires c κs = search needs
+
+add-output : tie.Need-add-output Inv-loop μ-loop
+add-output c = search needs
+
+slice-write-output : tie.Need-slice-write-output Inv-loop μ-loop
+slice-write-output c = piece-inside _ _ _ _ (c .before .before .before .loop .inv) (c .before .before .loop-test .taken)
+
+add-i : tie.Need-add-i Inv-loop μ-loop
+add-i c = search needs
+
+loop-less : tie.Need-loop-less Inv-loop μ-loop
+loop-less c = search needs
+
+loop-again : tie.Need-loop-again Inv-loop μ-loop
+loop-again c =
+    rw (c .byte-again .ensures) (piece-more _ _ _ _ (c .before .before .before .loop .inv) (c .before .before .loop-test .taken))
+
+same-length : tie.Need-same-length Inv-loop μ-loop
+same-length c = so-far-length (c .before .loop .inv .so-far)
+
+returns : tie.Need-returns Inv-loop μ-loop
+returns c = piece-all _ _ _ _ (c .before .loop .inv) (c .loop-test .left)
+
+pub write-piece-spec : {M : Type 1} → statement M
+write-piece-spec =
+    tie.close
+    (tie.spec
+    Inv-loop
+    μ-loop
+    loop-holds
+    shared-slice-read-byte-again
+    byte-again-requires
+    add-output
+    slice-write-output
+    add-i
+    loop-less
+    loop-again
+    same-length
+    returns)
