@@ -35,7 +35,11 @@ pub(crate) enum Judgement {
     // Its row; it makes no level and does not close the transaction.
     Plain(u8),
     // Its row, the level that it makes, and what is known of the levels then.
-    Level { row: u8, level: NewLevel, known: Known },
+    Level {
+        row: u8,
+        level: NewLevel,
+        known: Known,
+    },
     // The row of the SE that closes the transaction.
     Last(u8),
 }

@@ -68,7 +68,13 @@ fn pass_plain(row: u8, layout: Layout, state: State, segments: &mut [u64]) -> St
     if !storing::segment_room(segments, state.count) {
         return refusal(17, layout, state, 0);
     }
-    storing::put_segment(segments, state.count, layout.at, layout.end - layout.at, row);
+    storing::put_segment(
+        segments,
+        state.count,
+        layout.at,
+        layout.end - layout.at,
+        row,
+    );
     Step::Passed(after(state, row, state.known))
 }
 
@@ -91,7 +97,13 @@ fn pass_level(
     if !storing::level_room(levels, state.known.levels) {
         return refusal(17, layout, state, 0);
     }
-    storing::put_segment(segments, state.count, layout.at, layout.end - layout.at, row);
+    storing::put_segment(
+        segments,
+        state.count,
+        layout.at,
+        layout.end - layout.at,
+        row,
+    );
     storing::put_level(levels, state.known.levels, state.count + 1, level);
     Step::Passed(after(state, row, known))
 }
@@ -130,11 +142,7 @@ pub(crate) fn settle(
     match judgement {
         Judgement::Broken(number, element) => refusal(number, layout, state, element),
         Judgement::Plain(row) => pass_plain(row, layout, state, segments),
-        Judgement::Level {
-            row,
-            level,
-            known,
-        } => {
+        Judgement::Level { row, level, known } => {
             pass_level(row, level, known, layout, state, segments, levels)
         }
         Judgement::Last(row) => close(row, layout, state, segments),

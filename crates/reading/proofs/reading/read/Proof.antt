@@ -35,8 +35,7 @@ read-on-requires c κs =
     let made = c .before .before .before .before in
     let short = tested c in
     let fitting = short .before in
-    let told = fitting .before .fit in
-    (
+    let told = fitting .before .fit in (
       fitted _ (rw (← told .ensures, not-false (told .result) (fitting .if1 .left)) tt),
       (omega (arith, short .if2 .left), (made .before .set-special .ensures, made .next-table .ensures)),
     )
