@@ -3,7 +3,6 @@
 use Prim.Native.Nat.{ℕ}
 use mathlib.Core.Path.{_≡_, refl, sym, ap, subst, _∙_}
 use mathlib.Core.List.{List, []}
-use lib.Dec.{leb}
 use lib.ListN.{length, drop, length-map}
 use Rattle.text.specs.Bytes.{Bytes}
 use Rattle.text.specs.View.{viewOf}
@@ -17,7 +16,7 @@ use Rattle.gate.specs.Conditions.{Numbering, Shows}
 use Rattle.gate.specs.declared.answer.Answer.{Answer}
 use Rattle.gate.specs.declared.answer.Answer.the-variants.{Accepted, Refused}
 use Rattle.gate.proofs.conditions.Conditions.{accepted-numbered, condition-2}
-use Rattle.rewriting.specs.Rewrites.{strictly, rewritten, collision, Outcome, AfterAcceptance}
+use Rattle.rewriting.specs.Rewrites.{strictly, rewritten, OutcomeOf, AfterAcceptance}
 use Rattle.rewriting.specs.internal.SegmentTable.{segmentsFrom, NamesFrom}
 use Rattle.rewriting.proofs.SegmentBytes.{used-length}
 use Rattle.rewriting.proofs.WrittenSegments.{rewritten-length}
@@ -84,7 +83,6 @@ module _ (old : Separators) (s : Bytes) (before : Tables) (a l b : ℕ) (tables 
 
   -- the outcome over the segments that the table names is the one that the promise asks
   pub accepting : (new : Separators) (output : Bytes) (r : Answer) (after : Bytes)
-      → Outcome (collision old new 1 (segmentsFrom s (tables .segments) 0 a)) (leb b (length output)) (Accepted a l b)
-      (rewritten old new (segmentsFrom s (tables .segments) 0 a)) output r after
+      → OutcomeOf old new (segmentsFrom s (tables .segments) 0 a) (Accepted a l b) b output r after
       → AfterAcceptance old new s (Accepted a l b) b output r after
   accepting new output r after x = record { gs = gs; rows = kept .rows; numbering = n; outcome = rw (named .0) at x }

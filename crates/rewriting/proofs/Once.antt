@@ -18,7 +18,7 @@ use Rattle.gate.specs.declared.answer.Answer.the-variants.{Accepted, Refused}
 use Rattle.gate.proofs.reading.Numbers.{refusal-once}
 use Rattle.gate.proofs.reading.Once.{reads-once}
 use Rattle.gate.proofs.conditions.Conditions.{numbering-once}
-use Rattle.rewriting.specs.Rewrites.{strictly, rewritten, collision, Outcome, AfterReading, Rewriting, Unfit, RewritesFit, Rewrites}
+use Rattle.rewriting.specs.Rewrites.{strictly, rewritten, collision, Outcome, OutcomeOf, AfterReading, Rewriting, Unfit, RewritesFit, Rewrites}
 use Rattle.rewriting.specs.declared.collisions.Clash.{Clash}
 use Rattle.rewriting.specs.declared.collisions.Clash.the-variants.{At, Nowhere}
 
@@ -37,7 +37,7 @@ module _ (old new : Separators) (s : Bytes) (before : Tables) (output : Bytes) w
   following-once (Accepted a l b) r r′ after after′ x y =
       let gs = numbering-once (strictly old) s (x .gs) (y .gs) (x .rows) (y .rows) (x .numbering) (y .numbering) .0 in
       outcome-once (collision old new 1 (y .gs)) (leb b (length output)) (Accepted a l b) (rewritten old new (y .gs)) output r r′ after after′
-      (subst (λ (gs : List Placed). Outcome (collision old new 1 gs) (leb b (length output)) (Accepted a l b) (rewritten old new gs) output r after) gs
+      (subst (λ (gs : List Placed). OutcomeOf old new gs (Accepted a l b) b output r after) gs
       (x .outcome))
       (y .outcome)
   following-once (Refused n k b e) r r′ after after′ x y = (x .0 ∙ sym (y .0), x .1 ∙ sym (y .1))

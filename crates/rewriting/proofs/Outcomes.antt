@@ -5,7 +5,6 @@ use mathlib.Core.Path.{_≡_, refl, ap, _∙_}
 use mathlib.Core.Bool.{true, false}
 use mathlib.Core.List.{List, _++_}
 use native.Mathlib.Omega.{arith}
-use lib.Dec.{leb}
 use lib.ListN.{length, drop}
 use borrow.Author.Tests.{le-leb, lt-leb}
 use Rattle.text.specs.Bytes.{Bytes}
@@ -15,7 +14,7 @@ use Rattle.gate.specs.Records.{Tables}
 use Rattle.gate.specs.Reads.{Reads}
 use Rattle.gate.specs.declared.answer.Answer.{Answer}
 use Rattle.gate.specs.declared.answer.Answer.the-variants.{Accepted, Refused}
-use Rattle.rewriting.specs.Rewrites.{strictly, rewritten, collision, Outcome, Rewrites}
+use Rattle.rewriting.specs.Rewrites.{strictly, rewritten, collision, Outcome, OutcomeOf, Rewrites}
 use Rattle.rewriting.specs.declared.collisions.Clash.{Clash}
 use Rattle.rewriting.specs.declared.collisions.Clash.the-variants.{At, Nowhere}
 use Rattle.rewriting.specs.internal.SegmentTable.{segmentsFrom}
@@ -31,7 +30,7 @@ module _ (old new : Separators) (s : Bytes) (table : List ℕ) (count levels byt
   again = rewritten old new (segmentsFrom s table 0 count)
 
   abbrev Ends : Answer → Bytes → Type 0
-  Ends r after = Outcome found (leb bytes (length output)) (Accepted count levels bytes) again output r after
+  Ends r after = OutcomeOf old new (segmentsFrom s table 0 count) (Accepted count levels bytes) bytes output r after
 
   pub collided : (segment byte element : ℕ) → At segment byte element ≡ found → Ends (Refused 18 segment byte element) output
   unfolding Outcome
@@ -66,8 +65,7 @@ module _ (old new : Separators) (s : Bytes) (before : Tables) (output : Bytes) w
           rw (old-fits, new-fits) (record { answer = Refused number segment byte element; reads = x; follows = (refl, refl) })
 
       pub reading-accepted : (a l b : ℕ) → Reads (strictly old) s before (Accepted a l b) tables → (r : Answer) (after : Bytes)
-          → Outcome (collision old new 1 (segmentsFrom s (tables .segments) 0 a)) (leb b (length output)) (Accepted a l b)
-          (rewritten old new (segmentsFrom s (tables .segments) 0 a)) output r after
+          → OutcomeOf old new (segmentsFrom s (tables .segments) 0 a) (Accepted a l b) b output r after
           → Rewrites old new s before output r tables after
       unfolding Rewrites
       reading-accepted a l b x r after y =

@@ -20,12 +20,12 @@ use Rattle.gate.specs.Reads.{limit, cutBy, skipBy, Reads}
 use Rattle.gate.specs.Conditions.{Numbering, usedBy, Shows, HasRoom}
 use Rattle.gate.specs.declared.answer.Answer.the-variants.{Accepted}
 use Rattle.gate.proofs.conditions.Conditions.{accepted-numbered, accepted-proper, meets-accepted, numbering-once}
-use Rattle.rewriting.specs.Rewrites.{strictly, rewritten, Rewrites}
+use Rattle.rewriting.specs.Rewrites.{strictly, rewritten}
 use Rattle.rewriting.specs.Conditions.{SameReport, ReadsTo, WritesExactly}
 use Rattle.rewriting.proofs.SegmentBytes.{texts, spelt, used-length, used-taken}
 use Rattle.rewriting.proofs.WrittenSegments.{rewritten-length, again, AllKeep, all-keep, same-views, same-places, same-used, same-records}
 use Rattle.rewriting.proofs.AcceptedTable.{bytesOf}
-use Rattle.rewriting.proofs.SuccessFacts.{Success, succeeded}
+use Rattle.rewriting.proofs.SuccessFacts.{Success}
 
 module _ (old new : Separators) (s : Bytes) (before : Tables) (output : Bytes) (a l b : ℕ) (tables : Tables) (after : Bytes)
     (x : Success old new s before output a l b tables after) where
@@ -43,7 +43,7 @@ module _ (old new : Separators) (s : Bytes) (before : Tables) (output : Bytes) (
   out = rewritten old new (x .gs)
 
   keep : AllKeep old new new-fitted (x .gs)
-  keep = all-keep old new new-fitted 1 (x .gs) (x .apart)
+  keep = all-keep old new new-fitted 1 0 s (x .gs) (n .end) (n .rest) (n .leads) (x .apart)
 
   -- the reading of the old bytes
   abbrev short : length s ≤ limit
@@ -110,7 +110,7 @@ module _ (old new : Separators) (s : Bytes) (before : Tables) (output : Bytes) (
     long,
     used,
     used-length old s (x .gs) (n .end) (n .rest) (n .leads),
-    ap length (spelt old 0 s (x .gs) (n .end) (n .rest) (n .leads) .whole) ∙ length-append (closed (old .terminator) (texts (x .gs))) (n .rest),
+    ap length (spelt old 0 s (x .gs) (n .end) (n .rest) (n .leads)) ∙ length-append (closed (old .terminator) (texts (x .gs))) (n .rest),
     short,
   )
 

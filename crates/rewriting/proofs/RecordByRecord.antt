@@ -1,6 +1,6 @@
 -- The segments that a segment table names, record by record: searched for a collision, and written.
 -- Assumes nothing.
-use Prim.Native.Nat.{ℕ, zero, suc, _+_, _-_, _≤_, _<_}
+use Prim.Native.Nat.{ℕ, suc, _+_, _-_, _≤_, _<_}
 use mathlib.Core.Path.{_≡_, refl, sym, ap, subst, _∙_}
 use mathlib.Core.List.{List, [], _∷_, _++_}
 use native.Mathlib.Omega.{arith}
@@ -14,7 +14,6 @@ use Rattle.elements.specs.Checks.{firstBroken}
 use Rattle.elements.specs.declared.verdict.Verdict.{Verdict}
 use Rattle.elements.specs.declared.verdict.Verdict.the-variants.{Holds, Broken}
 use Rattle.rewriting.specs.Rewrites.{rewritten, collisionChecks, orLater, collision}
-use Rattle.rewriting.specs.declared.collisions.Clash.{Clash}
 use Rattle.rewriting.specs.declared.collisions.Clash.the-variants.{At, Nowhere}
 use Rattle.rewriting.specs.internal.SegmentTable.{startIn, segmentIn, placedIn, segmentsFrom, Names, NamesFrom}
 use Rattle.rewriting.specs.internal.Output.{putAt}

@@ -8,7 +8,6 @@ use lib.ListN.{length, take, length-append}
 use lib.Seq.{take-at}
 use Rattle.text.specs.Bytes.{Bytes}
 use Rattle.text.specs.Pieces.{closed}
-use Rattle.text.proofs.Pieces.{Clean}
 use Rattle.text.specs.Cut.{Placed, Leads, Whole}
 use Rattle.text.specs.declared.separators.Separators.{Separators}
 use Rattle.text.proofs.DocumentCut.{Says, cut-says}
@@ -25,16 +24,12 @@ module _ (old : Separators) where
   t = old .terminator
 
   -- the segments with their terminators, and the rest
-  pub record Spelt (s : Bytes) (gs : List Placed) (rest : Bytes) : Type 0 where
-    pub whole : s ≡ closed t (texts gs) ++ rest
-    pub clean : Clean t (texts gs)
-
-  pub spelt : (at : ℕ) (s : Bytes) (gs : List Placed) (end : ℕ) (rest : Bytes) → Leads (cutBy (strictly old)) (skipBy (strictly old)) at s gs end rest → Spelt s gs rest
-  spelt at s [] end rest l = record { whole = l .1; clean = tt }
+  pub spelt : (at : ℕ) (s : Bytes) (gs : List Placed) (end : ℕ) (rest : Bytes) → Leads (cutBy (strictly old)) (skipBy (strictly old)) at s gs end rest
+      → s ≡ closed t (texts gs) ++ rest
+  spelt at s [] end rest l = l .1
   spelt at s (g ∷ gs) end rest l =
       let says : Says old s (Whole (g .segment) (l .0)) = rw (l .1) at (cut-says old s) in
-      let later = spelt (at + length (g .segment) + 1 + 0) (l .0) gs end rest (l .3) in
-      record { whole = says .0 ∙ rw (append-assoc, later .whole); clean = (says .1, later .clean) }
+      says .0 ∙ rw (append-assoc, spelt (at + length (g .segment) + 1 + 0) (l .0) gs end rest (l .3))
 
   -- the used bytes are those of the segments
   used-from : (at : ℕ) (s : Bytes) (g : Placed) (gs : List Placed) (end : ℕ) (rest : Bytes) → Leads (cutBy (strictly old)) (skipBy (strictly old)) at s (g ∷ gs) end rest
@@ -52,4 +47,4 @@ module _ (old : Separators) where
   pub used-taken : (s : Bytes) (gs : List Placed) (end : ℕ) (rest : Bytes) → Leads (cutBy (strictly old)) (skipBy (strictly old)) 0 s gs end rest
       → take (usedBy gs) s ≡ closed t (texts gs)
   used-taken s gs end rest l =
-      ap (take (usedBy gs)) (spelt 0 s gs end rest l .whole) ∙ take-at (closed t (texts gs)) rest (usedBy gs) (sym (used-length s gs end rest l))
+      ap (take (usedBy gs)) (spelt 0 s gs end rest l) ∙ take-at (closed t (texts gs)) rest (usedBy gs) (sym (used-length s gs end rest l))

@@ -4,15 +4,13 @@ use Prim.Native.Nat.{ℕ, suc, _+_}
 use mathlib.Core.Path.{_≡_, refl, ap}
 use mathlib.Core.List.{List, [], _∷_, _++_, map}
 use native.Mathlib.Omega.{arith}
-use lib.Dec.{T}
 use lib.ListN.{length, length-append}
 use Rattle.text.specs.Bytes.{Bytes}
 use Rattle.text.specs.Pieces.{closed}
 use Rattle.text.specs.View.{View, viewOf, written, empty}
 use Rattle.text.specs.Cut.{Placed, Leads, Whole}
 use Rattle.text.specs.declared.separators.Separators.{Separators}
-use Rattle.text.proofs.DocumentCut.{cut-whole}
-use Rattle.text.proofs.View.{view-written, written-free, view-well-formed, unseparated}
+use Rattle.text.proofs.Writable.{Writable, cut-writable, writable-cut, writable-seen, writable-again}
 use Rattle.text.specs.Separators.{Fitted}
 use Rattle.elements.specs.Checks.{firstBroken}
 use Rattle.elements.specs.declared.verdict.Verdict.{Verdict}
@@ -65,18 +63,20 @@ module _ (old new : Separators) (new-fit : Fitted new) where
   AllKeep [] = Unit {0}
   AllKeep (g ∷ gs) = Keeps g × AllKeep gs
 
-  pub all-keep : (n : ℕ) (gs : List Placed) → collision old new n gs ≡ Nowhere → AllKeep gs
-  all-keep n [] e = tt
-  all-keep n (g ∷ gs) e =
+  pub all-keep : (n at : ℕ) (s : Bytes) (gs : List Placed) (end : ℕ) (rest : Bytes)
+      → Leads (cutBy (strictly old)) (skipBy (strictly old)) at s gs end rest → collision old new n gs ≡ Nowhere → AllKeep gs
+  all-keep n at s [] end rest l e = tt
+  all-keep n at s (g ∷ gs) end rest l e =
       let v = viewOf old (g .segment) in
       let i = silent (firstBroken (collisionChecks new v)) n (g .at) (collision old new (suc n) gs) e in
-      let u : T (unseparated new v) = each-every 18 (apartFrom new) empty v (i .0) in (
+      let w : Writable new v =
+      writable-again old new v (cut-writable old s (g .segment) (l .0) (l .1)) (each-every 18 (apartFrom new) empty v (i .0)) in (
         record {
-          view = view-written new new-fit v (view-well-formed old (g .segment)) u;
-          cut = λ rest. cut-whole new (written new v) rest (written-free new new-fit v u);
+          view = writable-seen new new-fit v w;
+          cut = writable-cut new new-fit v w;
           long = written-length old new (g .segment);
         },
-        all-keep (suc n) gs (i .1),
+        all-keep (suc n) (at + length (g .segment) + 1 + 0) (l .0) gs end rest (l .3) (i .1),
       )
 
   -- the same views

@@ -35,15 +35,16 @@ strictly old = record { separators = old }
 abbrev pub rewritten : Separators → Separators → List Placed → Bytes
 rewritten old new gs = closed (new .terminator) (map (written new) (seen (strictly old) gs))
 
--- 18: a data byte of a piece equals a new separator; the tag is element 0
+-- no data byte of the piece equals a new separator
 abbrev pub apartFrom : Separators → Piece → Bool
 apartFrom new p = every (every (λ (b : ℕ). not (isSeparator new b))) p
 
+-- 18: so it is of every piece; the tag is element 0
 abbrev pub collisionChecks : Separators → View → List Check
 collisionChecks new v = each 18 0 (length v) (λ (k : ℕ). apartFrom new (elementOf v k))
 
--- a clash is such a piece: its segment's number, the byte where the segment starts, and the element. The first segment with such a piece
--- decides, and in it the first such piece; n is the number of the first of these segments
+-- a clash is the place of a piece that fails: its segment's number, the byte where the segment starts, and the element. The first segment with
+-- such a piece decides, and in it the first such piece; n is the number of the first of these segments
 abbrev pub orLater : Verdict → ℕ → ℕ → Clash → Clash
 orLater Holds n byte later = later
 orLater (Broken number element) n byte later = At n byte element
@@ -61,12 +62,17 @@ Outcome (At segment byte element) room accepted new output r after =
 Outcome Nowhere false accepted new output r after = (numbersOf r ≡ 19 ∷ 0 ∷ 0 ∷ 0 ∷ []) × (after ≡ output)
 Outcome Nowhere true accepted new output r after = (r ≡ accepted) × (after ≡ new ++ drop (length new) output)
 
+-- and so with these segments
+abbrev pub OutcomeOf : Separators → Separators → List Placed → Answer → ℕ → Bytes → Answer → Bytes → Type 0
+OutcomeOf old new gs accepted bytes output r after =
+    Outcome (collision old new 1 gs) (leb bytes (length output)) accepted (rewritten old new gs) output r after
+
 -- an accepted reading has the segments of the one numbering that meets every rule
 pub record AfterAcceptance (old new : Separators) (s : Bytes) (accepted : Answer) (bytes : ℕ) (output : Bytes) (r : Answer) (after : Bytes) : Type 0 where
   pub gs : List Placed
   pub rows : List ℕ
   pub numbering : Numbering (strictly old) s gs rows
-  pub outcome : Outcome (collision old new 1 gs) (leb bytes (length output)) accepted (rewritten old new gs) output r after
+  pub outcome : OutcomeOf old new gs accepted bytes output r after
 
 -- what follows the reading's answer; a refusal is returned as it is
 abbrev pub AfterReading : Separators → Separators → Bytes → Answer → Bytes → Answer → Bytes → Type 0

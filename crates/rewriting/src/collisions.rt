@@ -71,9 +71,11 @@ pub(crate) fn first_collision(s: &[u8], segments: &[u64], count: usize, change: 
         let segment = table::segment_in(s, segments, k);
         match segment_collision(segment, change) {
             Verdict::Broken(_, element) => {
+                let byte = table::start_in(segments, k);
+                let number = k + 1;
                 return Clash::At {
-                    segment: k + 1,
-                    byte: table::start_in(segments, k),
+                    segment: number,
+                    byte,
                     element,
                 };
             }

@@ -1,9 +1,8 @@
 // Rewriting one transaction with other separators.
 ghost use mathlib.Core.Path.{_≡_};
-ghost use lib.Dec.{leb};
 ghost use lib.ListN.{length};
-ghost use Rattle.gate.specs.declared.answer.Answer.the-variants.{Accepted};
-ghost use Rattle.rewriting.specs.Rewrites.{rewritten, collision, Outcome, Rewrites};
+ghost use Rattle.gate.specs.declared.answer.Answer.the-variants.{Accepted, Refused};
+ghost use Rattle.rewriting.specs.Rewrites.{rewritten, OutcomeOf, Rewrites};
 ghost use Rattle.rewriting.specs.internal.SegmentTable.{segmentsFrom, NamesFrom};
 use crate::change::Change;
 use crate::collisions;
@@ -12,6 +11,18 @@ use crate::writing;
 use gate::answer::Answer;
 use gate::how::How;
 use text::separators::Separators;
+
+// A refusal that names no segment.
+fn refused(number: usize, element: usize) -> Answer
+    ensures { λ r. ⌜ r ≡ Refused number 0 0 element ⌝ }
+{
+    Answer::Refused {
+        number,
+        segment: 0,
+        byte: 0,
+        element,
+    }
+}
 
 // Writes the segments of an accepted reading; 18 or 19 where that cannot be.
 fn write_accepted(
@@ -25,9 +36,8 @@ fn write_accepted(
 ) -> Answer
     requires { ⌜ NamesFrom (now s) (now segments) 0 count ⌝ }
     requires { ⌜ bytes ≡ length (rewritten (change .old) (change .new) (segmentsFrom (now s) (now segments) 0 count)) ⌝ }
-    ensures { λ r. ⌜ Outcome (collision (change .old) (change .new) 1 (segmentsFrom (now (s .entry)) (now (segments .entry)) 0 count))
-        (leb bytes (length (now (output .entry)))) (Accepted count levels bytes)
-        (rewritten (change .old) (change .new) (segmentsFrom (now (s .entry)) (now (segments .entry)) 0 count)) (now (output .entry)) r (now (output .exit)) ⌝ }
+    ensures { λ r. ⌜ OutcomeOf (change .old) (change .new) (segmentsFrom (now (s .entry)) (now (segments .entry)) 0 count) (Accepted count levels bytes) bytes
+        (now (output .entry)) r (now (output .exit)) ⌝ }
 {
     match collisions::first_collision(s, segments, count, change) {
         Clash::At {
@@ -42,12 +52,7 @@ fn write_accepted(
         },
         Clash::Nowhere => {
             if output.len() < bytes {
-                return Answer::Refused {
-                    number: 19,
-                    segment: 0,
-                    byte: 0,
-                    element: 0,
-                };
+                return refused(19, 0);
             }
             writing::write_segments(s, segments, count, change, output);
             Answer::Accepted {
@@ -73,20 +78,10 @@ pub fn rewrite(
         (record { segments = now (segments .exit); levels = now (levels .exit) }) (now (output .exit)) ⌝ }
 {
     if !old.fit() {
-        return Answer::Refused {
-            number: 1,
-            segment: 0,
-            byte: 0,
-            element: 0,
-        };
+        return refused(1, 0);
     }
     if !new.fit() {
-        return Answer::Refused {
-            number: 1,
-            segment: 0,
-            byte: 0,
-            element: 1,
-        };
+        return refused(1, 1);
     }
     let strictly = How { separators: old };
     match reading::reading::read(s, strictly, segments, levels) {

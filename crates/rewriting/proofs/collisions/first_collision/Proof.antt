@@ -30,8 +30,8 @@ segment-collision-requires c κs = search needs
 enum-known-element : tie.Need-enum-known-element Inv-loop μ-loop
 enum-known-element c = search needs
 
-add-t10 : tie.Need-add-t10 Inv-loop μ-loop
-add-t10 c = search needs
+add-number : tie.Need-add-number Inv-loop μ-loop
+add-number c = search needs
 
 start-in-requires : tie.Need-start-in-requires Inv-loop μ-loop
 start-in-requires c κs = omega (arith, named (c .before .before .before .before .before) .there)
@@ -73,8 +73,8 @@ first-collision-spec =
     segment-in-requires
     segment-collision-requires
     enum-known-element
-    add-t10
     start-in-requires
+    add-number
     returns
     enum-told
     add-k

@@ -20,14 +20,25 @@ new-fits c = sym (c .before .fit2 .ensures) ∙ not-false _ (c .if2 .left)
 fit-requires : tie.Need-fit-requires
 fit-requires c κs = search needs
 
+refused-requires : tie.Need-refused-requires
+refused-requires c κs = search needs
+
 returns : tie.Need-returns
-returns c = old-unfit _ _ _ _ _ (sym (c .before .fit .ensures) ∙ not-true _ (c .if1 .taken))
+returns c =
+    let tested = c .before in
+    rw (c .refused .ensures) (old-unfit _ _ _ _ _ (sym (tested .before .fit .ensures) ∙ not-true _ (tested .if1 .taken)))
 
 fit-requires-2 : tie.Need-fit-requires-2
 fit-requires-2 c κs = search needs
 
+refused-requires-2 : tie.Need-refused-requires-2
+refused-requires-2 c κs = search needs
+
 returns-2 : tie.Need-returns-2
-returns-2 c = new-unfit _ _ _ _ _ (old-fits (c .before .before)) (sym (c .before .fit2 .ensures) ∙ not-true _ (c .if2 .taken))
+returns-2 c =
+    let tested = c .before in
+    rw (c .refused2 .ensures)
+    (new-unfit _ _ _ _ _ (old-fits (tested .before .before)) (sym (tested .before .fit2 .ensures) ∙ not-true _ (tested .if2 .taken)))
 
 read-requires : tie.Need-read-requires
 read-requires c κs = search needs
@@ -79,8 +90,10 @@ rewrite-spec =
     tie.close
     (tie.spec
     fit-requires
+    refused-requires
     returns
     fit-requires-2
+    refused-requires-2
     returns-2
     read-requires
     enum-known-count

@@ -15,11 +15,16 @@ enum-known-segment c = search needs
 enum-told : tie.Need-enum-told
 enum-told c = search needs
 
+refused-requires : tie.Need-refused-requires
+refused-requires c κs = search needs
+
 returns : tie.Need-returns
 returns c =
-    let a = c .before .before .before .before .before .before .before .args in
-    too-short (a .change .old) (a .change .new) (a .s .now) (a .segments .now) (a .count) (a .levels) (a .bytes) (a .output .now)
-    (sym (c .before .enum-told .given .1) ∙ c .before .before .before .first-collision .ensures) (c .if1 .taken)
+    let tested = c .before in
+    let a = tested .before .before .before .before .before .before .before .args in
+    rw (c .refused .ensures)
+    (too-short (a .change .old) (a .change .new) (a .s .now) (a .segments .now) (a .count) (a .levels) (a .bytes) (a .output .now)
+    (sym (tested .before .enum-told .given .1) ∙ tested .before .before .before .first-collision .ensures) (tested .if1 .taken))
 
 write-segments-requires : tie.Need-write-segments-requires
 write-segments-requires c κs = search needs
@@ -48,6 +53,7 @@ write-accepted-spec =
     first-collision-requires
     enum-known-segment
     enum-told
+    refused-requires
     returns
     write-segments-requires
     returns-2

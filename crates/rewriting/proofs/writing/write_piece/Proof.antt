@@ -1,6 +1,6 @@
 -- `write_piece` meets its contract: the bytes before i are written.
 -- Assumes nothing.
-use Prim.Native.Nat.{_-_, _≤_}
+use Prim.Native.Nat.{_-_}
 use lib.ListN.{length}
 use Rattle.rewriting.proofs.OutputSoFar.{so-far-length}
 use Rattle.rewriting.proofs.WritingPieces.{PieceTo, piece-none, piece-inside, piece-more, piece-all}
