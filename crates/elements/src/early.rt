@@ -25,7 +25,7 @@ fn is_few(s: &[u8], starts: &[usize; 33], layout: Layout, component: u8, tag: u8
     components::few_units(
         layout.single,
         component,
-        layout::early_element(s, starts, layout, 5),
+        layout::element(s, starts, layout, 5),
     )
 }
 
@@ -66,7 +66,7 @@ fn elements_verdict(
     let mut k: usize = 1;
     while k <= upto {
         let rule = rules::rule_of(tag, k);
-        let p = layout::early_element(s, starts, layout, k);
+        let p = layout::element(s, starts, layout, k);
         if !components::is_complete(rule, layout.single, component, p) {
             return Verdict::Broken(8, k);
         }

@@ -1,7 +1,7 @@
 // Where one pass over a segment found it, and its elements by their numbers.
 ghost use mathlib.Core.Path.{_≡_};
-ghost use Prim.Native.Nat.{_-_, _<_};
-ghost use Rattle.elements.specs.internal.Layouts.{partBetween, elementIn, earlyElement};
+ghost use Prim.Native.Nat.{_-_};
+ghost use Rattle.elements.specs.internal.Layouts.{partBetween, earlyElement};
 
 // Where the segment starts and ends, how many elements it has, that no component separator stands in it, and that rule 6 holds of it.
 pub struct Layout {
@@ -35,25 +35,6 @@ fn before(n: usize) -> usize
     n - 1
 }
 
-// The bytes of element k, one of the first 31, the tag being element 0; none past the last.
-pub(crate) fn early_element<'a>(
-    s: &'a [u8],
-    starts: &[usize; 33],
-    layout: Layout,
-    k: usize,
-) -> &'a [u8]
-    requires { ⌜ k < 32 ⌝ }
-    ensures { λ r. ⌜ now r ≡ elementIn (now (s .entry)) (now (starts .entry)) layout k ⌝ }
-{
-    if layout.count < k {
-        return &s[0..0];
-    }
-    if k < layout.count {
-        return part_between(s, starts[k], before(starts[k + 1]));
-    }
-    part_between(s, starts[k], layout.end)
-}
-
 // The bytes of element k, the tag being element 0; none past the last, and none past element 31.
 pub fn element<'a>(s: &'a [u8], starts: &[usize; 33], layout: Layout, k: usize) -> &'a [u8]
     ensures { λ r. ⌜ now r ≡ earlyElement (now (s .entry)) (now (starts .entry)) layout k ⌝ }
@@ -61,5 +42,11 @@ pub fn element<'a>(s: &'a [u8], starts: &[usize; 33], layout: Layout, k: usize) 
     if 32 <= k {
         return &s[0..0];
     }
-    early_element(s, starts, layout, k)
+    if layout.count < k {
+        return &s[0..0];
+    }
+    if k < layout.count {
+        return part_between(s, starts[k], before(starts[k + 1]));
+    }
+    part_between(s, starts[k], layout.end)
 }

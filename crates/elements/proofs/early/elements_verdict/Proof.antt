@@ -1,6 +1,6 @@
 -- `elements_verdict` meets its contract: the elements below k are complete, and `unfit` is the first that does not suit.
 -- Assumes nothing.
-use Prim.Native.Nat.{ℕ, _+_, _-_, _≤_}
+use Prim.Native.Nat.{ℕ, _+_, _-_, _≤_, _<_}
 use mathlib.Core.Path.{_≡_, sym, ap, _∙_}
 use mathlib.Core.Bool.{Bool, not, _&&_}
 use mathlib.Core.Logic.{⊎-elim}
@@ -11,7 +11,7 @@ use Rattle.text.specs.View.{Piece}
 use Rattle.elements.specs.internal.Layouts.{componentsIn}
 use Rattle.elements.specs.internal.Verdicts.{rulesOf, completeAt, suitsAt}
 use Rattle.elements.proofs.ElementPass.{Judged, judged-none, judged-first, judged-kept, judged-missing, judged-unfit, judged-all, complete-at, suits-at}
-use Rattle.elements.proofs.ByLayout.{element-at}
+use Rattle.elements.proofs.ByLayout.{element-early, element-at}
 use native.Mathlib.Omega.{arith}
 use borrow.Author.Needs.{needs}
 use Rattle.elements.proofs.early.elements_verdict.Statement.{statement}
@@ -29,6 +29,10 @@ abbrev μ-loop : tie.MeasureT-loop
 abbrev at : tie.Start Inv-loop μ-loop → ℕ → Piece
 at c = componentsIn (now (c .args .s)) (now (c .args .starts)) (c .args .layout) (c .args .component)
 
+-- the element is one of the first 31
+below : (c : tie.In-loop Inv-loop μ-loop) → c .before .loop .k < 32
+below c = omega (arith, c .loop-test .taken, c .before .before .before .pre)
+
 -- what the two tests of element k find
 complete-here : (c : tie.After-is-complete Inv-loop μ-loop)
     → c .is-complete .result ≡ completeAt (rulesOf (c .before .before .before .before .before .before .args .tag))
@@ -36,7 +40,7 @@ complete-here : (c : tie.After-is-complete Inv-loop μ-loop)
 complete-here c =
     c .is-complete .ensures
     ∙ complete-at _ _ _ (c .before .before .rule-of .result) _ (c .before .before .rule-of .ensures .same)
-    (element-at _ _ _ _ _ _ (c .before .early-element .ensures))
+    (element-at _ _ _ _ _ _ (c .before .element .ensures ∙ element-early _ _ _ _ (below (c .before .before .before))))
 
 suited-here : (c : tie.After-is-suited Inv-loop μ-loop)
     → c .is-suited .result ≡ suitsAt (rulesOf (c .before .before .before .before .before .before .before .before .args .tag))
@@ -44,7 +48,7 @@ suited-here : (c : tie.After-is-suited Inv-loop μ-loop)
 suited-here c =
     c .is-suited .ensures
     ∙ suits-at _ _ _ (c .before .before .before .before .rule-of .result) _ (c .before .before .before .before .rule-of .ensures .same)
-    (element-at _ _ _ _ _ _ (c .before .before .before .early-element .ensures))
+    (element-at _ _ _ _ _ _ (c .before .before .before .element .ensures ∙ element-early _ _ _ _ (below (c .before .before .before .before .before))))
 
 loop-holds : tie.Need-loop-holds Inv-loop μ-loop
 loop-holds c = (judged-none _ _, omega arith)
@@ -52,8 +56,8 @@ loop-holds c = (judged-none _ _, omega arith)
 rule-of-requires : tie.Need-rule-of-requires Inv-loop μ-loop
 rule-of-requires c κs = search needs
 
-early-element-requires : tie.Need-early-element-requires Inv-loop μ-loop
-early-element-requires c κs = search needs
+element-requires : tie.Need-element-requires Inv-loop μ-loop
+element-requires c κs = search needs
 
 is-complete-requires : tie.Need-is-complete-requires Inv-loop μ-loop
 is-complete-requires c κs = search needs
@@ -97,7 +101,7 @@ elements-verdict-spec =
     μ-loop
     loop-holds
     rule-of-requires
-    early-element-requires
+    element-requires
     is-complete-requires
     returns
     is-suited-requires

@@ -22,16 +22,16 @@ returns : tie.Need-returns
 unfolding tagNumber
 returns c = sym (few-but-NCA (c .before .before .args .tag) (at (c .before .before) 5) (c .if1 .taken))
 
-early-element-requires : tie.Need-early-element-requires
-early-element-requires c κs = search needs
+element-requires : tie.Need-element-requires
+element-requires c κs = search needs
 
 few-units-requires : tie.Need-few-units-requires
 few-units-requires c κs = search needs
 
 returns-2 : tie.Need-returns-2
 unfolding tagNumber
-returns-2 c = c .few-units .ensures ∙ ap (λ (p : Piece). leb (length p) 15) (element-at _ _ _ _ 5 _ (c .before .early-element .ensures))
+returns-2 c = c .few-units .ensures ∙ ap (λ (p : Piece). leb (length p) 15) (element-at _ _ _ _ 5 _ (c .before .element .ensures))
     ∙ few-fifth (c .before .before .before .before .args .tag) (at (c .before .before .before .before) 5) (c .before .before .if1 .left)
 
 pub is-few-spec : {M : Type 1} → statement M
-is-few-spec = tie.close (tie.spec returns early-element-requires few-units-requires returns-2)
+is-few-spec = tie.close (tie.spec returns element-requires few-units-requires returns-2)
