@@ -32,12 +32,13 @@ module _ {known : Known} {ls : List Level} (k : Knows known ls) where
   }
 
   -- an HL01 is taken for new exactly if no level has it
-  pub knows-new : (id : Bytes) → takenForNew known id ls ≡ eqb (called id ls) 0
-  knows-new id = by-value (ltb (known .greatest) (keyOf id)) refl
+  pub knows-new : (id : Bytes) → takenForNew known (knownAfter known id) id ls ≡ eqb (called id ls) 0
+  knows-new id = by-value (ltb (known .greatest) (knownAfter known id .greatest)) refl
     where
-      by-value : (b : Bool) → ltb (known .greatest) (keyOf id) ≡ b → b || eqb (called id ls) 0 ≡ eqb (called id ls) 0
+      by-value : (b : Bool) → ltb (known .greatest) (knownAfter known id .greatest) ≡ b → b || eqb (called id ls) 0 ≡ eqb (called id ls) 0
       by-value true e =
-          sym (eq-eqb (called id ls) 0 (above-all (known .greatest) id ls (k .bounded) (ltb-true (known .greatest) (keyOf id) e)))
+          let above : known .greatest < keyOf id = omega (arith, ltb-true (known .greatest) (knownAfter known id .greatest) e) in
+          sym (eq-eqb (called id ls) 0 (above-all (known .greatest) id ls (k .bounded) above))
       by-value false e = refl
 
   -- the number that is found is that of the level that has it
@@ -62,19 +63,20 @@ module _ (s : Bytes) (separator : ℕ) (segments levels : List ℕ) (known : Kno
   ls = tableLevels s separator segments levels (known .levels)
 
   -- what is always so is right where the reader knows
-  new-by : (r : Bool) → r ≡ takenForNew known id ls → IsNew s separator segments levels known id r
-  new-by r e = record { right = λ k. e ∙ knows-new k id; always = e }
+  new-by : (after : Known) (r : Bool) → r ≡ takenForNew known after id ls → IsNew s separator segments levels known after id r
+  new-by after r e = record { right = λ k is. e ∙ ap (λ (a : Known). takenForNew known a id ls) is ∙ knows-new k id; always = e }
 
   found-by : (r : ℕ) → r ≡ foundFor id ls → Finds s separator segments levels known id r
   found-by r e = record { right = λ k. e ∙ knows-find k id; always = e }
 
   -- a key above all others
-  pub new-above : (key : ℕ) → key ≡ keyOf id → known .greatest < key → IsNew s separator segments levels known id true
-  new-above key e h = new-by true (rw (lt-ltb (known .greatest) (keyOf id) (rw e at h)))
+  pub new-above : (after : Known) → known .greatest < after .greatest → IsNew s separator segments levels known after id true
+  new-above after h = new-by after true (rw (lt-ltb (known .greatest) (after .greatest) h))
 
   -- another key: the search decides
-  pub new-searched : (key n : ℕ) → key ≡ keyOf id → key ≤ known .greatest → n ≡ called id ls → IsNew s separator segments levels known id (eqb n 0)
-  new-searched key n e h f = new-by (eqb n 0) (rw (le-ltb (known .greatest) (keyOf id) (rw e at h), f))
+  pub new-searched : (after : Known) (n : ℕ) → after .greatest ≤ known .greatest → n ≡ called id ls
+      → IsNew s separator segments levels known after id (eqb n 0)
+  new-searched after n h f = new-by after (eqb n 0) (rw (le-ltb (known .greatest) (after .greatest) h, f))
 
   -- a level that is found near
   pub found-near : (n : ℕ) → n ≡ near id ls → (n ≡ 0 → ⊥) → Finds s separator segments levels known id n

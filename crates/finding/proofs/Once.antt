@@ -11,7 +11,7 @@ use Rattle.finding.specs.declared.known.Known.{Known}
 
 module _ {s : Bytes} {separator : ℕ} {segments levels : List ℕ} {known : Known} {id : Bytes} where
   -- whether no level has an HL01
-  pub is-new-once : {x y : Bool} → IsNew s separator segments levels known id x → IsNew s separator segments levels known id y → x ≡ y
+  pub is-new-once : {after : Known} {x y : Bool} → IsNew s separator segments levels known after id x → IsNew s separator segments levels known after id y → x ≡ y
   is-new-once p q = equation-once (p .always) (q .always)
 
   -- the number of the level that has it

@@ -42,18 +42,19 @@ fn greater(a: usize, b: usize) -> usize
     if a < b { b } else { a }
 }
 
-// Whether no level has the HL01.
+// Whether no level has the HL01, where `after` is what is known with one level more that has it.
 pub fn is_new(
     s: &[u8],
     separator: u8,
     segments: &[u64],
     levels: &[u64],
     known: Known,
+    after: Known,
     id: &[u8],
 ) -> bool
-    ensures { λ r. ⌜ IsNew (now (s .entry)) separator (now (segments .entry)) (now (levels .entry)) known (now (id .entry)) r ⌝ }
+    ensures { λ r. ⌜ IsNew (now (s .entry)) separator (now (segments .entry)) (now (levels .entry)) known after (now (id .entry)) r ⌝ }
 {
-    if known.greatest < keys::id_key(id) {
+    if known.greatest < after.greatest {
         return true;
     }
     search::find_level(s, separator, segments, levels, known.levels, id) == 0

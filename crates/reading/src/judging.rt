@@ -6,7 +6,6 @@ ghost use Rattle.rows.specs.NextTable.{NextTable};
 ghost use Rattle.elements.specs.Checks.{firstBroken};
 ghost use Rattle.elements.specs.internal.Layouts.{elementIn};
 ghost use Rattle.elements.specs.Rules.{endChecks};
-ghost use Rattle.finding.specs.internal.Knows.{knownAfter};
 ghost use Rattle.reading.specs.internal.Cutting.{segmentOf};
 ghost use Rattle.reading.specs.internal.Judgements.{openingControl, closingIn, Inside, brokenBy, byLevel, JudgesLate, KnownTag, JudgesNext};
 use crate::placing;
@@ -70,9 +69,9 @@ fn tag_of(s: &[u8], starts: &[usize; 33], layout: Layout) -> u8
     tags::tag_number(layout::element(s, starts, layout, 0))
 }
 
-// The judgement on an HL with that row and HL01, by what the rules of levels say.
-fn by_level(row: u8, known: Known, id: &[u8], judged: Judged) -> Judgement
-    ensures { λ r. ⌜ r ≡ byLevel row (knownAfter known (now (id .entry))) judged ⌝ }
+// The judgement on an HL with that row, by what the rules of levels say; `known` is what is known with its level.
+fn by_level(row: u8, known: Known, judged: Judged) -> Judgement
+    ensures { λ r. ⌜ r ≡ byLevel row known judged ⌝ }
 {
     match judged {
         Judged::Entitled(parent, depth, code) => Judgement::Level {
@@ -82,7 +81,7 @@ fn by_level(row: u8, known: Known, id: &[u8], judged: Judged) -> Judgement
                 depth,
                 code,
             },
-            known: known.after(id),
+            known,
         },
         Judged::Refused(number, element) => Judgement::Broken(number, element),
     }
@@ -162,8 +161,18 @@ fn judge_late(
     let separator = how.separators.element;
     if tag == tags::HL {
         let known = state.known;
-        let judged = placing::judge_level(s, separator, starts, layout, known, segments, levels);
-        return by_level(row, known, layout::element(s, starts, layout, 1), judged);
+        let after = known.after(layout::element(s, starts, layout, 1));
+        let judged = placing::judge_level(
+            s,
+            separator,
+            starts,
+            layout,
+            known,
+            after,
+            segments,
+            levels,
+        );
+        return by_level(row, after, judged);
     }
     if tag == tags::SE {
         return match judge_se(s, separator, starts, layout, segments, levels, state) {

@@ -10,20 +10,21 @@ use finding::parents;
 use levels::judging;
 use levels::judging::Judged;
 
-// What the rules of levels say of the HL.
+// What the rules of levels say of the HL, where `after` is what is known with its level.
 pub(crate) fn judge_level(
     s: &[u8],
     separator: u8,
     starts: &[usize; 33],
     layout: Layout,
     known: Known,
+    after: Known,
     segments: &[u64],
     levels: &[u64],
 ) -> Judged
-    ensures { λ r. ⌜ JudgesLevel nonconformance (now (s .entry)) separator (now (starts .entry)) layout known (now (segments .entry)) (now (levels .entry)) r ⌝ }
+    ensures { λ r. ⌜ JudgesLevel nonconformance (now (s .entry)) separator (now (starts .entry)) layout known after (now (segments .entry)) (now (levels .entry)) r ⌝ }
 {
     let id = layout::element(s, starts, layout, 1);
-    if !known::is_new(s, separator, segments, levels, known, id) {
+    if !known::is_new(s, separator, segments, levels, known, after, id) {
         return Judged::Refused(12, 1);
     }
     let parent = layout::element(s, starts, layout, 2);

@@ -36,19 +36,19 @@ mostLevels = 9000000000000000000
 abbrev pub knownAfter : Known → Bytes → Known
 knownAfter known id = record { levels = suc (min (known .levels) mostLevels); greatest = max (known .greatest) (keyOf id) }
 
--- whether an HL01 is taken for new: its key is above all others, or no level has it
-abbrev pub takenForNew : Known → Bytes → List Level → Bool
-takenForNew known id ls = ltb (known .greatest) (keyOf id) || eqb (called id ls) 0
+-- whether an HL01 is taken for new: its key is above all others, so that the greatest grows with it, or no level has it
+abbrev pub takenForNew : (known after : Known) → Bytes → List Level → Bool
+takenForNew known after id ls = ltb (known .greatest) (after .greatest) || eqb (called id ls) 0
 
 -- the number that is found for an HL01: that of a level near, else of the latest level that has it
 abbrev pub foundFor : Bytes → List Level → ℕ
 foundFor id ls = cond (eqb (near id ls) 0) (called id ls) (near id ls)
 
--- whether no level of the tables has the HL01
-pub record IsNew (s : Bytes) (separator : ℕ) (segments levels : List ℕ) (known : Known) (id : Bytes) (r : Bool) : Type 0 where
-  pub right : Knows known (tableLevels s separator segments levels (known .levels))
+-- whether no level of the tables has the HL01, where `after` is what is known with it
+pub record IsNew (s : Bytes) (separator : ℕ) (segments levels : List ℕ) (known after : Known) (id : Bytes) (r : Bool) : Type 0 where
+  pub right : Knows known (tableLevels s separator segments levels (known .levels)) → after ≡ knownAfter known id
       → r ≡ eqb (called id (tableLevels s separator segments levels (known .levels))) 0
-  pub always : r ≡ takenForNew known id (tableLevels s separator segments levels (known .levels))
+  pub always : r ≡ takenForNew known after id (tableLevels s separator segments levels (known .levels))
 
 -- the number of the level of the tables that has the HL01; 0 where none has
 pub record Finds (s : Bytes) (separator : ℕ) (segments levels : List ℕ) (known : Known) (id : Bytes) (r : ℕ) : Type 0 where

@@ -81,10 +81,10 @@ abbrev pub byClosing : ℕ → Verdict → Judgement
 byClosing row Holds = Last row
 byClosing row (Faulty number element) = Broken number element
 
--- what the rules of levels say of an HL, where what is known of the levels that the tables tell of is right
-abbrev pub JudgesLevel : LevelProfile → Bytes → ℕ → List ℕ → Layout → Known → (segments levels : List ℕ) → Judged → Type 0
-JudgesLevel profile s separator starts layout known segments levels r =
-    Knows known (tableLevels s separator segments levels (known .levels))
+-- what the rules of levels say of an HL, where what is known of the levels that the tables tell of is right, and `after` is that with its level
+abbrev pub JudgesLevel : LevelProfile → Bytes → ℕ → List ℕ → Layout → (known after : Known) → (segments levels : List ℕ) → Judged → Type 0
+JudgesLevel profile s separator starts layout known after segments levels r =
+    Knows known (tableLevels s separator segments levels (known .levels)) → after ≡ knownAfter known (elementIn s starts layout 1)
     → r ≡ judged profile (tableLevels s separator segments levels (known .levels)) (claimIn s starts layout)
 
 -- what the late rules say of a segment of that tag and row

@@ -18,22 +18,27 @@ se-number : 33 ≡ tag "SE"
 unfolding tagNumber
 se-number = refl
 
-judge-level-requires : tie.Need-judge-level-requires
-judge-level-requires c κs = search needs
-
 element-requires : tie.Need-element-requires
 element-requires c κs = search needs
+
+after-requires : tie.Need-after-requires
+after-requires c κs = search needs
+
+judge-level-requires : tie.Need-judge-level-requires
+judge-level-requires c κs = search needs
 
 by-level-requires : tie.Need-by-level-requires
 by-level-requires c κs = search needs
 
 returns : tie.Need-returns
 returns c = λ k.
-    let judged = c .before .before in
-    let its = judged .before .before in
+    let judged = c .before in
+    let known = judged .before in
+    let its = known .before .before .before in
     let a = its .before .before .before .before .args in
+    let after : known .after .result ≡ knownAfter (a .state .known) _ = known .after .ensures ∙ ap (knownAfter (a .state .known)) (known .before .element .ensures) in
     rw (eq-eqb (a .tag) (tag "HL") (its .if1 .taken ∙ hl-number))
-    (c .by-level .ensures ∙ (λ i. byLevel (a .row) (knownAfter (a .state .known) (c .before .element .ensures i)) (judged .judge-level .ensures k i)))
+    (c .by-level .ensures ∙ (λ i. byLevel (a .row) (after i) (judged .judge-level .ensures k after i)))
 
 judge-se-requires : tie.Need-judge-se-requires
 judge-se-requires c κs = search needs
@@ -72,8 +77,9 @@ pub judge-late-spec : {M : Type 1} → statement M
 judge-late-spec =
     tie.close
     (tie.spec
-    judge-level-requires
     element-requires
+    after-requires
+    judge-level-requires
     by-level-requires
     returns
     judge-se-requires

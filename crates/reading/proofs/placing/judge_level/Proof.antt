@@ -8,7 +8,7 @@ use borrow.Author.Tests.{not-true, not-false}
 use Rattle.levels.specs.Levels.{Claim, Level, called}
 use Rattle.reading.specs.internal.Judgements.{claimIn}
 use Rattle.reading.proofs.reader.Placings.{placed-used, placed-root, placed-nowhere, placed-under}
-use Rattle.finding.specs.internal.Knows.{Knows}
+use Rattle.finding.specs.internal.Knows.{Knows, knownAfter}
 use Rattle.finding.specs.internal.TableLevels.{tableLevels}
 use Rattle.finding.proofs.TableLevels.{called-level}
 use borrow.Author.Needs.{needs}
@@ -29,8 +29,9 @@ claim c = claimIn (c .args .s .now) (c .args .starts .now) (c .args .layout)
 
 -- what the test of its HL01 says, and the search for its HL02
 tests : (c : tie.After-is-new) → Knows (start (c .before) .args .known) (before-it (start (c .before)))
+    → start (c .before) .args .after ≡ knownAfter (start (c .before) .args .known) (claim (start (c .before)) .id)
     → c .is-new .result ≡ eqb (called (claim (start (c .before)) .id) (before-it (start (c .before)))) 0
-tests c k = rw (c .before .element .ensures) at (c .is-new .ensures .right k)
+tests c k is = rw (c .before .element .ensures) at (c .is-new .ensures .right k (is ∙ ap (knownAfter _) (sym (c .before .element .ensures))))
 
 abbrev found-start : tie.After-find → tie.Start
 found-start c = start (c .before .before .before .before .before .before .before)
@@ -46,10 +47,10 @@ is-new-requires : tie.Need-is-new-requires
 is-new-requires c κs = search needs
 
 returns : tie.Need-returns
-returns c = λ k.
+returns c = λ k is.
     let tested = c .before in
     let at = start (tested .before) in
-    placed-used (before-it at) (claim at) (tested .is-new .result) (tests tested k) (not-true (tested .is-new .result) (c .if1 .taken))
+    placed-used (before-it at) (claim at) (tested .is-new .result) (tests tested k is) (not-true (tested .is-new .result) (c .if1 .taken))
 
 element-requires-2 : tie.Need-element-requires-2
 element-requires-2 c κs = search needs
@@ -64,14 +65,14 @@ judge-root-requires : tie.Need-judge-root-requires
 judge-root-requires c κs = search needs
 
 returns-2 : tie.Need-returns-2
-returns-2 c = λ k.
+returns-2 c = λ k is.
     let mark = c .before .before in
     let code = mark .before in
     let parent = code .before in
     let new = parent .before in
     let tested = new .before in
     let at = start (tested .before) in
-    placed-root (before-it at) (claim at) (tested .is-new .result) (tests tested k) (not-false (tested .is-new .result) (new .if1 .left))
+    placed-root (before-it at) (claim at) (tested .is-new .result) (tests tested k is) (not-false (tested .is-new .result) (new .if1 .left))
     (ap length (sym (parent .element2 .ensures)) ∙ c .before .if2 .taken) _
     (rw (code .element3 .ensures, mark .element4 .ensures) at (c .judge-root .ensures))
 
@@ -79,14 +80,14 @@ find-requires : tie.Need-find-requires
 find-requires c κs = search needs
 
 returns-3 : tie.Need-returns-3
-returns-3 c = λ k.
+returns-3 c = λ k is.
     let found = c .before in
     let child = found .before in
     let parent = child .before .before .before in
     let new = parent .before in
     let tested = new .before in
     let at = start (tested .before) in
-    placed-nowhere (before-it at) (claim at) (tested .is-new .result) (tests tested k) (not-false (tested .is-new .result) (new .if1 .left))
+    placed-nowhere (before-it at) (claim at) (tested .is-new .result) (tests tested k is) (not-false (tested .is-new .result) (new .if1 .left))
     (λ z. child .if2 .left (ap length (parent .element2 .ensures) ∙ z)) _ (finds found k) (c .if3 .taken)
 
 parent-at-requires : tie.Need-parent-at-requires
@@ -96,7 +97,7 @@ judge-child-requires : tie.Need-judge-child-requires
 judge-child-requires c κs = search needs
 
 returns-4 : tie.Need-returns-4
-returns-4 c = λ k.
+returns-4 c = λ k is.
     let named = c .before .before in
     let found = named .before in
     let child = found .before in
@@ -108,7 +109,7 @@ returns-4 c = λ k.
     let at = start (tested .before) in
     let a = at .args in
     let above = found .find .result in
-    placed-under (before-it at) (claim at) (tested .is-new .result) (tests tested k) (not-false (tested .is-new .result) (new .if1 .left))
+    placed-under (before-it at) (claim at) (tested .is-new .result) (tests tested k is) (not-false (tested .is-new .result) (new .if1 .left))
     (λ z. child .if2 .left (ap length (parent .element2 .ensures) ∙ z)) above (finds found k) (named .if3 .left) _
     (called-level (a .s .now) (a .separator) (a .segments .now) (a .levels .now) (a .known .levels) (claim at .parent) above (finds found k) (named .if3 .left)) _
     (rw (c .before .parent-at .ensures, code .element3 .ensures, mark .element4 .ensures) at (c .judge-child .ensures))
