@@ -31,13 +31,13 @@ outcome-some Nowhere false accepted new output = (Refused 19 0 0 0, output, (ref
 outcome-some Nowhere true accepted new output = (accepted, new ++ drop (length new) output, (refl, refl))
 
 module _ (old new : Separators) (s : Bytes) (before : Tables) (output : Bytes) where
-  following-some : (answer : Answer) (tables : Tables) → Reads (strictly old) s before answer tables
+  reading-some : (answer : Answer) (tables : Tables) → Reads (strictly old) s before answer tables
       → (r : Answer) × (after : Bytes) × AfterReading old new s answer output r after
-  following-some (Accepted a l b) tables x =
+  reading-some (Accepted a l b) tables x =
       let m = accepted-numbered (strictly old) s before a l b tables x in
       let o = outcome-some (collision old new 1 (m .gs)) (leb b (length output)) (Accepted a l b) (rewritten old new (m .gs)) output in
       (o .0, o .1, record { gs = m .gs; rows = m .rows; numbering = m .numbering; outcome = o .2 })
-  following-some (Refused n k b e) tables x = (Refused n k b e, output, (refl, refl))
+  reading-some (Refused n k b e) tables x = (Refused n k b e, output, (refl, refl))
 
   -- every input, both sets of separators, every tables and every output have an answer that the promise allows
   pub rewriting-answered : (r : Answer) × (tables : Tables) × (after : Bytes) × Rewrites old new s before output r tables after
@@ -50,7 +50,7 @@ module _ (old new : Separators) (s : Bytes) (before : Tables) (output : Bytes) w
       fit true false = (Refused 1 0 0 1, before, output, record { answer = refl; tables-kept = refl; output-kept = refl })
       fit true true =
           let a = answered (strictly old) s before in
-          let f = following-some (a .0) (a .1) (a .2) in
+          let f = reading-some (a .0) (a .1) (a .2) in
           (f .0, a .1, f .1, record { answer = a .0; reads = a .2; follows = f .2 })
 
 -- an answer of reading's list is one of rewriting's
@@ -67,10 +67,10 @@ outcome-listed Nowhere false accepted new output r after l x = rw (refusal-of r 
 outcome-listed Nowhere true accepted new output r after l x = rw (x .0) l
 
 module _ (old new : Separators) (s : Bytes) (before : Tables) (output : Bytes) (r : Answer) (tables : Tables) (after : Bytes) where
-  following-listed : (answer : Answer) → Listed answer → AfterReading old new s answer output r after → Listed r
-  following-listed (Accepted a l b) h x =
+  reading-listed : (answer : Answer) → Listed answer → AfterReading old new s answer output r after → Listed r
+  reading-listed (Accepted a l b) h x =
       outcome-listed (collision old new 1 (x .gs)) (leb b (length output)) (Accepted a l b) (rewritten old new (x .gs)) output r after h (x .outcome)
-  following-listed (Refused n k b e) h x = rw (x .0) h
+  reading-listed (Refused n k b e) h x = rw (x .0) h
 
   -- every answer is one of the list
   pub rewriting-listed : Rewrites old new s before output r tables after → Listed r
@@ -83,4 +83,4 @@ module _ (old new : Separators) (s : Bytes) (before : Tables) (output : Bytes) (
       fit : (old-fit new-fit : Bool) → RewritesFit old-fit new-fit old new s before output r tables after → Listed r
       fit false new-fit x = unfit 0 x
       fit true false x = unfit 1 x
-      fit true true x = following-listed (x .answer) (wider (x .answer) (listed (strictly old) s before (x .answer) tables (x .reads))) (x .follows)
+      fit true true x = reading-listed (x .answer) (wider (x .answer) (listed (strictly old) s before (x .answer) tables (x .reads))) (x .follows)

@@ -32,15 +32,15 @@ outcome-once Nowhere true accepted new output r r′ after after′ x y = (x .0 
 
 module _ (old new : Separators) (s : Bytes) (before : Tables) (output : Bytes) where
   -- an accepted reading has one numbering, and the rest follows from its segments
-  following-once : (answer : Answer) (r r′ : Answer) (after after′ : Bytes) → AfterReading old new s answer output r after
+  reading-once : (answer : Answer) (r r′ : Answer) (after after′ : Bytes) → AfterReading old new s answer output r after
       → AfterReading old new s answer output r′ after′ → (r ≡ r′) × (after ≡ after′)
-  following-once (Accepted a l b) r r′ after after′ x y =
+  reading-once (Accepted a l b) r r′ after after′ x y =
       let gs = numbering-once (strictly old) s (x .gs) (y .gs) (x .rows) (y .rows) (x .numbering) (y .numbering) .0 in
       outcome-once (collision old new 1 (y .gs)) (leb b (length output)) (Accepted a l b) (rewritten old new (y .gs)) output r r′ after after′
       (subst (λ (gs : List Placed). OutcomeOf old new gs (Accepted a l b) b output r after) gs
       (x .outcome))
       (y .outcome)
-  following-once (Refused n k b e) r r′ after after′ x y = (x .0 ∙ sym (y .0), x .1 ∙ sym (y .1))
+  reading-once (Refused n k b e) r r′ after after′ x y = (x .0 ∙ sym (y .0), x .1 ∙ sym (y .1))
 
   -- the answer, the tables and the output of a rewriting are one
   pub rewrites-once : (r r′ : Answer) (tables tables′ : Tables) (after after′ : Bytes) → Rewrites old new s before output r tables after
@@ -56,7 +56,7 @@ module _ (old new : Separators) (s : Bytes) (before : Tables) (output : Bytes) w
       read x y =
           let first = reads-once nonconformance (strictly old) s before (x .answer) (y .answer) tables tables′ (x .reads) (y .reads) in
           let then =
-          following-once (y .answer) r r′ after after′ (subst (λ (a : Answer). AfterReading old new s a output r after) (first .0) (x .follows))
+          reading-once (y .answer) r r′ after after′ (subst (λ (a : Answer). AfterReading old new s a output r after) (first .0) (x .follows))
           (y .follows) in
           (then .0, first .1, then .1)
 

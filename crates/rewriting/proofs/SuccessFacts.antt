@@ -57,10 +57,10 @@ outcome-written Nowhere true accepted new output a l b after x = record { none =
 
 module _ (old new : Separators) (s : Bytes) (before : Tables) (output : Bytes) (a l b : ℕ) (tables : Tables) (after : Bytes) where
   -- and the reading's refusals
-  following-success : T (fitSeparators old) → T (fitSeparators new) → (answer : Answer) → Reads (strictly old) s before answer tables
+  reading-success : T (fitSeparators old) → T (fitSeparators new) → (answer : Answer) → Reads (strictly old) s before answer tables
       → AfterReading old new s answer output (Accepted a l b) after → Success old new s before output a l b tables after
-  following-success old-fit new-fit (Refused n k y e) reads x = absurd (accepted-refused (x .0))
-  following-success old-fit new-fit (Accepted a′ l′ b′) reads x =
+  reading-success old-fit new-fit (Refused n k y e) reads x = absurd (accepted-refused (x .0))
+  reading-success old-fit new-fit (Accepted a′ l′ b′) reads x =
       let w =
       outcome-written (collision old new 1 (x .gs)) (leb b′ (length output)) (Accepted a′ l′ b′) (rewritten old new (x .gs)) output a l b after (x .outcome) in
       let bytes : b ≡ b′ = ap bytesOf (w .same) in
@@ -84,4 +84,4 @@ module _ (old new : Separators) (s : Bytes) (before : Tables) (output : Bytes) (
           → RewritesFit old-fit new-fit old new s before output (Accepted a l b) tables after → Success old new s before output a l b tables after
       fit false new-fit p q x = absurd (omega (arith, head-eq-of-cons-eq (x .answer)))
       fit true false p q x = absurd (omega (arith, head-eq-of-cons-eq (x .answer)))
-      fit true true p q x = following-success (rw p tt) (rw q tt) (x .answer) (x .reads) (x .follows)
+      fit true true p q x = reading-success (rw p tt) (rw q tt) (x .answer) (x .reads) (x .follows)
