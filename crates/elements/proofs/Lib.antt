@@ -8,4 +8,3 @@ pub mod ComponentPass
 pub mod EveryTag
 pub mod RuleTable
 pub mod ElementPass
-pub mod EarlyRules

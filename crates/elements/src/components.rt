@@ -2,11 +2,10 @@
 ghost use mathlib.Core.Path.{_≡_};
 ghost use mathlib.Core.Bool.{not};
 ghost use Prim.Native.Nat.{ℕ, _≤_, _<_};
-ghost use lib.Dec.{eqb, leb};
+ghost use lib.Dec.{eqb};
 ghost use lib.ListN.{length};
 ghost use Rattle.text.specs.Bytes.{every};
 ghost use Rattle.text.specs.Pieces.{pieces};
-ghost use Rattle.types.specs.Types.{countOf};
 ghost use Rattle.elements.specs.Data.{value, unitValues};
 ghost use Rattle.elements.specs.Rules.{completeBy, fitsSimple, fitsEach, suitsBy};
 ghost use Rattle.elements.specs.internal.Layouts.{componentsBy};
@@ -28,21 +27,6 @@ fn is_free(p: &[u8], separator: u8) -> bool
         i += 1;
     }
     true
-}
-
-// How many bytes of the part are the separator.
-fn separator_count(p: &[u8], separator: u8) -> usize
-    ensures { λ r. ⌜ r ≡ countOf (λ (b : ℕ). eqb b separator) (now (p .entry)) ⌝ }
-{
-    let mut n: usize = 0;
-    let mut i = 0;
-    while i < p.len() {
-        if p[i] == separator {
-            n += 1;
-        }
-        i += 1;
-    }
-    n
 }
 
 // Where the component that starts at `from` ends.
@@ -95,16 +79,6 @@ fn fits_units(p: &[u8], separator: u8) -> bool
         j += 1;
     }
     false
-}
-
-// Whether the units have no more than fifteen components.
-pub(crate) fn few_units(single: bool, separator: u8, p: &[u8]) -> bool
-    ensures { λ r. ⌜ r ≡ leb (length (componentsBy single separator (now (p .entry)))) 15 ⌝ }
-{
-    if single {
-        return true;
-    }
-    separator_count(p, separator) <= 14
 }
 
 // Whether nothing mandatory is missing of an element with that rule.

@@ -1,6 +1,6 @@
 // What makes a segment right by itself.
 mod components;
-pub mod early;
+pub mod fitting;
 pub mod layout;
 mod rules;
 pub mod segment;

@@ -1,4 +1,6 @@
 pub mod Pairings
+pub mod TooMany
+pub mod EarlyRules
 pub mod RuleOrder
 pub mod UsualSegments
 pub mod UpTo31

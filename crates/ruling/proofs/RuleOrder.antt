@@ -12,14 +12,15 @@ use Rattle.elements.specs.Checks.{Check, check, each, firstBroken}
 use Rattle.elements.specs.Data.{Note, Rules, nonconformance}
 use Rattle.elements.specs.Rules.{tooManyChecks, missingChecks, unfitChecks, noteChecks, checksBy, ruledChecks, fewBy, presentAt}
 use Rattle.elements.specs.internal.Layouts.{layoutView, thereIn, componentsIn}
-use Rattle.elements.specs.internal.Verdicts.{rulesOf, lastMust, completeAt, suitsAt, elementsVerdict, earlyVerdict}
+use Rattle.elements.specs.internal.Verdicts.{rulesOf, completeAt, suitsAt, elementsVerdict}
+use Rattle.ruling.specs.internal.Early.{earlyVerdict}
 use Rattle.elements.specs.declared.verdict.Verdict.{Verdict}
 use Rattle.elements.specs.declared.verdict.Verdict.the-variants.{Holds, Broken}
 use Rattle.elements.specs.declared.layout.Layout.{Layout}
 use Rattle.elements.proofs.FirstBroken.{andThen, broken-append, then-assoc}
 use Rattle.elements.proofs.ByLayout.{element-past, view-count, view-at, at-present}
 use Rattle.elements.proofs.EveryTag.{ruled-by, ruled-none}
-use Rattle.elements.proofs.EarlyRules.{early-is}
+use Rattle.ruling.proofs.EarlyRules.{early-is}
 
 module _ (s : Bytes) (starts : List ℕ) (layout : Layout) where
   abbrev there : ℕ → Bool

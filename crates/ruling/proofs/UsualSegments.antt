@@ -21,15 +21,16 @@ use Rattle.elements.specs.Data.{Shape, Simple, Composite, firstUnit, units}
 use Rattle.elements.specs.Checks.{each, firstBroken}
 use Rattle.elements.specs.Rules.{ruleOf, fewComponents}
 use Rattle.elements.specs.internal.Layouts.{elementIn, componentsIn}
-use Rattle.elements.specs.internal.Verdicts.{rulesOf, lastMust, manyVerdict, completeAt, suitsAt, elementsVerdict, earlyVerdict}
+use Rattle.elements.specs.internal.Verdicts.{rulesOf, lastMust, completeAt, suitsAt, elementsVerdict}
+use Rattle.ruling.specs.internal.Early.{manyVerdict, earlyVerdict}
 use Rattle.ruling.specs.internal.Usual.{simple, Suits, SuitsAt, FromOne, Suiting}
 use Rattle.elements.specs.declared.layout.Layout.{Layout}
 use Rattle.elements.specs.declared.verdict.Verdict.{Verdict}
 use Rattle.elements.specs.declared.verdict.Verdict.the-variants.{Holds}
 use Rattle.elements.proofs.FirstBroken.{andThen, broken-append, each-holds}
 use Rattle.elements.proofs.EveryTag.{few-empty}
-use Rattle.elements.proofs.ElementPass.{few-all}
-use Rattle.elements.proofs.EarlyRules.{early-elements}
+use Rattle.ruling.proofs.TooMany.{few-all}
+use Rattle.ruling.proofs.EarlyRules.{early-elements}
 
 -- what a quick test passes suits its rule; nothing suits a rule that does not ask for it
 asked : (m : Bool) → (not m || true) && true ≡ true

@@ -1,3 +1,4 @@
 -- Contracts among the functions of this crate. No rule is stated with anything here.
 -- Assumes nothing.
+pub mod Early
 pub mod Usual

@@ -2,15 +2,16 @@
 ghost use mathlib.Core.Path.{_≡_};
 ghost use Prim.Native.Nat.{_+_, _<_};
 ghost use mathlib.Core.List.{[], _∷_};
-ghost use lib.Dec.{eqb};
 ghost use lib.ListN.{length};
 ghost use Rattle.elements.specs.Checks.{firstBroken};
 ghost use Rattle.elements.specs.Data.{Paired, Required, pairsFrom, rulesDTM, nonconformance};
-ghost use Rattle.elements.specs.Rules.{noteHolds, noteChecks, ruledChecks};
+ghost use Rattle.elements.specs.Rules.{ruleOf, fewComponents, noteHolds, noteChecks, ruledChecks};
 ghost use Rattle.elements.specs.internal.Layouts.{thereIn, componentsIn, layoutView};
-ghost use Rattle.elements.specs.internal.Verdicts.{rulesOf, earlyVerdict};
+ghost use Rattle.elements.specs.internal.Verdicts.{rulesOf};
+ghost use Rattle.ruling.specs.internal.Early.{manyVerdict, earlyVerdict};
+use crate::units;
 use crate::usual;
-use elements::early;
+use elements::fitting;
 use elements::layout;
 use elements::layout::Layout;
 use elements::verdict::Verdict;
@@ -103,8 +104,54 @@ fn notes_verdict(s: &[u8], starts: &[usize; 33], layout: Layout, tag: u8) -> Ver
     }
 }
 
-// Answers 9, 8 and 10 of a segment with that tag. Of a usual segment all three are silent.
-fn before_notes(s: &[u8], starts: &[usize; 33], layout: Layout, component: u8, tag: u8) -> Verdict
+// Whether element 5 has no more components than its rule allows: NCA05 alone is a composite.
+fn is_few(s: &[u8], starts: &[usize; 33], layout: Layout, component: u8, tag: u8) -> bool
+    ensures { λ r. ⌜
+        r ≡ fewComponents (ruleOf (rulesOf tag) 5 .shape)
+        (componentsIn (now (s .entry)) (now (starts .entry)) layout component 5)
+        ⌝ }
+{
+    if tag != tags::NCA {
+        return true;
+    }
+    units::few_units(
+        layout.single,
+        component,
+        layout::element(s, starts, layout, 5),
+    )
+}
+
+// Answer 9: the first element with too many components, or past the last.
+fn too_many(
+    s: &[u8],
+    starts: &[usize; 33],
+    layout: Layout,
+    component: u8,
+    tag: u8,
+    last: usize,
+) -> Verdict
+    requires { ⌜ last ≡ length (rulesOf tag .elements) ⌝ }
+    ensures { λ r. ⌜ r ≡ manyVerdict (rulesOf tag) (componentsIn (now (s .entry)) (now (starts .entry)) layout component) (layout .count) ⌝ }
+{
+    if !is_few(s, starts, layout, component, tag) {
+        return Verdict::Broken(9, 5);
+    }
+    if last < layout.count {
+        return Verdict::Broken(9, last + 1);
+    }
+    Verdict::Holds
+}
+
+// Answers 9, 8 and 10 of a segment with that tag, whose rules end at element `last`. Of a usual segment all three are silent.
+fn early_verdict(
+    s: &[u8],
+    starts: &[usize; 33],
+    layout: Layout,
+    component: u8,
+    tag: u8,
+    last: usize,
+) -> Verdict
+    requires { ⌜ last ≡ length (rulesOf tag .elements) ⌝ }
     ensures { λ r. ⌜
         r ≡ earlyVerdict (rulesOf tag)
         (componentsIn (now (s .entry)) (now (starts .entry)) layout component) (layout .count)
@@ -113,23 +160,26 @@ fn before_notes(s: &[u8], starts: &[usize; 33], layout: Layout, component: u8, t
     if layout.single & usual::usual(s, starts, layout, tag) {
         return Verdict::Holds;
     }
-    early::early_verdict(s, starts, layout, component, tag)
+    if let Verdict::Broken(n, e) = too_many(s, starts, layout, component, tag, last) {
+        return Verdict::Broken(n, e);
+    }
+    fitting::fitting_verdict(s, starts, layout, component, tag)
 }
 
-// Whether a segment with that tag is plain: it has no rules.
-fn is_plain(tag: u8) -> bool
-    ensures { λ r. ⌜ r ≡ eqb (length (rulesOf tag .elements)) 0 ⌝ }
+// The last element of a segment with that tag that has a rule; a plain segment has none.
+fn last_ruled(tag: u8) -> usize
+    ensures { λ r. ⌜ r ≡ length (rulesOf tag .elements) ⌝ }
 {
     match tag {
-        tags::ST => false,
-        tags::N1 => false,
-        tags::DTM => false,
-        tags::HL => false,
-        tags::LIN => false,
-        tags::NTE => false,
-        tags::NCA => false,
-        tags::SE => false,
-        _ => true,
+        tags::ST => 2,
+        tags::N1 => 6,
+        tags::DTM => 6,
+        tags::HL => 4,
+        tags::LIN => 31,
+        tags::NTE => 2,
+        tags::NCA => 5,
+        tags::SE => 2,
+        _ => 0,
     }
 }
 
@@ -146,10 +196,11 @@ pub fn ruled_verdict(
         (layoutView (now (s .entry)) (now (starts .entry)) layout component))
         ⌝ }
 {
-    if is_plain(tag) {
+    let last = last_ruled(tag);
+    if last == 0 {
         return Verdict::Holds;
     }
-    if let Verdict::Broken(n, e) = before_notes(s, starts, layout, component, tag) {
+    if let Verdict::Broken(n, e) = early_verdict(s, starts, layout, component, tag, last) {
         return Verdict::Broken(n, e);
     }
     notes_verdict(s, starts, layout, tag)

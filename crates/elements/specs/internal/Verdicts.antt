@@ -1,15 +1,14 @@
 -- What the functions that judge a ruled segment find, rule by rule, from the segment's tag and its elements.
 -- Assumes nothing.
-use Prim.Native.Nat.{ℕ, suc, _≤_}
+use Prim.Native.Nat.{ℕ, suc, _≤_, _<_}
 use mathlib.Core.Path.{_≡_}
 use mathlib.Core.Bool.{Bool, true, cond}
 use mathlib.Core.List.{List, [], _∷_, _++_}
 use lib.Dec.{eqb}
-use lib.ListN.{length}
 use Rattle.text.specs.View.{Piece}
 use Rattle.elements.specs.Data.{Simple, Composite, Element, Rules, value, firstUnit, unitValues, nonconformance}
 use Rattle.elements.specs.Checks.{each, firstBroken}
-use Rattle.elements.specs.Rules.{ruleOf, fewBy, completeBy, suitsBy}
+use Rattle.elements.specs.Rules.{ruleOf, completeBy, suitsBy}
 use Rattle.elements.specs.declared.verdict.Verdict.{Verdict}
 use Rattle.elements.specs.declared.rules.Rule.{Rule}
 
@@ -35,10 +34,6 @@ abbrev pub lastMust : List Element → ℕ
 lastMust [] = 0
 lastMust (x ∷ xs) = cond (eqb (lastMust xs) 0) (cond (x .must) 1 0) (suc (lastMust xs))
 
--- 9 of the elements from 1 to `count`
-abbrev pub manyVerdict : Rules → (ℕ → Piece) → ℕ → Verdict
-manyVerdict rules at count = firstBroken (each 9 1 count (λ (k : ℕ). fewBy rules k (at k)))
-
 -- 8 and 10 of the elements from 1 to `upto`
 unfoldable pub completeAt : Rules → (ℕ → Piece) → ℕ → Bool
 completeAt rules at k = completeBy (ruleOf rules k) (at k)
@@ -49,14 +44,8 @@ suitsAt rules at k = suitsBy (ruleOf rules k) (at k)
 abbrev pub elementsVerdict : Rules → (ℕ → Piece) → ℕ → Verdict
 elementsVerdict rules at upto = firstBroken (each 8 1 upto (completeAt rules at) ++ each 10 1 upto (suitsAt rules at))
 
--- 9, 8 and 10 of a segment with `count` elements
-unfoldable pub earlyVerdict : Rules → (ℕ → Piece) → ℕ → Verdict
-earlyVerdict rules at count =
-    firstBroken (each 9 1 count (λ (k : ℕ). fewBy rules k (at k))
-    ++ (each 8 1 (length (rules .elements)) (completeAt rules at) ++ each 10 1 (length (rules .elements)) (suitsAt rules at)))
-
--- r is the greater of the two
-pub record Greater (a b r : ℕ) : Type 0 where
-  pub far : a ≤ r
-  pub enough : b ≤ r
-  pub near : (last : ℕ) → a ≤ last → b ≤ last → r ≤ last
+-- r is the last element to look at: no further than the last with a rule, and as far as the last that is there or has to be
+pub record Reached (count needed last r : ℕ) : Type 0 where
+  pub near : needed ≤ last → r ≤ last
+  pub enough : needed ≤ last → needed ≤ r
+  pub far : r < last → count ≤ r

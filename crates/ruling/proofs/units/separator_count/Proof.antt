@@ -8,8 +8,8 @@ use borrow.Author.Tests.{eq-eqb, ne-eqb}
 use Rattle.types.specs.Types.{countOf}
 use Rattle.types.proofs.Counts.{Counted, counted-none, counted-one, counted-other, counted-all}
 use borrow.Author.Needs.{needs}
-use Rattle.elements.proofs.components.separator_count.Statement.{statement}
-use Rattle.elements.proofs.components.separator_count.Tie as tie
+use Rattle.ruling.proofs.units.separator_count.Statement.{statement}
+use Rattle.ruling.proofs.units.separator_count.Tie as tie
 
 abbrev Inv-loop : tie.InvT-loop
 Inv-loop p separator n₀ i₀ n i = Counted (λ (b : ℕ). eqb b separator) p (countOf (λ (b : ℕ). eqb b separator) p) i n

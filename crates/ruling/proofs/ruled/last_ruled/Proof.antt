@@ -1,12 +1,11 @@
--- `is_plain` meets its contract, tag by tag: how far the rules reach is computed.
+-- `last_ruled` meets its contract, tag by tag: how far the rules reach is computed.
 -- Assumes nothing.
 use mathlib.Core.Path.{sym}
-use borrow.Author.Tests.{eq-eqb}
 use Rattle.rows.specs.Tags.{tagNumber}
 use Rattle.elements.specs.internal.Verdicts.{rulesOf}
 use Rattle.elements.proofs.RuleTable.{plain-none}
-use Rattle.ruling.proofs.ruled.is_plain.Statement.{statement}
-use Rattle.ruling.proofs.ruled.is_plain.Tie as tie
+use Rattle.ruling.proofs.ruled.last_ruled.Statement.{statement}
+use Rattle.ruling.proofs.ruled.last_ruled.Tie as tie
 
 returns : tie.Need-returns
 unfolding rulesOf tagNumber
@@ -42,10 +41,10 @@ returns-8 c = rw (c .match .keys8)
 
 returns-9 : tie.Need-returns-9
 unfolding tagNumber
-returns-9 c = sym (eq-eqb _ 0 (plain-none _ (c .match .rest)))
+returns-9 c = sym (plain-none _ (c .match .rest))
 
-pub is-plain-spec : {M : Type 1} → statement M
-is-plain-spec =
+pub last-ruled-spec : {M : Type 1} → statement M
+last-ruled-spec =
     tie.close
     (tie.spec
     returns

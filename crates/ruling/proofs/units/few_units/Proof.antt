@@ -4,10 +4,10 @@ use Prim.Native.Nat.{ℕ}
 use mathlib.Core.Path.{ap, _∙_}
 use lib.Dec.{leb}
 use denote.Ref.{now}
 use Rattle.elements.proofs.ComponentPass.{few-single, few-pieces}
 use borrow.Author.Needs.{needs}
-use Rattle.elements.proofs.components.few_units.Statement.{statement}
-use Rattle.elements.proofs.components.few_units.Tie as tie
+use Rattle.ruling.proofs.units.few_units.Statement.{statement}
+use Rattle.ruling.proofs.units.few_units.Tie as tie
 
 returns : tie.Need-returns
 returns c = rw (c .if1 .taken) (few-single (c .before .before .args .separator) (now (c .before .before .args .p)))

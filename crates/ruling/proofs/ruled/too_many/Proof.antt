@@ -6,14 +6,14 @@ use mathlib.Core.Bool.{true}
 use denote.Ref.{now}
 use borrow.Author.Tests.{not-true, not-false}
 use Rattle.text.specs.View.{Piece}
 use Rattle.elements.specs.Rules.{ruleOf, fewComponents}
 use Rattle.elements.specs.internal.Layouts.{componentsIn}
 use Rattle.elements.specs.internal.Verdicts.{rulesOf}
-use Rattle.elements.proofs.ElementPass.{too-many-five, too-many-past, few-all}
+use Rattle.ruling.proofs.TooMany.{too-many-five, too-many-past, few-all}
 use Rattle.elements.proofs.ByLayout.{at-past}
 use borrow.Author.Needs.{needs}
-use Rattle.elements.proofs.early.too_many.Statement.{statement}
-use Rattle.elements.proofs.early.too_many.Tie as tie
+use Rattle.ruling.proofs.ruled.too_many.Statement.{statement}
+use Rattle.ruling.proofs.ruled.too_many.Tie as tie
 
 abbrev at : tie.Start → ℕ → Piece
 at c = componentsIn (now (c .args .s)) (now (c .args .starts)) (c .args .layout) (c .args .component)

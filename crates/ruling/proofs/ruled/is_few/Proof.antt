@@ -7,13 +7,13 @@ use lib.ListN.{length}
 use denote.Ref.{now}
 use Rattle.text.specs.View.{Piece}
 use Rattle.rows.specs.Tags.{tagNumber}
 use Rattle.elements.specs.internal.Layouts.{componentsIn}
 use Rattle.elements.proofs.EveryTag.{few-but-NCA}
-use Rattle.elements.proofs.ElementPass.{few-fifth}
+use Rattle.ruling.proofs.TooMany.{few-fifth}
 use Rattle.elements.proofs.ByLayout.{element-at}
 use borrow.Author.Needs.{needs}
-use Rattle.elements.proofs.early.is_few.Statement.{statement}
-use Rattle.elements.proofs.early.is_few.Tie as tie
+use Rattle.ruling.proofs.ruled.is_few.Statement.{statement}
+use Rattle.ruling.proofs.ruled.is_few.Tie as tie
 
 abbrev at : tie.Start → ℕ → Piece
 at c = componentsIn (now (c .args .s)) (now (c .args .starts)) (c .args .layout) (c .args .component)

@@ -6,16 +6,18 @@ use mathlib.Core.List.{List, _++_}
 use lib.ListN.{length}
 use Rattle.text.specs.Bytes.{Bytes}
 use Rattle.text.specs.View.{Piece}
 use Rattle.elements.specs.Checks.{each, firstBroken}
 use Rattle.elements.specs.Rules.{fewBy}
 use Rattle.elements.specs.internal.Layouts.{componentsIn}
-use Rattle.elements.specs.internal.Verdicts.{rulesOf, lastMust, manyVerdict, completeAt, suitsAt, elementsVerdict, earlyVerdict}
+use Rattle.elements.specs.internal.Verdicts.{rulesOf, lastMust, completeAt, suitsAt, elementsVerdict}
+use Rattle.ruling.specs.internal.Early.{manyVerdict, earlyVerdict}
 use Rattle.elements.specs.declared.verdict.Verdict.{Verdict}
 use Rattle.elements.specs.declared.verdict.Verdict.the-variants.{Holds, Broken}
 use Rattle.elements.specs.declared.layout.Layout.{Layout}
 use Rattle.elements.proofs.FirstBroken.{andThen, broken-append, first-holds}
 use Rattle.elements.proofs.ByLayout.{at-past}
-use Rattle.elements.proofs.ElementPass.{elements-upto, few-count}
+use Rattle.elements.proofs.ElementPass.{elements-upto}
+use Rattle.ruling.proofs.TooMany.{few-count}
 
 module _ (s : Bytes) (starts : List ℕ) (layout : Layout) (component tag : ℕ) where
   abbrev at : ℕ → Piece
@@ -36,10 +38,14 @@ module _ (s : Bytes) (starts : List ℕ) (layout : Layout) (component tag : ℕ)
       broken-append (each 9 1 (layout .count) (λ (k : ℕ). fewBy (rulesOf tag) k (at k)))
       (each 8 1 (length (rulesOf tag .elements)) (completeAt (rulesOf tag) at) ++ each 10 1 (length (rulesOf tag .elements)) (suitsAt (rulesOf tag) at))
 
-  -- 9 decides among them, or is silent and leaves it to 8 and 10 of the elements up to one that reaches far enough
+  -- 9 decides among them, or is silent and leaves it to 8 and 10
   pub early-many : (n e : ℕ) → Broken n e ≡ nine → Broken n e ≡ early
   early-many n e q = sym (early-is ∙ ap (λ (v : Verdict). andThen v eightTen) (sym q))
 
+  pub early-rest : Holds ≡ nine → eightTen ≡ early
+  early-rest q = sym (early-is ∙ ap (λ (v : Verdict). andThen v eightTen) (sym q))
+
+  -- of the elements up to one that reaches far enough
   pub early-elements : (upto : ℕ) → Holds ≡ nine → layout .count ≤ upto → lastMust (rulesOf tag .elements) ≤ upto
       → upto ≤ length (rulesOf tag .elements) → elementsVerdict (rulesOf tag) at upto ≡ early
   early-elements upto few far enough near =

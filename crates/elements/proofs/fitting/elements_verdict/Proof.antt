@@ -14,8 +14,8 @@ use Rattle.elements.proofs.ElementPass.{Judged, judged-none, judged-fir
 use Rattle.elements.proofs.ByLayout.{element-early, element-at}
 use native.Mathlib.Omega.{arith}
 use borrow.Author.Needs.{needs}
-use Rattle.elements.proofs.early.elements_verdict.Statement.{statement}
-use Rattle.elements.proofs.early.elements_verdict.Tie as tie
+use Rattle.elements.proofs.fitting.elements_verdict.Statement.{statement}
+use Rattle.elements.proofs.fitting.elements_verdict.Tie as tie
 
 abbrev Inv-loop : tie.InvT-loop
 Inv-loop s starts layout component tag upto unfit₀ k₀ unfit k =
