@@ -1,28 +1,27 @@
 -- The pass over the elements: too many of them, the first that is incomplete, the first that does not suit.
 -- Assumes nothing.
-use Prim.Native.Nat.{ℕ, zero, suc, _+_, _≤_, _<_}
+use Prim.Native.Nat.{ℕ, _+_, _≤_, _<_}
 use mathlib.Core.Path.{_≡_, refl, sym, ap, ap₂, _∙_}
 use mathlib.Core.Logic.{_⊎_, inl, inr, ⊎-elim, by-cases}
 use mathlib.Core.Bool.{Bool, true, false, not, _&&_, true≢false}
 use mathlib.Core.List.{_++_}
 use native.Mathlib.Omega.{arith}
 use native.Mathlib.Decide.{decLt}
-use lib.Dec.{leb, eqb}
+use lib.Dec.{eqb}
 use lib.ListN.{length}
-use borrow.Author.Tests.{eqb-true, eqb-false, eq-eqb, leb-true, le-leb, lt-leb, not-true}
+use borrow.Author.Tests.{eqb-true, eq-eqb, not-true}
 use Rattle.text.specs.View.{Piece, empty}
 use Rattle.rows.specs.Tags.{tag}
 use Rattle.text.proofs.Tests.{and-first, and-second}
 use Rattle.elements.specs.Checks.{each, firstBroken}
-use Rattle.elements.specs.Data.{Shape, Simple, Composite, Element, Rules}
-use Rattle.elements.specs.Rules.{ruleOf, fewComponents, headed, fewBy, completeBy, suitsBy}
+use Rattle.elements.specs.Data.{Shape, Simple, Composite, Rules}
+use Rattle.elements.specs.Rules.{ruleOf, headed, completeBy, suitsBy}
 use Rattle.elements.specs.internal.Verdicts.{elementBy, rulesOf, lastMust, completeAt, suitsAt, elementsVerdict}
 use Rattle.elements.specs.declared.rules.Rule.{Rule}
 use Rattle.elements.specs.declared.verdict.Verdict.{Verdict}
 use Rattle.elements.specs.declared.verdict.Verdict.the-variants.{Holds, Broken}
-use Rattle.elements.proofs.FirstBroken.{andThen, broken-append, each-holds, each-broken, each-upto, holds-each}
-use Rattle.elements.proofs.EveryTag.{few-but-five, few-empty, unneeded}
-use Rattle.elements.proofs.RuleNumbers.{rule-past, rules-NCA}
+use Rattle.elements.proofs.FirstBroken.{andThen, broken-append, each-holds, each-broken, each-upto}
+use Rattle.elements.proofs.EveryTag.{unneeded}
 
 -- two tests of each element, t before u: those below k pass t, and `unfit` is the first of them that fails u, or 0
 pub record Judged (t u : ℕ → Bool) (k unfit : ℕ) : Type 0 where

@@ -6,7 +6,7 @@ use mathlib.Core.List.{List, _++_}
 use lib.ListN.{length}
 use Rattle.text.specs.Bytes.{Bytes}
 use Rattle.text.specs.View.{Piece}
-use Rattle.elements.specs.Checks.{each, firstBroken}
+use Rattle.elements.specs.Checks.{each}
 use Rattle.elements.specs.Rules.{fewBy}
 use Rattle.elements.specs.internal.Layouts.{componentsIn}
 use Rattle.elements.specs.internal.Verdicts.{rulesOf, lastMust, completeAt, suitsAt, elementsVerdict}

@@ -1,14 +1,14 @@
 -- The tests of a ruled segment, put together in their order from what the code finds of the elements.
 -- Assumes nothing.
-use Prim.Native.Nat.{ℕ, _≤_, _<_}
-use mathlib.Core.Path.{_≡_, refl, sym, ap, ap₂, _∙_}
+use Prim.Native.Nat.{ℕ, _<_}
+use mathlib.Core.Path.{_≡_, sym, ap, ap₂, _∙_}
 use mathlib.Core.Bool.{Bool, false, not}
-use mathlib.Core.List.{List, [], _∷_, _++_}
+use mathlib.Core.List.{List, _++_}
 use lib.Dec.{eqb}
 use lib.ListN.{length}
 use Rattle.text.specs.Bytes.{Bytes}
-use Rattle.text.specs.View.{Piece, View, empty, present, elementOf}
-use Rattle.elements.specs.Checks.{Check, check, each, firstBroken}
+use Rattle.text.specs.View.{Piece, View, present, elementOf}
+use Rattle.elements.specs.Checks.{Check, each, firstBroken}
 use Rattle.elements.specs.Data.{Note, Rules, nonconformance}
 use Rattle.elements.specs.Rules.{tooManyChecks, missingChecks, unfitChecks, noteChecks, checksBy, ruledChecks, fewBy, presentAt}
 use Rattle.elements.specs.internal.Layouts.{layoutView, thereIn, componentsIn}

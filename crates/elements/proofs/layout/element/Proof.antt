@@ -3,7 +3,6 @@
 use mathlib.Core.Path.{refl, sym, _∙_}
 use borrow.Author.Tests.{le-ltb}
 use Rattle.elements.proofs.ByLayout.{element-early, element-past, element-inner, element-last}
-use native.Mathlib.Omega.{arith}
 use borrow.Author.Needs.{needs}
 use Rattle.elements.proofs.layout.element.Statement.{statement}
 use Rattle.elements.proofs.layout.element.Tie as tie

@@ -4,7 +4,6 @@ use mathlib.Core.Path.{refl}
 use Rattle.rows.specs.Tags.{tagNumber}
 use Rattle.elements.specs.internal.Table.{ruleTable}
 use Rattle.elements.proofs.RuleTable.{past-table}
-use native.Mathlib.Omega.{arith}
 use borrow.Author.Needs.{needs}
 use Rattle.elements.proofs.rules.entry_at.Statement.{statement}
 use Rattle.elements.proofs.rules.entry_at.Tie as tie

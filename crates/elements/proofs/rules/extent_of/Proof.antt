@@ -5,7 +5,6 @@ use Rattle.rows.specs.Tags.{tagNumber}
 use Rattle.elements.specs.internal.Verdicts.{rulesOf}
 use Rattle.elements.specs.internal.Table.{extentOf}
 use Rattle.elements.proofs.RuleTable.{extent-plain}
-use native.Mathlib.Omega.{arith}
 use borrow.Author.Needs.{needs}
 use Rattle.elements.proofs.rules.extent_of.Statement.{statement}
 use Rattle.elements.proofs.rules.extent_of.Tie as tie

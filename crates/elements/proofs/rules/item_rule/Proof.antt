@@ -1,7 +1,6 @@
 -- `item_rule` meets its contract, number by number, as computed over LIN's elements.
 -- Assumes nothing.
 use Rattle.elements.proofs.RuleTable.{item-none, item-first, item-even, item-odd}
-use native.Mathlib.Omega.{arith}
 use borrow.Author.Needs.{needs}
 use Rattle.elements.proofs.rules.item_rule.Statement.{statement}
 use Rattle.elements.proofs.rules.item_rule.Tie as tie

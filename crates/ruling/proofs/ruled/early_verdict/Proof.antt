@@ -1,13 +1,7 @@
 -- `early_verdict` meets its contract: a usual segment, or 9, then 8 and 10.
 -- Assumes nothing.
-use Prim.Native.Nat.{ℕ}
-use mathlib.Core.Path.{_≡_, sym, _∙_}
-use denote.Ref.{now}
+use mathlib.Core.Path.{sym, _∙_}
 use Rattle.text.proofs.Tests.{and-first, and-second}
-use Rattle.elements.specs.internal.Layouts.{componentsIn}
-use Rattle.elements.specs.internal.Verdicts.{rulesOf}
-use Rattle.elements.specs.declared.verdict.Verdict.the-variants.{Holds}
-use Rattle.ruling.specs.internal.Early.{manyVerdict}
 use Rattle.ruling.proofs.EarlyRules.{early-many, early-rest}
 use Rattle.ruling.proofs.UsualSegments.{usual-silent}
 use borrow.Author.Needs.{needs}

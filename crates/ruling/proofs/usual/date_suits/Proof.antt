@@ -2,7 +2,6 @@
 -- Assumes nothing.
 use Rattle.types.specs.declared.kind.Kind.the-variants.{DT}
 use Rattle.ruling.proofs.UsualSegments.{absent-suits, quick-suits}
-use native.Mathlib.Omega.{arith}
 use borrow.Author.Needs.{needs}
 use Rattle.ruling.proofs.usual.date_suits.Statement.{statement}
 use Rattle.ruling.proofs.usual.date_suits.Tie as tie

@@ -1,7 +1,6 @@
 -- `unit_suits` meets its contract: absent, or by the quick test.
 -- Assumes nothing.
 use Rattle.ruling.proofs.UsualSegments.{no-unit, one-unit}
-use native.Mathlib.Omega.{arith}
 use borrow.Author.Needs.{needs}
 use Rattle.ruling.proofs.usual.unit_suits.Statement.{statement}
 use Rattle.ruling.proofs.usual.unit_suits.Tie as tie

@@ -5,7 +5,6 @@ use mathlib.Core.Bool.{true≢false}
 use Rattle.rows.specs.Tags.{tagNumber}
 use Rattle.elements.specs.internal.Verdicts.{rulesOf}
 use Rattle.ruling.proofs.UsualSegments.{suiting}
-use native.Mathlib.Omega.{arith}
 use borrow.Author.Needs.{needs}
 use Rattle.ruling.proofs.usual.usual.Statement.{statement}
 use Rattle.ruling.proofs.usual.usual.Tie as tie

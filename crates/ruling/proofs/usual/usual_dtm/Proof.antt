@@ -7,7 +7,6 @@ use Rattle.rows.specs.Tags.{tagNumber, tag}
 use Rattle.elements.specs.internal.Verdicts.{rulesOf}
 use Rattle.ruling.specs.internal.Usual.{SuitsAt}
 use Rattle.ruling.proofs.UsualSegments.{one-more}
-use native.Mathlib.Omega.{arith}
 use borrow.Author.Needs.{needs}
 use Rattle.ruling.proofs.usual.usual_dtm.Statement.{statement}
 use Rattle.ruling.proofs.usual.usual_dtm.Tie as tie

@@ -1,13 +1,11 @@
 -- `usual_nte` meets its contract, element by element.
 -- Assumes nothing.
 use Prim.Native.Nat.{ℕ}
-use mathlib.Core.Bool.{_&&_}
 use denote.Ref.{now}
 use Rattle.rows.specs.Tags.{tagNumber, tag}
 use Rattle.elements.specs.internal.Verdicts.{rulesOf}
 use Rattle.ruling.specs.internal.Usual.{SuitsAt}
 use Rattle.ruling.proofs.UsualSegments.{one-more}
-use native.Mathlib.Omega.{arith}
 use borrow.Author.Needs.{needs}
 use Rattle.ruling.proofs.usual.usual_nte.Statement.{statement}
 use Rattle.ruling.proofs.usual.usual_nte.Tie as tie

@@ -3,7 +3,6 @@
 use mathlib.Core.Path.{sym, _∙_}
 use mathlib.Core.Bool.{true, true≢false}
 use Rattle.ruling.proofs.UsualSegments.{fits-suits}
-use native.Mathlib.Omega.{arith}
 use borrow.Author.Needs.{needs}
 use Rattle.ruling.proofs.usual.value_suits.Statement.{statement}
 use Rattle.ruling.proofs.usual.value_suits.Tie as tie
