@@ -42,10 +42,6 @@ extent-plain t p =
       ne-eqb (tag "SE") t (λ e. p .1 (sym e)),
     )
 
-pub plain-none : (t : ℕ) → Plain t → length (rulesOf t .elements) ≡ 0
-unfolding extentOf
-plain-none t p = sym (ap (λ (x : Extent). x .last) (extent-plain t p))
-
 -- one of two tests passes, or neither does
 none-of : (a b : Bool) → a || b ≡ false → (a ≡ false) × (b ≡ false)
 none-of true b e = absurd (true≢false e)

@@ -2,6 +2,6 @@
 mod components;
 pub mod fitting;
 pub mod layout;
-mod rules;
+pub mod rules;
 pub mod segment;
 pub mod verdict;

@@ -1,7 +1,7 @@
 // The rules of elements, by tag and element number.
 ghost use mathlib.Core.Path.{_≡_};
 ghost use mathlib.Core.Bool.{false};
-ghost use lib.ListN.{getD};
+ghost use lib.ListN.{length, getD};
 ghost use Rattle.text.specs.Bytes.{bytes};
 ghost use Rattle.rows.specs.Tags.{tagNumber};
 ghost use Rattle.elements.specs.Rules.{ruleOf};
@@ -133,6 +133,13 @@ pub(crate) fn extent_of(tag: u8) -> Extent
         tags::SE => stretch(25, 2, 2),
         _ => stretch(27, 0, 0),
     }
+}
+
+// The last element of a segment with that tag that has a rule; a plain segment has none.
+pub fn last_ruled(tag: u8) -> usize
+    ensures { λ r. ⌜ r ≡ length (rulesOf tag .elements) ⌝ }
+{
+    extent_of(tag).last
 }
 
 // The rule of element k of a segment with that tag; one that asks for nothing where there is none.

@@ -14,6 +14,7 @@ use crate::usual;
 use elements::fitting;
 use elements::layout;
 use elements::layout::Layout;
+use elements::rules;
 use elements::verdict::Verdict;
 use rows::tags;
 
@@ -166,23 +167,6 @@ fn early_verdict(
     fitting::fitting_verdict(s, starts, layout, component, tag)
 }
 
-// The last element of a segment with that tag that has a rule; a plain segment has none.
-fn last_ruled(tag: u8) -> usize
-    ensures { λ r. ⌜ r ≡ length (rulesOf tag .elements) ⌝ }
-{
-    match tag {
-        tags::ST => 2,
-        tags::N1 => 6,
-        tags::DTM => 6,
-        tags::HL => 4,
-        tags::LIN => 31,
-        tags::NTE => 2,
-        tags::NCA => 5,
-        tags::SE => 2,
-        _ => 0,
-    }
-}
-
 // Answers 9, 8, 10 and 11 of a segment with that tag.
 pub fn ruled_verdict(
     s: &[u8],
@@ -196,7 +180,7 @@ pub fn ruled_verdict(
         (layoutView (now (s .entry)) (now (starts .entry)) layout component))
         ⌝ }
 {
-    let last = last_ruled(tag);
+    let last = rules::last_ruled(tag);
     if last == 0 {
         return Verdict::Holds;
     }
