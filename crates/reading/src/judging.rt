@@ -32,7 +32,7 @@ pub(crate) enum Judgement {
     // The first rule that it breaks: the answer's number, and the element it names.
     Broken(usize, usize),
     // Its row; it makes no level and does not close the transaction.
-    Plain(u8),
+    Other(u8),
     // Its row, the level that it makes, and what is known of the levels then.
     Level {
         row: u8,
@@ -180,7 +180,7 @@ fn judge_late(
             Verdict::Broken(number, element) => Judgement::Broken(number, element),
         };
     }
-    Judgement::Plain(row)
+    Judgement::Other(row)
 }
 
 // The rules of rows and of elements, then the late ones, for a segment of a known tag of which rule 6 holds.

@@ -3,7 +3,7 @@ ghost use mathlib.Core.Path.{_≡_};
 ghost use Prim.Native.Nat.{_/_, _≤_, _<_};
 ghost use lib.ListN.{length};
 ghost use Rattle.levels.specs.Widths.{segmentWidth};
-ghost use Rattle.reading.specs.internal.Settling.{stateAfter, refusedAt, acceptedAt, InRoom, SettlesBy, SettlesPlain, SettlesLevel, SettlesLast};
+ghost use Rattle.reading.specs.internal.Settling.{stateAfter, refusedAt, acceptedAt, InRoom, SettlesBy, SettlesOther, SettlesLevel, SettlesLast};
 use crate::judging::Judgement;
 use crate::judging::State;
 use crate::storing;
@@ -60,10 +60,10 @@ fn acceptance(layout: Layout, state: State) -> Step
 }
 
 // Passes a segment that makes no level, where there is room for its record.
-fn pass_plain(row: u8, layout: Layout, state: State, segments: &mut [u64]) -> Step
+fn pass_other(row: u8, layout: Layout, state: State, segments: &mut [u64]) -> Step
     requires { ⌜ layout .at ≤ layout .end ⌝ }
     requires { ⌜ state .count ≤ length (now segments) / segmentWidth ⌝ }
-    ensures { λ r. ⌜ SettlesPlain row layout state (now (segments .entry)) (now (segments .exit)) r ⌝ }
+    ensures { λ r. ⌜ SettlesOther row layout state (now (segments .entry)) (now (segments .exit)) r ⌝ }
 {
     if !storing::segment_room(segments, state.count) {
         return refusal(17, layout, state, 0);
@@ -141,7 +141,7 @@ pub(crate) fn settle(
 {
     match judgement {
         Judgement::Broken(number, element) => refusal(number, layout, state, element),
-        Judgement::Plain(row) => pass_plain(row, layout, state, segments),
+        Judgement::Other(row) => pass_other(row, layout, state, segments),
         Judgement::Level { row, level, known } => {
             pass_level(row, level, known, layout, state, segments, levels)
         }

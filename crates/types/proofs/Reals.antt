@@ -27,9 +27,9 @@ pub unsigned-signed : (s : Bytes) → (length s ≡ 0 → ⊥) → getD s 0 0 �
 unsigned-signed [] l e = absurd (l refl)
 unsigned-signed (b ∷ s) l e = record { inside = omega arith; behind = rw (eq-eqb b (byte "-") e) }
 
-pub unsigned-plain : (s : Bytes) → (length s ≡ 0 → ⊥) → (getD s 0 0 ≡ (byte "-") → ⊥) → Unsigned s 0
-unsigned-plain [] l e = absurd (l refl)
-unsigned-plain (b ∷ s) l e = record { inside = omega arith; behind = rw (ne-eqb b (byte "-") e) }
+pub unsigned-other : (s : Bytes) → (length s ≡ 0 → ⊥) → (getD s 0 0 ≡ (byte "-") → ⊥) → Unsigned s 0
+unsigned-other [] l e = absurd (l refl)
+unsigned-other (b ∷ s) l e = record { inside = omega arith; behind = rw (ne-eqb b (byte "-") e) }
 
 -- R, passed up to i: figures alone, and so many points
 pub record Reals (s : Bytes) (i points : ℕ) : Type 0 where

@@ -24,7 +24,7 @@ use Rattle.levels.specs.Levels.{claimOf, Level, called, levelAt, levelOf}
 use Rattle.levels.specs.Rules.{levelChecks}
 use Rattle.gate.specs.Segments.{tagIn, isHL, levelsIn}
 use Rattle.gate.proofs.continuing.FreshNames.{Differs, fresh}
-use Rattle.gate.proofs.continuing.AddedSegments.{levels, ruling, isPlain, Text, plain-text, hlView}
+use Rattle.gate.proofs.continuing.AddedSegments.{levels, ruling, isIdByte, Text, id-bytes-text, hlView}
 use Rattle.gate.proofs.continuing.LevelNames.{levels-hl, levels-other, level-earlier, level-latest, served}
 
 -- there are no more levels than segments
@@ -55,7 +55,7 @@ module _ (q : Separators) (fit : Fitted q) where
   -- digits are text
   pub digits-text : (least most n : ℕ) (s : Bytes) → T (every isDigit s) → length s ≡ n → least ≤ n → n ≤ most → Text q least most s
   digits-text least most n s d e l m =
-      plain-text q fit least most s (every-weaker isDigit isPlain (λ b. or-right (isCapital b) (isDigit b)) s d) (omega arith) (omega arith)
+      id-bytes-text q fit least most s (every-weaker isDigit isIdByte (λ b. or-right (isCapital b) (isDigit b)) s d) (omega arith) (omega arith)
 
   -- there is one while there are fewer than 4 ^ 12 levels
   pub newcomer : (ls : List Level) → length ls < 16777216 → Newcomer q ls
@@ -78,17 +78,17 @@ module _ (q : Separators) (fit : Fitted q) where
   -- I under RP
   code-under-rp : ChildCode 1
   unfolding codeOf mayHang
-  code-under-rp = record { text = bytes "I"; sized = plain-text q fit 1 2 (bytes "I") tt (omega arith) (omega arith); spelled = tt; known = tt; hangs = tt }
+  code-under-rp = record { text = bytes "I"; sized = id-bytes-text q fit 1 2 (bytes "I") tt (omega arith) (omega arith); spelled = tt; known = tt; hangs = tt }
 
   -- F under I
   code-under-i : ChildCode 2
   unfolding codeOf mayHang
-  code-under-i = record { text = bytes "F"; sized = plain-text q fit 1 2 (bytes "F") tt (omega arith) (omega arith); spelled = tt; known = tt; hangs = tt }
+  code-under-i = record { text = bytes "F"; sized = id-bytes-text q fit 1 2 (bytes "F") tt (omega arith) (omega arith); spelled = tt; known = tt; hangs = tt }
 
   -- PC under F
   code-under-f : ChildCode 3
   unfolding codeOf mayHang
-  code-under-f = record { text = bytes "PC"; sized = plain-text q fit 1 2 (bytes "PC") tt (omega arith) (omega arith); spelled = tt; known = tt; hangs = tt }
+  code-under-f = record { text = bytes "PC"; sized = id-bytes-text q fit 1 2 (bytes "PC") tt (omega arith) (omega arith); spelled = tt; known = tt; hangs = tt }
 
   -- every code that may be marked 1 has one
   pub child-code : (c : ℕ) → T (mayBeMarked ruling c) → ChildCode c

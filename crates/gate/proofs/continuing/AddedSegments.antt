@@ -1,4 +1,4 @@
--- Segments that can be put behind others: plain ones, an HL and an SE, with the rules that they keep.
+-- Segments that can be put behind others: some that make no level, an HL and an SE, with the rules that they keep.
 -- Assumes nothing.
 use Prim.Native.Nat.{ℕ, zero, suc, _≤_}
 use Prim.Native.String.{String}
@@ -42,8 +42,8 @@ abbrev pub noSeparator : Separators → ℕ → Bool
 noSeparator q b = not (isSeparator q b)
 
 -- capitals and digits
-abbrev pub isPlain : ℕ → Bool
-isPlain b = isCapital b || isDigit b
+abbrev pub isIdByte : ℕ → Bool
+isIdByte b = isCapital b || isDigit b
 
 -- text of a length from least to most, of printable bytes that are no separators
 pub record Text (q : Separators) (least most : ℕ) (s : Bytes) : Type 0 where
@@ -64,8 +64,8 @@ range-printable lo hi b l m h =
     both (leb 32 b) (leb b 126) (le→leb 32 b (omega arith)) (le→leb b 126 (omega arith))
 
 -- capitals and digits are printable
-plain-printable : (b : ℕ) → T (isPlain b) → T (printable b)
-plain-printable b p =
+id-byte-printable : (b : ℕ) → T (isIdByte b) → T (printable b)
+id-byte-printable b p =
     or-cases (isCapital b) (isDigit b)
     (range-printable 65 90 b (omega arith) (omega arith))
     (range-printable 48 57 b (omega arith) (omega arith))
@@ -80,27 +80,27 @@ barred false b false d true s p = p
 barred a b c d false s p = s
 
 -- capitals and digits may not serve as separators
-serves-no-plain : (b x : ℕ) → T (isPlain b) → T (mayServe x) → T (eqb b x) → ⊥
+serves-no-id-byte : (b x : ℕ) → T (isIdByte b) → T (mayServe x) → T (eqb b x) → ⊥
 unfolding mayServe
-serves-no-plain b x p s e =
+serves-no-id-byte b x p s e =
     let m : T (mayServe b) = rw (eqb→eq b x e) s in
     barred (isCapital b) (isSmall b) (isDigit b) (among (bytes " .-") b) (between 1 126 b) m p
 
 -- capitals and digits are no separators that are fit
-plain-apart : (q : Separators) → Fitted q → (b : ℕ) → T (isPlain b) → T (noSeparator q b)
-plain-apart q fit b p =
+id-byte-apart : (q : Separators) → Fitted q → (b : ℕ) → T (isIdByte b) → T (noSeparator q b)
+id-byte-apart q fit b p =
     not-T (isSeparator q b)
     (or-cases (eqb b (q .element) || eqb b (q .component)) (eqb b (q .terminator))
-    (or-cases (eqb b (q .element)) (eqb b (q .component)) (serves-no-plain b (q .element) p (fit .element-serves))
-    (serves-no-plain b (q .component) p (fit .component-serves)))
-    (serves-no-plain b (q .terminator) p (fit .terminator-serves)))
+    (or-cases (eqb b (q .element)) (eqb b (q .component)) (serves-no-id-byte b (q .element) p (fit .element-serves))
+    (serves-no-id-byte b (q .component) p (fit .component-serves)))
+    (serves-no-id-byte b (q .terminator) p (fit .terminator-serves)))
 
 -- text of capitals and digits
-pub plain-text : (q : Separators) → Fitted q → (least most : ℕ) (s : Bytes) → T (every isPlain s) → least ≤ length s → length s ≤ most
+pub id-bytes-text : (q : Separators) → Fitted q → (least most : ℕ) (s : Bytes) → T (every isIdByte s) → least ≤ length s → length s ≤ most
     → Text q least most s
-plain-text q fit least most s p l m = record {
-  printed = every-weaker isPlain printable plain-printable s p;
-  free = every-weaker isPlain (noSeparator q) (plain-apart q fit) s p;
+id-bytes-text q fit least most s p l m = record {
+  printed = every-weaker isIdByte printable id-byte-printable s p;
+  free = every-weaker isIdByte (noSeparator q) (id-byte-apart q fit) s p;
   long = l;
   short = m;
 }
@@ -184,12 +184,12 @@ all-two f x y a b = both (f x) (every f (y ∷ [])) a (both (f y) true b tt)
 
 module _ (q : Separators) (fit : Fitted q) where
   -- a line holds no separator if its texts hold none
-  line-free : (name : String) (texts : List Bytes) → T (every isPlain (bytes name)) → T (every (every (noSeparator q)) texts)
+  line-free : (name : String) (texts : List Bytes) → T (every isIdByte (bytes name)) → T (every (every (noSeparator q)) texts)
       → T (unseparated q (line name texts))
   line-free name texts p h =
       line-every (every (noSeparator q)) (bytes name ∷ texts)
       (both (every (noSeparator q) (bytes name)) (every (every (noSeparator q)) texts)
-      (every-weaker isPlain (noSeparator q) (plain-apart q fit) (bytes name) p) h)
+      (every-weaker isIdByte (noSeparator q) (id-byte-apart q fit) (bytes name) p) h)
 
   -- an HL with fit elements writes to bytes
   pub hl-writable : (id parent code : Bytes) → Text q 1 12 id → Text q 0 12 parent → Text q 1 2 code → T (writes q (hlView id parent code))
@@ -252,7 +252,7 @@ unfolding tagIn
 se-tag count control = refl
 
 -- a segment that keeps its rules wherever it stands, makes no level and does not end the transaction
-pub record Plain (name : String) : Type 0 where
+pub record Added (name : String) : Type 0 where
   pub texts : List Bytes
   pub tagged : tagIn (line name texts) ≡ tag name
   pub kept : (h : List View) → Kept nonconformance h (line name texts)
@@ -267,13 +267,13 @@ keeps-all (c ∷ cs) h =
     (first-of (c .holds) rest h, keeps-all cs (second-of (c .holds) rest h))
 
 -- a segment whose tests compute
-plain : (name : String) (texts : List Bytes) → tagIn (line name texts) ≡ tag name → T (every (λ (c : Check). c .holds) (byteChecks (line name texts)))
+added : (name : String) (texts : List Bytes) → tagIn (line name texts) ≡ tag name → T (every (λ (c : Check). c .holds) (byteChecks (line name texts)))
     → T (every (λ (c : Check). c .holds) (endChecks (line name texts)))
     → T (every (λ (c : Check). c .holds) (ruledChecks (nonconformance .elements) (tagIn (line name texts)) (line name texts)))
     → isHL (line name texts) ≡ false → isSE (line name texts) ≡ false → T (wellFormed (line name texts))
-    → T (every (every isPlain) (bytes name ∷ texts)) → Plain name
+    → T (every (every isIdByte) (bytes name ∷ texts)) → Added name
 unfolding hlChecks seChecks
-plain name texts t a b c i j w p =
+added name texts t a b c i j w p =
     let v = line name texts in
     record {
       texts = texts;
@@ -289,30 +289,30 @@ plain name texts t a b c i j w p =
       written = λ q fit.
           both (wellFormed v) (unseparated q v) w
           (line-every (every (noSeparator q)) (bytes name ∷ texts)
-          (every-weaker (every isPlain) (every (noSeparator q)) (λ s. every-weaker isPlain (noSeparator q) (plain-apart q fit) s) (bytes name ∷ texts) p));
+          (every-weaker (every isIdByte) (every (noSeparator q)) (λ s. every-weaker isIdByte (noSeparator q) (id-byte-apart q fit) s) (bytes name ∷ texts) p));
     }
 
 -- ST*842*0001
-pub plain-st : Plain "ST"
+pub added-st : Added "ST"
 unfolding tagIn tagNumber byteChecks endChecks ruledChecks fits
-plain-st = plain "ST" (bytes "842" ∷ bytes "0001" ∷ []) refl tt tt tt refl refl tt tt
+added-st = added "ST" (bytes "842" ∷ bytes "0001" ∷ []) refl tt tt tt refl refl tt tt
 
 -- BNR*1
-pub plain-bnr : Plain "BNR"
+pub added-bnr : Added "BNR"
 unfolding tagIn tagNumber byteChecks endChecks ruledChecks fits
-plain-bnr = plain "BNR" (bytes "1" ∷ []) refl tt tt tt refl refl tt tt
+added-bnr = added "BNR" (bytes "1" ∷ []) refl tt tt tt refl refl tt tt
 
 -- LQ*1
-pub plain-lq : Plain "LQ"
+pub added-lq : Added "LQ"
 unfolding tagIn tagNumber byteChecks endChecks ruledChecks fits
-plain-lq = plain "LQ" (bytes "1" ∷ []) refl tt tt tt refl refl tt tt
+added-lq = added "LQ" (bytes "1" ∷ []) refl tt tt tt refl refl tt tt
 
 -- FA2*1
-pub plain-fa2 : Plain "FA2"
+pub added-fa2 : Added "FA2"
 unfolding tagIn tagNumber byteChecks endChecks ruledChecks fits
-plain-fa2 = plain "FA2" (bytes "1" ∷ []) refl tt tt tt refl refl tt tt
+added-fa2 = added "FA2" (bytes "1" ∷ []) refl tt tt tt refl refl tt tt
 
 -- BIN*1*A
-pub plain-bin : Plain "BIN"
+pub added-bin : Added "BIN"
 unfolding tagIn tagNumber byteChecks endChecks ruledChecks fits
-plain-bin = plain "BIN" (bytes "1" ∷ bytes "A" ∷ []) refl tt tt tt refl refl tt tt
+added-bin = added "BIN" (bytes "1" ∷ bytes "A" ∷ []) refl tt tt tt refl refl tt tt

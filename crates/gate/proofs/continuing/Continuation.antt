@@ -35,8 +35,8 @@ use Rattle.gate.specs.Segments.{tagIn, isSE, onto, opening}
 use Rattle.gate.specs.Rules.{Kept, From}
 use Rattle.gate.proofs.reading.Laws.{from-append, MeetsFrom, opening-onto, onto-length}
 use Rattle.gate.proofs.continuing.FreshNames.{numeral}
-use Rattle.gate.proofs.continuing.AddedSegments.{levels, ruling, Text, line, plain-text, writes, hlView, seView, hl-writable, se-writable, hl-kept, se-kept}
-use Rattle.gate.proofs.continuing.AddedSegments.{hl-tag, se-tag, Plain, plain-st}
+use Rattle.gate.proofs.continuing.AddedSegments.{levels, ruling, Text, line, id-bytes-text, writes, hlView, seView, hl-writable, se-writable, hl-kept, se-kept}
+use Rattle.gate.proofs.continuing.AddedSegments.{hl-tag, se-tag, Added, added-st}
 use Rattle.gate.proofs.continuing.LevelNames.{st-text, levels-hl, levels-other, Named, named-none, named-at, named-onto, served, served-filled}
 use Rattle.gate.proofs.reading.RowOfSE.{tag-79, last-snoc}
 use Rattle.gate.proofs.continuing.PendingRows.{next-goes-on, st-small, hl-small, hl-after-hl, se-after-hl, st-first, max-hl, max-se, max-st}
@@ -188,16 +188,16 @@ module _ (q : Separators) (fit : Fitted q) where
       let new = newcomer q fit ls (omega (arith, levels-few h)) in
       let v = hlView (new .name) [] (bytes "RP") in
       let none : Text q 0 12 [] = record { printed = tt; free = tt; long = omega arith; short = omega arith } in
-      hl-before h w (new .name) [] (bytes "RP") s next (new .text) none (plain-text q fit 1 2 (bytes "RP") tt (omega arith) (omega arith)) tt (new .new)
+      hl-before h w (new .name) [] (bytes "RP") s next (new .text) none (id-bytes-text q fit 1 2 (bytes "RP") tt (omega arith) (omega arith)) tt (new .new)
       (root-checks ls (new .name) (new .new))
       (λ t. levels-end (length (levels (v ∷ h))) (v ∷ h) (w ++ (18 ∷ [])) t (last-snoc 0 w 18) (omega arith)
       (λ m a b. absurd (omega arith))
       (omega (arith, levels-few (v ∷ h))))
 
-  -- a plain segment before an ending
-  plain-before : (h : List View) (w : List ℕ) (name : String) (p : Plain name) (x : ℕ) → Fits w (tag name) x
+  -- such a segment before an ending
+  added-before : (h : List View) (w : List ℕ) (name : String) (p : Added name) (x : ℕ) → Fits w (tag name) x
       → Ending q (line name (p .texts) ∷ h) (w ++ (x ∷ [])) → Ending q h w
-  plain-before h w name p x f e = ending-before q h w (line name (p .texts)) x (p .kept h) (rw (p .tagged) f) (p .written q fit) e
+  added-before h w name p x f e = ending-before q h w (line name (p .texts)) x (p .kept h) (rw (p .tagged) f) (p .written q fit) e
 
   -- after every row but SE what is pending comes first
   pending-ends : (h : List View) (w : List ℕ) → Stands q h w → lastOf 0 w ≢ 0 → lastOf 0 w ≢ 79 → length h ≤ 3000000 → Ending q h w
@@ -216,23 +216,23 @@ module _ (q : Separators) (fit : Fitted q) where
           next-goes-on w (tag (p .name)) x (s .viable) (p .small) refl (apart x 0 (first-of some few front)) (apart (maxOf x) 2 (second-of some few front)) in
           let g : Fits w (tagIn v) x = rw (p .segment .tagged) f in
           let next = eqb→eq (nextOf x (tag "HL")) 18 (second-of (some && few) (hlNext x) (p .bridged)) in
-          plain-before h w (p .name) (p .segment) x f
+          added-before h w (p .name) (p .segment) x f
           (root-ends (v ∷ h) (w ++ (x ∷ [])) (stands-more q h w v x s g (rw (levels-other h v (p .segment .no-level)) (s .named)))
           (rw (last-snoc 0 w x) next) (omega arith))
 
   -- before the first segment an ST comes
   start-ends : Ending q [] []
   start-ends =
-      let v = line "ST" (plain-st .texts) in
+      let v = line "ST" (added-st .texts) in
       let f : Fits [] (tag "ST") 1 = next-goes-on [] (tag "ST") 1 viable-nil st-small st-first (λ z. omega arith) (λ z. omega (arith, max-st, z)) in
-      let free = second-of (wellFormed v) (unseparated q v) (plain-st .written q fit) in
+      let free = second-of (wellFormed v) (unseparated q v) (added-st .written q fit) in
       let s : Stands q (v ∷ []) (1 ∷ []) = record {
         viable = f .viable;
         some = omega arith;
-        control = st-text q [] v (plain-st .kept []) free (plain-st .tagged);
-        named = rw (levels-other [] v (plain-st .no-level)) (named-none q);
+        control = st-text q [] v (added-st .kept []) free (added-st .tagged);
+        named = rw (levels-other [] v (added-st .no-level)) (named-none q);
       } in
-      plain-before [] [] "ST" plain-st 1 f (pending-ends (v ∷ []) (1 ∷ []) s (λ z. omega arith) (λ z. omega arith) (omega arith))
+      added-before [] [] "ST" added-st 1 f (pending-ends (v ∷ []) (1 ∷ []) s (λ z. omega arith) (λ z. omega arith) (omega arith))
 
 -- the last row is one of the rows
 last-among : (x : ℕ) (w : List ℕ) → T (among (x ∷ w) (lastOf x w))

@@ -16,7 +16,7 @@ use Rattle.rows.specs.RowList.{rowAt, tagOf, maxOf}
 use Rattle.rows.proofs.NextRows.{after, edges842, nextOf}
 use Rattle.rows.specs.Following.{Fits, lastOf}
 use Rattle.rows.proofs.FittingRow.{next-fits}
-use Rattle.gate.proofs.continuing.AddedSegments.{Plain, plain-bnr, plain-lq, plain-fa2, plain-bin}
+use Rattle.gate.proofs.continuing.AddedSegments.{Added, added-bnr, added-lq, added-fa2, added-bin}
 
 -- the row that comes next goes on from viable rows, where its maximum is not 2
 pub next-goes-on : (w : List ℕ) (t x : ℕ) → Viable list842 w → t < 34 → nextOf (lastOf 0 w) t ≡ x → x ≢ 0 → maxOf x ≢ 2 → Fits w t x
@@ -89,7 +89,7 @@ checked-pending = refl
 -- a segment that is pending after a row: it may come there, and then an HL
 pub record Pending (r : ℕ) : Type 0 where
   pub name : String
-  pub segment : Plain name
+  pub segment : Added name
   pub small : tag name < 34
   pub bridged : T (bridges r (tag name))
 
@@ -103,10 +103,10 @@ some-pending r =
     let bin = bridges r (tag "BIN") in
     or-cases (bnr || lq || fa2) bin
     (or-cases (bnr || lq) fa2
-    (or-cases bnr lq (λ t. record { name = "BNR"; segment = plain-bnr; small = lit< tt; bridged = t })
-    (λ t. record { name = "LQ"; segment = plain-lq; small = lit< tt; bridged = t }))
-    (λ t. record { name = "FA2"; segment = plain-fa2; small = lit< tt; bridged = t }))
-    (λ t. record { name = "BIN"; segment = plain-bin; small = lit< tt; bridged = t })
+    (or-cases bnr lq (λ t. record { name = "BNR"; segment = added-bnr; small = lit< tt; bridged = t })
+    (λ t. record { name = "LQ"; segment = added-lq; small = lit< tt; bridged = t }))
+    (λ t. record { name = "FA2"; segment = added-fa2; small = lit< tt; bridged = t }))
+    (λ t. record { name = "BIN"; segment = added-bin; small = lit< tt; bridged = t })
 
 -- after every row but SE an HL may come, or a segment is pending
 pub pending : (r : ℕ) → r < 80 → r ≢ 0 → r ≢ 79 → T (hlNext r) ⊎ Pending r

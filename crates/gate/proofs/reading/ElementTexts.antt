@@ -33,9 +33,9 @@ pub element-piece : (q : Separators) (g : Bytes) (k : ℕ) → elementOf (viewOf
 element-piece q g k = List·getD-map (pieces (q .component)) (pieces (q .element) g) k []
 
 -- a capital letter or a digit is no separator
-serves-not-plain : (c : ℕ) → T (mayServe c) → T (isCapital c || isDigit c) → ⊥
+serves-no-id-byte : (c : ℕ) → T (mayServe c) → T (isCapital c || isDigit c) → ⊥
 unfolding mayServe
-serves-not-plain c m p = by (isCapital c) (isDigit c) (isSmall c) (among (bytes " .-") c) p (second-of (between 1 126 c) (not (isCapital c || isSmall c || isDigit c || among (bytes " .-") c)) m)
+serves-no-id-byte c m p = by (isCapital c) (isDigit c) (isSmall c) (among (bytes " .-") c) p (second-of (between 1 126 c) (not (isCapital c || isSmall c || isDigit c || among (bytes " .-") c)) m)
   where
     by : (a d s m : Bool) → T (a || d) → T (not (a || s || d || m)) → ⊥
     by true d s m p n = n
@@ -43,36 +43,36 @@ serves-not-plain c m p = by (isCapital c) (isDigit c) (isSmall c) (among (bytes 
     by false true false m p n = n
     by false false s m p n = p
 
--- bytes that are all plain hold no separator
-plain-free : (c : ℕ) → T (mayServe c) → (s : Bytes) → T (every (λ (b : ℕ). isCapital b || isDigit b) s) → Free c s
-plain-free c m [] t = tt
-plain-free c m (b ∷ s) t =
+-- capitals and digits hold no separator
+id-bytes-free : (c : ℕ) → T (mayServe c) → (s : Bytes) → T (every (λ (b : ℕ). isCapital b || isDigit b) s) → Free c s
+id-bytes-free c m [] t = tt
+id-bytes-free c m (b ∷ s) t =
     let p = first-of (isCapital b || isDigit b) (every (λ (b : ℕ). isCapital b || isDigit b) s) t in (
-      λ e. serves-not-plain c m (subst (λ (x : ℕ). T (isCapital x || isDigit x)) e p),
-      plain-free c m s (second-of (isCapital b || isDigit b) (every (λ (b : ℕ). isCapital b || isDigit b) s) t),
+      λ e. serves-no-id-byte c m (subst (λ (x : ℕ). T (isCapital x || isDigit x)) e p),
+      id-bytes-free c m s (second-of (isCapital b || isDigit b) (every (λ (b : ℕ). isCapital b || isDigit b) s) t),
     )
 
--- every tag is plain
-abbrev allPlain : List Bytes → Bool
-allPlain l = every (every (λ (b : ℕ). isCapital b || isDigit b)) l
+-- every tag is of capitals and digits
+abbrev allIdBytes : List Bytes → Bool
+allIdBytes l = every (every (λ (b : ℕ). isCapital b || isDigit b)) l
 
-checked-plain : T (allPlain tags)
-checked-plain = tt
+checked-id-bytes : T (allIdBytes tags)
+checked-id-bytes = tt
 
 -- bytes that are a tag hold no separator
-place-plain : (ts : List Bytes) (s : Bytes) → T (allPlain ts) → placeIn ts s < length ts → T (every (λ (b : ℕ). isCapital b || isDigit b) s)
-place-plain [] s a h = absurd (omega arith)
-place-plain (t ∷ ts) s a h = by (same t s) (same-equal t s) (place-plain ts s (second-of (every (λ (b : ℕ). isCapital b || isDigit b) t) (allPlain ts) a)) h
+place-id-bytes : (ts : List Bytes) (s : Bytes) → T (allIdBytes ts) → placeIn ts s < length ts → T (every (λ (b : ℕ). isCapital b || isDigit b) s)
+place-id-bytes [] s a h = absurd (omega arith)
+place-id-bytes (t ∷ ts) s a h = by (same t s) (same-equal t s) (place-id-bytes ts s (second-of (every (λ (b : ℕ). isCapital b || isDigit b) t) (allIdBytes ts) a)) h
   where
     by : (b : Bool) → (T b → t ≡ s) → (placeIn ts s < length ts → T (every (λ (b : ℕ). isCapital b || isDigit b) s))
         → cond b 0 (suc (placeIn ts s)) < suc (length ts) → T (every (λ (b : ℕ). isCapital b || isDigit b) s)
     by true e f h =
-        subst (λ (x : Bytes). T (every (λ (b : ℕ). isCapital b || isDigit b) x)) (e tt) (first-of (every (λ (b : ℕ). isCapital b || isDigit b) t) (allPlain ts) a)
+        subst (λ (x : Bytes). T (every (λ (b : ℕ). isCapital b || isDigit b) x)) (e tt) (first-of (every (λ (b : ℕ). isCapital b || isDigit b) t) (allIdBytes ts) a)
     by false e f h = f (omega arith)
 
 tag-free : (c : ℕ) → T (mayServe c) → (s : Bytes) → tagNumber s < 34 → Free c s
 unfolding tagNumber
-tag-free c m s h = plain-free c m s (place-plain tags s checked-plain h)
+tag-free c m s h = id-bytes-free c m s (place-id-bytes tags s checked-id-bytes h)
 
 -- a number of a tag is at most 34
 place-most : (ts : List Bytes) (s : Bytes) → placeIn ts s ≤ length ts

@@ -124,23 +124,23 @@ none-of true c e p h = absurd (true≢false h)
 
 module _ (q : Separators) (b : ℕ) (h : special q b ≡ false) where
   -- what is not special
-  plain : None (eqb b (q .terminator)) (eqb b (q .component)) (eqb b (q .element)) (printable b)
+  allowed : None (eqb b (q .terminator)) (eqb b (q .component)) (eqb b (q .element)) (printable b)
   unfolding special
-  plain = none-of (eqb b (q .terminator)) (eqb b (q .component)) (eqb b (q .element)) (printable b) h
+  allowed = none-of (eqb b (q .terminator)) (eqb b (q .component)) (eqb b (q .element)) (printable b) h
 
   -- is no component separator
   pub no-component : b ≡ q .component → ⊥
-  no-component = eqb-false b (q .component) (plain .component)
+  no-component = eqb-false b (q .component) (allowed .component)
 
   -- nor an element separator
   pub no-element : b ≡ q .element → ⊥
-  no-element = eqb-false b (q .element) (plain .element)
+  no-element = eqb-false b (q .element) (allowed .element)
 
   -- and may stand in a segment
   pub data-allowed : Allowed q b
   data-allowed = (
-    eqb-false b (q .terminator) (plain .terminator),
-    or-left (printable b || eqb b (q .component)) (eqb b (q .element)) (or-left (printable b) (eqb b (q .component)) (rw (plain .printed) tt)),
+    eqb-false b (q .terminator) (allowed .terminator),
+    or-left (printable b || eqb b (q .component)) (eqb b (q .element)) (or-left (printable b) (eqb b (q .component)) (rw (allowed .printed) tt)),
   )
 
 module _ (q : Separators) (a : Fitted q) where

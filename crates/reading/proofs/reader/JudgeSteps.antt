@@ -46,7 +46,7 @@ use Rattle.levels.specs.internal.Answers.{judged}
 use Rattle.finding.specs.internal.Knows.{Knows, mostLevels, knownAfter}
 use Rattle.finding.specs.internal.TableLevels.{tableLevels}
 use Rattle.reading.specs.declared.judging.Judgement.{Judgement}
-use Rattle.reading.specs.declared.judging.Judgement.the-variants.{Broken, Plain}
+use Rattle.reading.specs.declared.judging.Judgement.the-variants.{Broken, Other}
 use Rattle.elements.specs.declared.layout.Layout.{Layout}
 use Rattle.reading.specs.declared.judging.State.{State}
 use Rattle.reading.proofs.reader.RuleOrder.{unknown-tag, bad-end, no-row, bad-element, bad-level, bad-closing, no-level, no-closing, its-level, its-closing, all-kept}
@@ -228,7 +228,7 @@ module _ {how : How} {before : Tables} {s : Bytes} {segments levels : List ℕ} 
           judges-late : state .known .levels ≤ mostLevels → Judges (profileOf how) rows h v (lateJudgement how s starts layout state segments levels t x)
           judges-late few = by (eqb t (tag "HL")) (eqb t (tag "SE")) refl refl
             where
-              by : (a b : Bool) → eqb t (tag "HL") ≡ a → eqb t (tag "SE") ≡ b → Judges (profileOf how) rows h v (cond a hl-says (cond b se-says (Plain x)))
+              by : (a b : Bool) → eqb t (tag "HL") ≡ a → eqb t (tag "SE") ≡ b → Judges (profileOf how) rows h v (cond a hl-says (cond b se-says (Other x)))
               by true b p q =
                   let e : tagIn v ≡ tag "HL" = sym tag-known ∙ eqb→eq t (tag "HL") (rw p tt) in
                   rw (st .tells .levels-are)

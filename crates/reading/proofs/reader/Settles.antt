@@ -23,13 +23,13 @@ use Rattle.gate.specs.declared.how.How.{How}
 use Rattle.finding.specs.declared.known.Known.{Known}
 use Rattle.finding.specs.internal.Entries.{storedAt}
 use Rattle.reading.specs.declared.judging.Judgement.{Judgement}
-use Rattle.reading.specs.declared.judging.Judgement.the-variants.{Broken, Plain, Level, Last}
+use Rattle.reading.specs.declared.judging.Judgement.the-variants.{Broken, Other, Level, Last}
 use Rattle.elements.specs.declared.layout.Layout.{Layout}
 use Rattle.reading.specs.declared.judging.State.{State}
 use Rattle.reading.specs.declared.storing.NewLevel.{NewLevel}
 use Rattle.reading.specs.declared.settling.Step.{Step}
 use Rattle.gate.specs.Rules.{Sound}
-use Rattle.reading.proofs.reader.Standings.{standing-refuses, no-segment-room, no-level-room, standing-plain, standing-level, standing-closes, history-long}
+use Rattle.reading.proofs.reader.Standings.{standing-refuses, no-segment-room, no-level-room, standing-other, standing-level, standing-closes, history-long}
 
 -- what a test of room says
 pub room : (b : Bool) (n m : ℕ) → b ≡ ltb n m → not b ≡ false → n < m
@@ -84,9 +84,9 @@ module _ {how : How} {before : Tables} {s : Bytes} {segments levels : List ℕ} 
         element-is = refl;
       }))))
 
-  pub full-plain : (row : ℕ) → j ≡ Plain row → length segments / segmentWidth ≤ state .count → (r : Step) → r ≡ refusedAt 17 layout state 0
+  pub full-other : (row : ℕ) → j ≡ Other row → length segments / segmentWidth ≤ state .count → (r : Step) → r ≡ refusedAt 17 layout state 0
       → Settles how before s layout segments levels r
-  full-plain row q l = full row (says (Plain row) q .0) (no-segment-room (t .standing) g more (t .cut) (t .whole) l)
+  full-other row q l = full row (says (Other row) q .0) (no-segment-room (t .standing) g more (t .cut) (t .whole) l)
 
   pub full-level : (row : ℕ) (level : NewLevel) (known : Known) → j ≡ Level row level known → length segments / segmentWidth ≤ state .count → (r : Step)
       → r ≡ refusedAt 17 layout state 0 → Settles how before s layout segments levels r
@@ -104,15 +104,15 @@ module _ {how : How} {before : Tables} {s : Bytes} {segments levels : List ℕ} 
   full-last row q l = full row (says (Last row) q .0) (no-segment-room (t .standing) g more (t .cut) (t .whole) l)
 
   -- passed
-  pub settles-plain : (row : ℕ) → j ≡ Plain row → state .count < length segments / segmentWidth → (segments′ : List ℕ)
+  pub settles-other : (row : ℕ) → j ≡ Other row → state .count < length segments / segmentWidth → (segments′ : List ℕ)
       → segments′ ≡ storedAt segmentWidth segments (state .count) (layout .at ∷ (layout .end - layout .at) ∷ row ∷ []) → (after : State)
       → after ≡ stateAfter state row (state .known) → Stands how before s segments′ levels (layout .end + 1) after
-  settles-plain row q room segments′ stored after is =
-      let p = says (Plain row) q in
+  settles-other row q room segments′ stored after is =
+      let p = says (Other row) q in
       rw (stored, is, long, ← next-at) (record {
         gs = gs ++ (record { at = layout .at; segment = g } ∷ []);
         rows = rows ++ (row ∷ []);
-        standing = standing-plain (t .standing) g more (t .cut) (t .whole) row (p .0) (p .1) (p .2) room;
+        standing = standing-other (t .standing) g more (t .cut) (t .whole) row (p .0) (p .1) (p .2) room;
       })
 
   pub settles-level : (row : ℕ) (level : NewLevel) (known : Known) → j ≡ Level row level known → state .count < length segments / segmentWidth → state .known .levels < length levels / levelWidth

@@ -169,8 +169,8 @@ module _ {how : How} {before : Tables} {s : Bytes} {segments levels : List ℕ} 
         ∙ ap (over (before .segments)) (sym (records-more how [] gs rows (record { at = at; segment = g }) r (st .rows-are)))
 
     -- room for a segment, and for one that makes a level
-    pub room-plain : isHL v ≡ false → state .count < length segments / segmentWidth → Room profile before (v ∷ before-views)
-    room-plain hl l = record {
+    pub room-other : isHL v ≡ false → state .count < length segments / segmentWidth → Room profile before (v ∷ before-views)
+    room-other hl l = record {
       segments-fit = omega (arith, segments-long, history-long how gs, st .count-is);
       levels-fit = rw (levels-other before-views v hl) (st .passed .room .levels-fit);
     }
@@ -209,15 +209,15 @@ module _ {how : How} {before : Tables} {s : Bytes} {segments levels : List ℕ} 
     again-more r = twice-more 0 false rows r ∙ ap (eqb r) (st .row-is)
 
     -- a segment that makes no level is passed
-    pub standing-plain : (r : ℕ) → Sound profile rows before-views v r → isHL v ≡ false → T (not (isSE v))
+    pub standing-other : (r : ℕ) → Sound profile rows before-views v r → isHL v ≡ false → T (not (isSE v))
         → state .count < length segments / segmentWidth
         → Standing how before s (storedAt segmentWidth segments (state .count) (at ∷ length g ∷ r ∷ [])) levels (at + length g + 1) (stateAfter state r (state .known)) gs′ (rows ++ (r ∷ []))
-    standing-plain r sound hl se room =
+    standing-other r sound hl se room =
         let same : levelsIn profile (onto [] (seen how gs′)) ≡ levelsIn profile before-views =
         ap (levelsIn profile) history-more ∙ levels-other before-views v hl in
         let one : suc (state .count) ≡ state .count + 1 = omega arith in
         record {
-          passed = passed-next r sound se (room-plain hl room);
+          passed = passed-next r sound se (room-other hl room);
           segments-are = segments-more r;
           levels-are = st .levels-are ∙ ap (λ (ls : List Level). over (before .levels) (recordsOf ls)) (sym same);
           count-is = count-more;
@@ -285,7 +285,7 @@ module _ {how : How} {before : Tables} {s : Bytes} {segments levels : List ℕ} 
               row = r;
               keeping = record { more = more; next = cut; sound = sound };
               last = se;
-              room = room-plain hl room;
+              room = room-other hl room;
               kept-is = refl;
               numbers-is = refl;
               counts = cc (count-more, ap length same ∙ st .knows .counted);

@@ -35,7 +35,7 @@ use Rattle.finding.specs.internal.Knows.{Knows, knownAfter}
 use Rattle.finding.specs.declared.known.Known.{Known}
 use Rattle.finding.specs.internal.TableLevels.{tableLevels}
 use Rattle.reading.specs.declared.judging.Judgement.{Judgement}
-use Rattle.reading.specs.declared.judging.Judgement.the-variants.{Broken, Plain, Level, Last}
+use Rattle.reading.specs.declared.judging.Judgement.the-variants.{Broken, Other, Level, Last}
 use Rattle.elements.specs.declared.layout.Layout.{Layout}
 use Rattle.reading.specs.declared.judging.State.{State}
 
@@ -95,7 +95,7 @@ lateJudgement how s starts layout state segments levels t row =
     (judged (profileOf how .levels) (tableLevels s (how .separators .element) segments levels (state .known .levels)) (claimIn s starts layout)))
     (cond (eqb t (tag "SE"))
     (byClosing row (firstBroken (closingIn s (how .separators .element) starts layout segments levels state)))
-    (Plain row))
+    (Other row))
 
 abbrev pub JudgesLate : How → Bytes → List ℕ → Layout → State → (segments levels : List ℕ) → ℕ → ℕ → Judgement → Type 0
 JudgesLate how s starts layout state segments levels t row r =
@@ -110,7 +110,7 @@ module _ (profile : Profile) (rows : List ℕ) (h : List View) (v : View) where
 
   abbrev pub Judges : Judgement → Type 0
   Judges (Broken number element) = FirstBroken (rules profile rows h v) number element
-  Judges (Plain r) = Sound profile rows h v r × (isHL v ≡ false) × T (not (isSE v))
+  Judges (Other r) = Sound profile rows h v r × (isHL v ≡ false) × T (not (isSE v))
   Judges (Level r level known) =
       Sound profile rows h v r × (isHL v ≡ true) × T (not (isSE v))
       × (suc (length h) ∷ level .parent ∷ level .depth ∷ level .code ∷ [] ≡ recordOf newLevel)

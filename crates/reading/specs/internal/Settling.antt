@@ -23,7 +23,7 @@ use Rattle.gate.specs.declared.answer.Answer.the-variants.{Accepted, Refused}
 use Rattle.gate.specs.declared.how.How.{How}
 use Rattle.finding.specs.declared.known.Known.{Known}
 use Rattle.reading.specs.declared.judging.Judgement.{Judgement}
-use Rattle.reading.specs.declared.judging.Judgement.the-variants.{Plain, Level, Last}
+use Rattle.reading.specs.declared.judging.Judgement.the-variants.{Other, Level, Last}
 use Rattle.elements.specs.declared.layout.Layout.{Layout}
 use Rattle.reading.specs.declared.judging.State.{State}
 use Rattle.reading.specs.declared.storing.NewLevel.{NewLevel}
@@ -82,8 +82,8 @@ SettlesBy judgement layout state segments levels segments′ levels′ r =
     → Settling how before s segments levels layout state gs rows g more judgement → Settles how before s layout segments′ levels′ r
 
 -- of a segment that makes no level, of one that makes a level, and of the last; without a level the level table stays
-abbrev pub SettlesPlain : ℕ → Layout → State → (segments segments′ : List ℕ) → Step → Type 0
-SettlesPlain row layout state segments segments′ r = (levels : List ℕ) → SettlesBy (Plain row) layout state segments levels segments′ levels r
+abbrev pub SettlesOther : ℕ → Layout → State → (segments segments′ : List ℕ) → Step → Type 0
+SettlesOther row layout state segments segments′ r = (levels : List ℕ) → SettlesBy (Other row) layout state segments levels segments′ levels r
 
 abbrev pub SettlesLevel : ℕ → NewLevel → Known → Layout → State → (segments levels segments′ levels′ : List ℕ) → Step → Type 0
 SettlesLevel row level known = SettlesBy (Level row level known)

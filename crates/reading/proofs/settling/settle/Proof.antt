@@ -14,8 +14,8 @@ refusal-requires c κs = search needs
 enum-known-judgement-2 : tie.Need-enum-known-judgement-2
 enum-known-judgement-2 c = search needs
 
-pass-plain-requires : tie.Need-pass-plain-requires
-pass-plain-requires c κs = search needs
+pass-other-requires : tie.Need-pass-other-requires
+pass-other-requires c κs = search needs
 
 enum-known-judgement-3 : tie.Need-enum-known-judgement-3
 enum-known-judgement-3 c = search needs
@@ -36,7 +36,7 @@ same-length : tie.Need-same-length
 same-length c = search needs
 
 returns-2 : tie.Need-returns-2
-returns-2 c = λ how before s gs rows g more t. c .before .before .pass-plain .ensures _ how before s gs rows g more (judged-so t _ (c .before .before .before .before .before .judgement2 .given .1))
+returns-2 c = λ how before s gs rows g more t. c .before .before .pass-other .ensures _ how before s gs rows g more (judged-so t _ (c .before .before .before .before .before .judgement2 .given .1))
 
 same-length-2 : tie.Need-same-length-2
 same-length-2 c = search needs
@@ -60,7 +60,7 @@ settle-spec =
     enum-known-judgement
     refusal-requires
     enum-known-judgement-2
-    pass-plain-requires
+    pass-other-requires
     enum-known-judgement-3
     pass-level-requires
     enum-known-judgement-4

@@ -1,13 +1,13 @@
--- `pass_plain` meets its contract: where there is room the reader stands behind the segment.
+-- `pass_other` meets its contract: where there is room the reader stands behind the segment.
 -- Assumes nothing.
 use Prim.Native.Nat.{_/_, _<_}
 use mathlib.Core.Path.{refl}
 use lib.ListN.{length}
 use Rattle.levels.specs.Widths.{segmentWidth}
-use Rattle.reading.proofs.reader.Settles.{room, no-room, full-plain, settles-plain}
+use Rattle.reading.proofs.reader.Settles.{room, no-room, full-other, settles-other}
 use borrow.Author.Needs.{needs}
-use Rattle.reading.proofs.settling.pass_plain.Statement.{statement}
-use Rattle.reading.proofs.settling.pass_plain.Tie as tie
+use Rattle.reading.proofs.settling.pass_other.Statement.{statement}
+use Rattle.reading.proofs.settling.pass_other.Tie as tie
 
 -- behind the test there is room
 fits : (c : tie.Else1) → c .before .before .before .before .args .state .count < length (c .before .before .before .before .args .segments .now) / segmentWidth
@@ -25,7 +25,7 @@ same-length c = search needs
 returns : tie.Need-returns
 returns c = λ levels how before s gs rows g more t.
     let asked = c .before .before .segment-room in
-    full-plain t _ refl (no-room (asked .result) _ _ (asked .ensures) (c .before .if1 .taken)) _ (c .refusal .ensures)
+    full-other t _ refl (no-room (asked .result) _ _ (asked .ensures) (c .before .if1 .taken)) _ (c .refusal .ensures)
 
 sub-put-segment : tie.Need-sub-put-segment
 sub-put-segment c = search needs
@@ -42,10 +42,10 @@ same-length-2 c = search needs
 returns-2 : tie.Need-returns-2
 returns-2 c = λ levels how before s gs rows g more t.
     let stored = c .before .before .before in
-    settles-plain t _ refl (fits (stored .before .before .before)) _ (stored .put-segment .ensures) _ (c .after .ensures)
+    settles-other t _ refl (fits (stored .before .before .before)) _ (stored .put-segment .ensures) _ (c .after .ensures)
 
-pub pass-plain-spec : {M : Type 1} → statement M
-pass-plain-spec =
+pub pass-other-spec : {M : Type 1} → statement M
+pass-other-spec =
     tie.close
     (tie.spec
     segment-room-requires
