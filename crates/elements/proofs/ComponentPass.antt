@@ -17,7 +17,7 @@ use Rattle.text.specs.View.{Piece, present}
 use Rattle.text.proofs.Bools.{and-true}
 use Rattle.text.proofs.Tests.{and-first, and-second}
 use Rattle.text.proofs.Pieces.{pieces-some, pieces-cut, pieces-free}
-use Rattle.text.proofs.Searching.{Passed}
+use Rattle.text.proofs.Searching.{Unmet}
 use Rattle.types.specs.Types.{countOf, fits}
 use Rattle.elements.specs.Data.{Value, Shape, Simple, Composite, value, unitValues}
 use Rattle.elements.specs.Rules.{firstFilled, headed, fitsSimple, fitsEach, completeBy, suitsBy}
@@ -136,7 +136,7 @@ module _ (x : Value) (c : ℕ) where
       by-length (p ∷ (q ∷ ps)) l = refl
 
 -- where a component ends
-module _ {p : Bytes} {from c i : ℕ} (w : Passed p from c i) where
+module _ {p : Bytes} {from c i : ℕ} (w : Unmet p from c i) where
   gap-is : take (i - from) (drop from p) ≡ w .gap
   gap-is = ap (take (i - from)) (w .whole) ∙ take-at (w .gap) (drop i p) (i - from) (omega (arith, w .place))
 

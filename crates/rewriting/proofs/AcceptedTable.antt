@@ -27,19 +27,19 @@ abbrev pub bytesOf : Answer → ℕ
 bytesOf (Accepted segments levels bytes) = bytes
 bytesOf (Refused number segment byte element) = 0
 
-abbrev countOf : Answer → ℕ
-countOf (Accepted segments levels bytes) = segments
-countOf (Refused number segment byte element) = 0
+abbrev segmentsTold : Answer → ℕ
+segmentsTold (Accepted segments levels bytes) = segments
+segmentsTold (Refused number segment byte element) = 0
 
 module _ (old : Separators) (s : Bytes) (before : Tables) (a l b : ℕ) (tables : Tables) (reads : Reads (strictly old) s before (Accepted a l b) tables) where
   -- the segments of the reading
-  pub record Kept : Type 0 where
+  pub record AcceptedAs : Type 0 where
     pub gs : List Placed
     pub rows : List ℕ
     pub numbering : Numbering (strictly old) s gs rows
     pub shows : Shows (strictly old) before gs rows (Accepted a l b) tables
 
-  kept : Kept
+  kept : AcceptedAs
   kept =
       let m = accepted-numbered (strictly old) s before a l b tables reads in
       record {
@@ -66,7 +66,7 @@ module _ (old : Separators) (s : Bytes) (before : Tables) (a l b : ℕ) (tables 
   named : (segmentsFrom s (tables .segments) 0 a ≡ gs) × NamesFrom s (tables .segments) 0 a
   named =
       let records = segmentRecords (strictly old) [] gs (kept .rows) in
-      subst (λ (c : ℕ). (segmentsFrom s (tables .segments) 0 c ≡ gs) × NamesFrom s (tables .segments) 0 c) (sym (ap countOf (kept .shows .answer)))
+      subst (λ (c : ℕ). (segmentsFrom s (tables .segments) 0 c ≡ gs) × NamesFrom s (tables .segments) 0 c) (sym (ap segmentsTold (kept .shows .answer)))
       (stored old s (tables .segments) 0 0 [] gs (kept .rows) s (n .end) (n .rest) (drop (length records) (before .segments)) numbered
       (ap (λ (t : Tables). t .segments) (kept .shows .tables)) refl (n .leads))
 

@@ -10,7 +10,7 @@ use lib.ListN.{length, drop}
 use Rattle.text.specs.Bytes.{Bytes}
 use Rattle.text.specs.Separators.{fitSeparators}
 use Rattle.text.specs.declared.separators.Separators.{Separators}
-use Rattle.gate.specs.Answers.{Listed as ReadingListed}
+use Rattle.gate.specs.Answers.{Listed}
 use Rattle.gate.specs.Records.{Tables}
 use Rattle.gate.specs.Reads.{Reads}
 use Rattle.gate.specs.declared.answer.Answer.{Answer}
@@ -21,7 +21,7 @@ use Rattle.gate.proofs.reading.Listing.{listed}
 use Rattle.rewriting.specs.Rewrites.{strictly, rewritten, collision, Outcome, AfterReading, Unfit, RewritesFit, Rewrites}
 use Rattle.rewriting.specs.declared.collisions.Clash.{Clash}
 use Rattle.rewriting.specs.declared.collisions.Clash.the-variants.{At, Nowhere}
-use Rattle.rewriting.specs.Conditions.{Listed}
+use Rattle.rewriting.specs.Conditions.{RewritingListed}
 
 -- some answer and output
 outcome-some : (x : Clash) (room : Bool) (accepted : Answer) (new output : Bytes) → (r : Answer) × (after : Bytes) × Outcome x room accepted new output r after
@@ -54,12 +54,12 @@ module _ (old new : Separators) (s : Bytes) (before : Tables) (output : Bytes) w
           (f .0, a .1, f .1, record { answer = a .0; reads = a .2; follows = f .2 })
 
 -- an answer of reading's list is one of rewriting's
-wider : (r : Answer) → ReadingListed r → Listed r
+wider : (r : Answer) → Listed r → RewritingListed r
 wider (Accepted a l b) x = tt
 wider (Refused n k b e) x = (omega (arith, x .0), omega (arith, x .1))
 
-outcome-listed : (x : Clash) (room : Bool) (accepted : Answer) (new output : Bytes) (r : Answer) (after : Bytes) → Listed accepted
-    → Outcome x room accepted new output r after → Listed r
+outcome-listed : (x : Clash) (room : Bool) (accepted : Answer) (new output : Bytes) (r : Answer) (after : Bytes) → RewritingListed accepted
+    → Outcome x room accepted new output r after → RewritingListed r
 unfolding Outcome
 outcome-listed (At k b e) room accepted new output r after l x =
     rw (refusal-of r 18 k b e (omega arith) (x .0)) (omega arith, omega arith)
@@ -67,20 +67,20 @@ outcome-listed Nowhere false accepted new output r after l x = rw (refusal-of r 
 outcome-listed Nowhere true accepted new output r after l x = rw (x .0) l
 
 module _ (old new : Separators) (s : Bytes) (before : Tables) (output : Bytes) (r : Answer) (tables : Tables) (after : Bytes) where
-  reading-listed : (answer : Answer) → Listed answer → AfterReading old new s answer output r after → Listed r
+  reading-listed : (answer : Answer) → RewritingListed answer → AfterReading old new s answer output r after → RewritingListed r
   reading-listed (Accepted a l b) h x =
       outcome-listed (collision old new 1 (x .gs)) (leb b (length output)) (Accepted a l b) (rewritten old new (x .gs)) output r after h (x .outcome)
   reading-listed (Refused n k b e) h x = rw (x .0) h
 
   -- every answer is one of the list
-  pub rewriting-listed : Rewrites old new s before output r tables after → Listed r
+  pub rewriting-listed : Rewrites old new s before output r tables after → RewritingListed r
   unfolding Rewrites
   rewriting-listed x = fit (fitSeparators old) (fitSeparators new) x
     where
-      unfit : (e : ℕ) → Unfit e before output r tables after → Listed r
+      unfit : (e : ℕ) → Unfit e before output r tables after → RewritingListed r
       unfit e x = rw (refusal-of r 1 0 0 e (omega arith) (x .answer)) (omega arith, omega arith)
 
-      fit : (old-fit new-fit : Bool) → RewritesFit old-fit new-fit old new s before output r tables after → Listed r
+      fit : (old-fit new-fit : Bool) → RewritesFit old-fit new-fit old new s before output r tables after → RewritingListed r
       fit false new-fit x = unfit 0 x
       fit true false x = unfit 1 x
       fit true true x = reading-listed (x .answer) (wider (x .answer) (listed (strictly old) s before (x .answer) tables (x .reads))) (x .follows)

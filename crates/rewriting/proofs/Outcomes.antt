@@ -29,18 +29,18 @@ module _ (old new : Separators) (s : Bytes) (table : List ℕ) (count levels byt
   abbrev again : Bytes
   again = rewritten old new (segmentsFrom s table 0 count)
 
-  abbrev Ends : Answer → Bytes → Type 0
-  Ends r after = OutcomeOf old new (segmentsFrom s table 0 count) (Accepted count levels bytes) bytes output r after
+  abbrev EndsSo : Answer → Bytes → Type 0
+  EndsSo r after = OutcomeOf old new (segmentsFrom s table 0 count) (Accepted count levels bytes) bytes output r after
 
-  pub collided : (segment byte element : ℕ) → At segment byte element ≡ found → Ends (Refused 18 segment byte element) output
+  pub collided : (segment byte element : ℕ) → At segment byte element ≡ found → EndsSo (Refused 18 segment byte element) output
   unfolding Outcome
   collided segment byte element e = rw (← e) (refl, refl)
 
-  pub too-short : Nowhere ≡ found → length output < bytes → Ends (Refused 19 0 0 0) output
+  pub too-short : Nowhere ≡ found → length output < bytes → EndsSo (Refused 19 0 0 0) output
   unfolding Outcome
   too-short e l = rw (← e, lt-leb bytes (length output) l) (refl, refl)
 
-  pub put : Nowhere ≡ found → bytes ≤ length output → (after : Bytes) → after ≡ putAt 0 again output → Ends (Accepted count levels bytes) after
+  pub put : Nowhere ≡ found → bytes ≤ length output → (after : Bytes) → after ≡ putAt 0 again output → EndsSo (Accepted count levels bytes) after
   unfolding Outcome
   put e l after w =
       let same : 0 + length again ≡ length again = omega arith in

@@ -53,7 +53,7 @@ module _ (old new : Separators) (new-fit : Fitted new) where
   again gs = map renewed gs
 
   -- what the segments have where they do not collide
-  pub record Keeps (g : Placed) : Type 0 where
+  pub record StaysSame (g : Placed) : Type 0 where
     pub view : viewOf new (written new (viewOf old (g .segment))) ≡ viewOf old (g .segment)
     pub cut : (rest : Bytes) → cutBy (strictly new) (written new (viewOf old (g .segment)) ++ new .terminator ∷ rest)
         ≡ Whole (written new (viewOf old (g .segment))) rest
@@ -61,7 +61,7 @@ module _ (old new : Separators) (new-fit : Fitted new) where
 
   abbrev pub AllKeep : List Placed → Type 0
   AllKeep [] = Unit {0}
-  AllKeep (g ∷ gs) = Keeps g × AllKeep gs
+  AllKeep (g ∷ gs) = StaysSame g × AllKeep gs
 
   pub all-keep : (n at : ℕ) (s : Bytes) (gs : List Placed) (end : ℕ) (rest : Bytes)
       → Leads (cutBy (strictly old)) (skipBy (strictly old)) at s gs end rest → collision old new n gs ≡ Nowhere → AllKeep gs

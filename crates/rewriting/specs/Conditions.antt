@@ -18,9 +18,9 @@ use Rattle.rewriting.specs.Rewrites.{strictly, Rewrites}
 
 -- Condition 1
 -- the list of rewriting's answers: acceptance, and refusals 1 to 19
-abbrev pub Listed : Answer → Type 0
-Listed (Accepted segments levels bytes) = Unit {0}
-Listed (Refused number segment byte element) = (1 ≤ number) × (number ≤ 19)
+abbrev pub RewritingListed : Answer → Type 0
+RewritingListed (Accepted segments levels bytes) = Unit {0}
+RewritingListed (Refused number segment byte element) = (1 ≤ number) × (number ≤ 19)
 
 -- every input, every choice of separators, every table size and every output's length
 pub record Condition1Rewriting : Type 0 where
@@ -29,7 +29,7 @@ pub record Condition1Rewriting : Type 0 where
       → (r : Answer) × (tables : Tables) × (after : Bytes) × Rewrites old new s before output r tables after
   -- from the list,
   pub listed : (old new : Separators) (s : Bytes) (before : Tables) (output : Bytes) (r : Answer) (tables : Tables) (after : Bytes)
-      → Rewrites old new s before output r tables after → Listed r
+      → Rewrites old new s before output r tables after → RewritingListed r
   -- and its numbers, and what it leaves in the lent tables and the lent output, are exactly those
   pub once : (old new : Separators) (s : Bytes) (before : Tables) (output : Bytes) (r r′ : Answer) (tables tables′ : Tables) (after after′ : Bytes)
       → Rewrites old new s before output r tables after → Rewrites old new s before output r′ tables′ after′

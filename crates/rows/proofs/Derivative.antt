@@ -15,9 +15,9 @@ use Rattle.rows.specs.Rows.{Items, end, row, loop, Allowed, Word, done, 
 use Rattle.rows.proofs.NextRows.{Edge, again, rowEdge, loopEdge, firsts, nexts}
 
 -- words of the row lists, one after the other
-abbrev pub Reads : List Items → List ℕ → Type 0
-Reads [] w = w ≡ []
-Reads (i ∷ is) w = (u : List ℕ) × (v : List ℕ) × Word i u × Reads is v × (u ++ v ≡ w)
+abbrev pub Spells : List Items → List ℕ → Type 0
+Spells [] w = w ≡ []
+Spells (i ∷ is) w = (u : List ℕ) × (v : List ℕ) × Word i u × Spells is v × (u ++ v ≡ w)
 
 -- one of the edges is such
 abbrev pub OneOf : (Edge → Type 0) → List Edge → Type 0
@@ -26,7 +26,7 @@ OneOf P (e ∷ es) = P e ⊎ OneOf P es
 
 -- the edge is row x, and what is left after it reads w
 abbrev pub Begins : ℕ → List ℕ → Edge → Type 0
-Begins x w e = (e .number ≡ x) × Reads (e .left) w
+Begins x w e = (e .number ≡ x) × Spells (e .left) w
 
 -- any number of occurrences of a free row
 any-count : (k : ℕ) → Allowed 0 false k
@@ -53,8 +53,8 @@ loop-first : (P : Edge → Type 0) (n t : ℕ) (b : Bool) (body rest : Items) (i
 loop-first P n t true body rest is more p = inl p
 loop-first P n t false body rest is more p = inl p
 
-module _ (is : List Items) (more : List Edge) (v : List ℕ) (q : Reads is v) (x : ℕ) (w : List ℕ)
-    (later : Reads is (x ∷ w) → OneOf (Begins x w) more) where
+module _ (is : List Items) (more : List Edge) (v : List ℕ) (q : Spells is v) (x : ℕ) (w : List ℕ)
+    (later : Spells is (x ∷ w) → OneOf (Begins x w) more) where
   word-begins : {i : Items} {u : List ℕ} → Word i u → u ++ v ≡ x ∷ w → OneOf (Begins x w) (firsts i is more)
   word-begins done e = later (rw e at q)
   word-begins (times {mandatory = true} zero a p) e = absurd (not-suc-le-zero (a .present tt))
@@ -68,7 +68,7 @@ module _ (is : List Items) (more : List Edge) (v : List ℕ) (q : Reads is v) (x
       (head-eq-of-cons-eq e, (u, w₀ ++ v, p, (w₀, v, p′, q, refl), sym (append-assoc u w₀ v) ∙ tail-eq-of-cons-eq e))
 
 -- what is read begins with one of the next rows
-pub reads-begins : (s : List Items) (x : ℕ) (w : List ℕ) → Reads s (x ∷ w) → OneOf (Begins x w) (nexts s)
+pub reads-begins : (s : List Items) (x : ℕ) (w : List ℕ) → Spells s (x ∷ w) → OneOf (Begins x w) (nexts s)
 reads-begins [] x w e = absurd (nil≢cons (sym e))
 reads-begins (i ∷ is) x w (u, v, p, q, e) = word-begins is (nexts is) v q x w (reads-begins is x w) p e
 
@@ -100,17 +100,17 @@ one-more n t (suc (suc m)) b rest u p =
 no-time : (n t m : ℕ) {rest : Items} {u : List ℕ} → Word rest u → Word (row n t m false rest) u
 no-time n t m p = times 0 (record { within = λ _. zero-le; present = λ t. absurd t }) p
 
-module _ (is : List Items) (more : List Edge) (x : ℕ) (w : List ℕ) (later : OneOf (Begins x w) more → Reads is (x ∷ w)) where
-  row-reads : (n t m : ℕ) (b : Bool) (rest : Items) → Begins x w (rowEdge n t m rest is) → Reads (row n t m b rest ∷ is) (x ∷ w)
+module _ (is : List Items) (more : List Edge) (x : ℕ) (w : List ℕ) (later : OneOf (Begins x w) more → Spells is (x ∷ w)) where
+  row-reads : (n t m : ℕ) (b : Bool) (rest : Items) → Begins x w (rowEdge n t m rest is) → Spells (row n t m b rest ∷ is) (x ∷ w)
   row-reads n t m b rest (e, (u, v, p, q, f)) = (n ∷ u, v, one-more n t m b rest u p, q, λ i. e i ∷ f i)
 
   loop-reads : (n t : ℕ) (b : Bool) (body rest : Items) → Begins x w (loopEdge n t body rest is)
-      → Reads (loop n t b body rest ∷ is) (x ∷ w)
+      → Spells (loop n t b body rest ∷ is) (x ∷ w)
   loop-reads n t b body rest (e, (u, v, p, (u′, v′, p′, q, f′), f)) =
       let g : u ++ u′ ++ v′ ≡ w = rw (append-assoc, f′) f in
       (n ∷ (u ++ u′), v′, pass p p′, q, λ i. e i ∷ g i)
 
-  firsts-read : (i : Items) → OneOf (Begins x w) (firsts i is more) → Reads (i ∷ is) (x ∷ w)
+  firsts-read : (i : Items) → OneOf (Begins x w) (firsts i is more) → Spells (i ∷ is) (x ∷ w)
   firsts-read end h = ([], x ∷ w, done, later h, refl)
   firsts-read (row n t m true rest) (inl h) = row-reads n t m true rest h
   firsts-read (row n t m false rest) (inl h) = row-reads n t m false rest h
@@ -124,7 +124,7 @@ module _ (is : List Items) (more : List Edge) (x : ℕ) (w : List ℕ) (later : 
       (r .0, r .1, skip (r .2), r .3, r .4)
 
 -- what begins with one of the next rows is read
-pub begins-reads : (s : List Items) (x : ℕ) (w : List ℕ) → OneOf (Begins x w) (nexts s) → Reads s (x ∷ w)
+pub begins-reads : (s : List Items) (x : ℕ) (w : List ℕ) → OneOf (Begins x w) (nexts s) → Spells s (x ∷ w)
 begins-reads [] x w h = absurd h
 begins-reads (i ∷ is) x w h = firsts-read is (nexts is) x w (begins-reads is x w) i h
 
@@ -163,13 +163,13 @@ right-nil [] v e = e
 right-nil (a ∷ u) v e = absurd (nil≢cons (sym e))
 
 -- row lists read nothing exactly if they may stop
-pub nil-idles : (s : List Items) → Reads s [] → T (idles s)
+pub nil-idles : (s : List Items) → Spells s [] → T (idles s)
 nil-idles [] e = tt
 nil-idles (i ∷ is) (u, v, p, q, e) =
     both (idle i) (idles is) (word-idle p (left-nil u v e)) (nil-idles is (rw (right-nil u v e) at q))
 
 -- and back
-pub idles-nil : (s : List Items) → T (idles s) → Reads s []
+pub idles-nil : (s : List Items) → T (idles s) → Spells s []
 idles-nil [] h = refl
 idles-nil (i ∷ is) h =
     ([], [], idle-word i (first-of (idle i) (idles is) h), idles-nil is (second-of (idle i) (idles is) h), refl)
@@ -187,7 +187,7 @@ some-word (loop n t true body rest) =
 some-word (loop n t false body rest) = let r = some-word rest in (r .0, skip (r .1))
 
 -- row lists read something
-pub reads-some : (s : List Items) → (w : List ℕ) × Reads s w
+pub reads-some : (s : List Items) → (w : List ℕ) × Spells s w
 reads-some [] = ([], refl)
 reads-some (i ∷ is) =
     let u = some-word i in

@@ -15,7 +15,7 @@ use Rattle.rows.specs.Rows.{Word, Viable, list842}
 use Rattle.rows.specs.RowList.{maxOf}
 use Rattle.rows.proofs.NextRows.{Edge, nexts, after, edges842}
 use Rattle.rows.specs.Following.{lastOf, twice}
-use Rattle.rows.proofs.Derivative.{Reads, OneOf, Begins, reads-begins, begins-reads, nil-idles, idles-nil, reads-some}
+use Rattle.rows.proofs.Derivative.{Spells, OneOf, Begins, reads-begins, begins-reads, nil-idles, idles-nil, reads-some}
 use Rattle.rows.proofs.Followers.{numbers, lefts, to, state, follow, followers, without}
 use Rattle.rows.proofs.Followers.{lefts-to, idle-79, follower-range, first-follow, again-follow, start-follow}
 
@@ -25,7 +25,7 @@ NoThird w = (a b : List ℕ) (r : ℕ) → maxOf r ≡ 2 → w ≡ a ++ (r ∷ r
 
 -- one step, from a state to a state
 begins-state : (r x : ℕ) (w : List ℕ) (es : List Edge) → lefts es ≡ map (to r) es → OneOf (Begins x w) es
-    → T (among (numbers es) x) × Reads (state x (eqb x r)) w
+    → T (among (numbers es) x) × Spells (state x (eqb x r)) w
 unfolding lefts to
 begins-state r x w [] e h = absurd h
 begins-state r x w (y ∷ es) e (inl (p, q)) =
@@ -36,7 +36,7 @@ begins-state r x w (y ∷ es) e (inr h) =
     (or-right (eqb x (y .number)) _ (i .0), i .1)
 
 state-begins : (r x : ℕ) (w : List ℕ) (es : List Edge) → lefts es ≡ map (to r) es → T (among (numbers es) x)
-    → Reads (state x (eqb x r)) w → OneOf (Begins x w) es
+    → Spells (state x (eqb x r)) w → OneOf (Begins x w) es
 unfolding lefts to
 state-begins r x w [] e m q = absurd m
 state-begins r x w (y ∷ es) e m q =
@@ -53,8 +53,8 @@ unfoldable pub Runs : ℕ → Bool → List ℕ → Type 0
 Runs r c [] = Unit {0}
 Runs r c (x ∷ w) = T (among (followers r c) x) × Runs x (eqb x r) w
 
-reads-runs : (w : List ℕ) (r : ℕ) (c : Bool) (v : List ℕ) → Reads (state r c) (w ++ v)
-    → Runs r c w × Reads (state (lastOf r w) (twice r c w)) v
+reads-runs : (w : List ℕ) (r : ℕ) (c : Bool) (v : List ℕ) → Spells (state r c) (w ++ v)
+    → Runs r c w × Spells (state (lastOf r w) (twice r c w)) v
 unfolding Runs followers
 reads-runs [] r c v h = (tt, h)
 reads-runs (x ∷ w) r c v h =
@@ -62,8 +62,8 @@ reads-runs (x ∷ w) r c v h =
     let i = reads-runs w x (eqb x r) v (s .1) in
     ((s .0, i .0), i .1)
 
-runs-reads : (w : List ℕ) (r : ℕ) (c : Bool) (v : List ℕ) → Runs r c w → Reads (state (lastOf r w) (twice r c w)) v
-    → Reads (state r c) (w ++ v)
+runs-reads : (w : List ℕ) (r : ℕ) (c : Bool) (v : List ℕ) → Runs r c w → Spells (state (lastOf r w) (twice r c w)) v
+    → Spells (state r c) (w ++ v)
 unfolding Runs followers
 runs-reads [] r c v s h = h
 runs-reads (x ∷ w) r c v s h =
@@ -71,11 +71,11 @@ runs-reads (x ∷ w) r c v s h =
     (state-begins r x (w ++ v) (nexts (state r c)) (lefts-to c r) (s .0) (runs-reads w x (eqb x r) v (s .1) h))
 
 -- the start's state is the whole list
-word-reads : (w : List ℕ) → Word list842 w → Reads (state 0 false) w
+word-reads : (w : List ℕ) → Word list842 w → Spells (state 0 false) w
 unfolding state after edges842
 word-reads w p = (w, [], p, refl, append-nil w)
 
-reads-word : (w : List ℕ) → Reads (state 0 false) w → Word list842 w
+reads-word : (w : List ℕ) → Spells (state 0 false) w → Word list842 w
 unfolding state after edges842
 reads-word w (u, v, p, q, e) =
     let f : u ≡ w = sym (append-nil u) ∙ (rw q at e) in

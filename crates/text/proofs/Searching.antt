@@ -11,17 +11,17 @@ use Rattle.text.specs.Bytes.{Bytes}
 use Rattle.text.specs.internal.Search.{Free, FirstAt}
 use Rattle.text.proofs.Pieces.{free-snoc}
 
-pub record Passed (s : Bytes) (from byte i : ℕ) : Type 0 where
+pub record Unmet (s : Bytes) (from byte i : ℕ) : Type 0 where
   pub gap : Bytes
   pub whole : drop from s ≡ gap ++ drop i s
   pub free : Free byte gap
   pub place : i ≡ from + length gap
 
-pub passed-none : (s : Bytes) (from byte : ℕ) → Passed s from byte from
+pub passed-none : (s : Bytes) (from byte : ℕ) → Unmet s from byte from
 passed-none s from byte = record { gap = []; whole = refl; free = tt; place = omega arith }
 
-module _ {s : Bytes} {from byte i : ℕ} (p : Passed s from byte i) where
-  pub passed-more : i < length s → (getD s i 0 ≡ byte → ⊥) → Passed s from byte (i + 1)
+module _ {s : Bytes} {from byte i : ℕ} (p : Unmet s from byte i) where
+  pub passed-more : i < length s → (getD s i 0 ≡ byte → ⊥) → Unmet s from byte (i + 1)
   passed-more l h = record {
     gap = p .gap ++ (getD s i 0 ∷ []);
     whole = rw (append-assoc, add-one, ← drop-cons s i 0 l) (p .whole);

@@ -36,14 +36,14 @@ pub figured-none : (s : Bytes) (from : ℕ) → Figured s from 0 0
 figured-none s from = record { so-far = refl; small = omega arith }
 
 -- the next digit's place is inside, it is a digit, and the number so far leaves room for it
-pub record Room (s : Bytes) (from i n : ℕ) : Type 0 where
+pub record FiguresFit (s : Bytes) (from i n : ℕ) : Type 0 where
   pub inside : from + i < length s
   pub low : 48 ≤ getD s (from + i) 0
   pub high : getD s (from + i) 0 ≤ 57
   pub small : n < 1000000000
 
 module _ {s : Bytes} {from count i n : ℕ} (w : Written s from count) (f : Figured s from i n) (l : i < count) where
-  pub room : Room s from i n
+  pub room : FiguresFit s from i n
   room =
       let inside : from + i < length s = omega (arith, w .inside) in
       let d = digit-bounds (getD s (from + i) 0) (test-passes _ (every-at isDigit s 0 (rw (w .digits) tt) (from + i) inside)) in

@@ -18,13 +18,14 @@ use Rattle.text.proofs.Sames.{same-equal}
 use Rattle.text.proofs.Everys.{every-weaker}
 use Rattle.rows.specs.Tags.{tagNumber}
 use Rattle.types.specs.Types.{isId}
+use Rattle.types.specs.internal.Quick.{isIdByte}
 use Rattle.elements.specs.Checks.{Keeps}
 use Rattle.levels.specs.Profile.{codeOf, mayStandAlone, mayBeMarked, mayHang}
 use Rattle.levels.specs.Levels.{claimOf, Level, called, levelAt, levelOf}
 use Rattle.levels.specs.Rules.{levelChecks}
 use Rattle.gate.specs.Segments.{tagIn, isHL, levelsIn}
 use Rattle.gate.proofs.continuing.FreshNames.{Differs, fresh}
-use Rattle.gate.proofs.continuing.AddedSegments.{levels, ruling, isIdByte, Text, id-bytes-text, hlView}
+use Rattle.gate.proofs.continuing.AddedSegments.{levels, ruling, Text, id-bytes-text, hlView}
 use Rattle.gate.proofs.continuing.LevelNames.{levels-hl, levels-other, level-earlier, level-latest, served}
 
 -- there are no more levels than segments

@@ -17,6 +17,7 @@ use Rattle.text.proofs.Everys.{every-weaker, every-anywhere}
 use Rattle.text.proofs.View.{unseparated, wellFormed}
 use Rattle.rows.specs.Tags.{tag, tagNumber}
 use Rattle.types.specs.Types.{isId, isNumber, fits}
+use Rattle.types.specs.internal.Quick.{isIdByte}
 use Rattle.elements.specs.Data.{Rules, rulesHL, rulesSE}
 use Rattle.elements.specs.Checks.{Check, each, Keeps}
 use Rattle.elements.specs.Rules.{dataPiece, byteChecks, endChecks, tooManyChecks, missingChecks, unfitChecks, noteChecks, checksBy, ruledChecks, presentAt}
@@ -40,10 +41,6 @@ ruling = nonconformance .levels
 -- a byte is no separator
 abbrev pub noSeparator : Separators → ℕ → Bool
 noSeparator q b = not (isSeparator q b)
-
--- capitals and digits
-abbrev pub isIdByte : ℕ → Bool
-isIdByte b = isCapital b || isDigit b
 
 -- text of a length from least to most, of printable bytes that are no separators
 pub record Text (q : Separators) (least most : ℕ) (s : Bytes) : Type 0 where

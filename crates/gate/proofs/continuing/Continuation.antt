@@ -131,12 +131,12 @@ module _ (q : Separators) (fit : Fitted q) where
 
   -- segments that end with an HL, of whose levels those above n are served, have an ending; each level may add a segment, and 9,000,000 is
   -- far above what is asked
-  abbrev Ends : ℕ → Type 0
-  Ends n = (h : List View) (w : List ℕ) → Stands q h w → lastOf 0 w ≡ 18 → n ≤ length (levels h)
+  abbrev EndsUpTo : ℕ → Type 0
+  EndsUpTo n = (h : List View) (w : List ℕ) → Stands q h w → lastOf 0 w ≡ 18 → n ≤ length (levels h)
       → ServedAbove n (levels h) → length h + n ≤ 9000000 → Ending q h w
 
   -- after a child of level n + 1 that level is served too
-  after-child : (n : ℕ) → Ends n → (h : List View) (w : List ℕ) (id parent code : Bytes) → 1 ≤ length parent
+  after-child : (n : ℕ) → EndsUpTo n → (h : List View) (w : List ℕ) (id parent code : Bytes) → 1 ≤ length parent
       → called parent (levels h) ≡ suc n → suc n ≤ length (levels h)
       → ServedAbove (suc n) (levels h) → length h + suc n ≤ 9000000
       → Stands q (hlView id parent code ∷ h) (w ++ (18 ∷ [])) → Ending q (hlView id parent code ∷ h) (w ++ (18 ∷ []))
@@ -153,7 +153,7 @@ module _ (q : Separators) (fit : Fitted q) where
       (omega arith)
 
   -- level n + 1, marked 1, gets a child
-  child-ends : (n : ℕ) → Ends n → (h : List View) (w : List ℕ) → Stands q h w → lastOf 0 w ≡ 18 → suc n ≤ length (levels h)
+  child-ends : (n : ℕ) → EndsUpTo n → (h : List View) (w : List ℕ) → Stands q h w → lastOf 0 w ≡ 18 → suc n ≤ length (levels h)
       → ServedAbove (suc n) (levels h) → length h + suc n ≤ 9000000
       → T (same (levelAt (suc n) (levels h) .mark) (bytes "1")) → Ending q h w
   child-ends n ends h w s last l above small marked =
@@ -169,7 +169,7 @@ module _ (q : Separators) (fit : Fitted q) where
       (after-child n ends h w (new .name) parent (c .text) (p .long) (x .found) l above small)
 
   -- level n + 1 gets a child if it is marked 1
-  level-ends : (n : ℕ) → Ends n → Ends (suc n)
+  level-ends : (n : ℕ) → EndsUpTo n → EndsUpTo (suc n)
   level-ends n ends h w s last l above small = go (same (levelAt (suc n) (levels h) .mark) (bytes "1")) refl
     where
       go : (b : Bool) → same (levelAt (suc n) (levels h) .mark) (bytes "1") ≡ b → Ending q h w
@@ -177,7 +177,7 @@ module _ (q : Separators) (fit : Fitted q) where
       go false e = ends h w s last (omega arith) (above-served n (levels h) (rw e tt) above) (omega arith)
 
   -- every level marked 1 gets a child, and then the SE comes
-  levels-end : (n : ℕ) → Ends n
+  levels-end : (n : ℕ) → EndsUpTo n
   levels-end zero h w s last l above small = se-ends h w s last (served-filled (levels h) above) (omega arith)
   levels-end (suc n) h w s last l above small = level-ends n (levels-end n) h w s last l above small
 

@@ -33,30 +33,30 @@ use Rattle.gate.proofs.reading.Once.{Fails, refused-fails}
 use Rattle.levels.specs.Profile.{codeOf}
 
 -- every test of the list is numbered 4 to 16
-abbrev Numbered : List Check → Type 0
-Numbered [] = Unit {0}
-Numbered (c ∷ cs) = Fault (c .number) × Numbered cs
+abbrev Faults : List Check → Type 0
+Faults [] = Unit {0}
+Faults (c ∷ cs) = Fault (c .number) × Faults cs
 
-both : (a b : List Check) → Numbered a → Numbered b → Numbered (a ++ b)
+both : (a b : List Check) → Faults a → Faults b → Faults (a ++ b)
 both [] b x y = y
 both (c ∷ a) b x y = (x .0, both a b (x .1) y)
 
-all : (number a n : ℕ) (test : ℕ → Bool) → Fault number → Numbered (each number a n test)
+all : (number a n : ℕ) (test : ℕ → Bool) → Fault number → Faults (each number a n test)
 all number a zero test f = tt
 all number a (suc n) test f = (f, all number (suc a) n test f)
 
-either : (b : Bool) (cs : List Check) → Numbered cs → Numbered (cond b cs [])
+either : (b : Bool) (cs : List Check) → Faults cs → Faults (cond b cs [])
 either true cs x = x
 either false cs x = tt
 
 fault : (n : ℕ) → 4 ≤ n → n ≤ 16 → Fault n
 fault n a b = record { from = a; upto = b }
 
-notes-numbered : (ns : List Note) (v : View) → Numbered (noteChecks ns (presentAt v))
+notes-numbered : (ns : List Note) (v : View) → Faults (noteChecks ns (presentAt v))
 notes-numbered [] v = tt
 notes-numbered (n ∷ ns) v = (fault 11 (omega arith) (omega arith), notes-numbered ns v)
 
-by-numbered : (r : Rules) (v : View) → Numbered (checksBy r v)
+by-numbered : (r : Rules) (v : View) → Faults (checksBy r v)
 by-numbered r v =
     both (tooManyChecks r v ++ missingChecks r v ++ unfitChecks r v) (noteChecks (r .notes) (presentAt v))
     (both (tooManyChecks r v ++ missingChecks r v) (unfitChecks r v)
@@ -68,16 +68,16 @@ by-numbered r v =
     (fault 10 (omega arith) (omega arith))))
     (notes-numbered (r .notes) v)
 
-among-numbered : (xs : List (ℕ × Rules)) (tag : ℕ) (v : View) → Numbered (checksAmong xs tag v)
+among-numbered : (xs : List (ℕ × Rules)) (tag : ℕ) (v : View) → Faults (checksAmong xs tag v)
 among-numbered [] tag v = tt
 among-numbered (x ∷ xs) tag v = by (eqb (x .0) tag) (among-numbered xs tag v)
   where
-    by : (b : Bool) → Numbered (checksAmong xs tag v) → Numbered (cond b (checksBy (x .1) v) (checksAmong xs tag v))
+    by : (b : Bool) → Faults (checksAmong xs tag v) → Faults (cond b (checksBy (x .1) v) (checksAmong xs tag v))
     by true later = by-numbered (x .1) v
     by false later = later
 
 module _ (profile : Profile) (w : List ℕ) (h : List View) (v : View) where
-  early-numbered : Numbered (early v)
+  early-numbered : Faults (early v)
   unfolding byteChecks tagChecks endChecks
   early-numbered =
       both (byteChecks v ++ tagChecks v) (endChecks v)
@@ -86,7 +86,7 @@ module _ (profile : Profile) (w : List ℕ) (h : List View) (v : View) where
 
   -- 14 and 15 of a level
   levels-numbered : (orphan : Bool) (code : ℕ) (mark : Bytes) (parent : ℕ) (shut : Bool)
-      → Numbered (cond orphan (rootChecks (profile .levels) code mark) (childChecks (profile .levels) parent shut code mark))
+      → Faults (cond orphan (rootChecks (profile .levels) code mark) (childChecks (profile .levels) parent shut code mark))
   levels-numbered true code mark parent shut = (fault 14 (omega arith) (omega arith), (fault 15 (omega arith) (omega arith), tt))
   levels-numbered false code mark parent shut = (
     fault 14 (omega arith) (omega arith),
@@ -97,7 +97,7 @@ module _ (profile : Profile) (w : List ℕ) (h : List View) (v : View) where
   abbrev parent : Level
   parent = levelAt (parentOf (claimOf v) (levelsIn profile h)) (levelsIn profile h)
 
-  late-numbered : Numbered (late profile h v)
+  late-numbered : Faults (late profile h v)
   unfolding ruledChecks hlChecks seChecks
   late-numbered =
       both (ruledChecks (profile .elements) (tagIn v) v ++ hlChecks profile h v) (seChecks profile h v)
@@ -113,12 +113,12 @@ module _ (profile : Profile) (w : List ℕ) (h : List View) (v : View) where
       (fault 16 (omega arith) (omega arith), (fault 16 (omega arith) (omega arith), (fault 15 (omega arith) (omega arith), tt))))
 
   -- the number of the first broken rule is one of the rules'
-  first-numbered : (cs : List Check) (rest : List Rule) (n e : ℕ) → Numbered cs → (FirstBroken rest n e → Fault n) → FirstBroken (asRules cs ++ rest) n e → Fault n
+  first-numbered : (cs : List Check) (rest : List Rule) (n e : ℕ) → Faults cs → (FirstBroken rest n e → Fault n) → FirstBroken (asRules cs ++ rest) n e → Fault n
   first-numbered [] rest n e x later f = later f
   first-numbered (c ∷ cs) rest n e x later (inl f) = subst Fault (sym (f .1)) (x .0)
   first-numbered (c ∷ cs) rest n e x later (inr f) = first-numbered cs rest n e (x .1) later (f .1)
 
-  last-numbered : (cs : List Check) (n e : ℕ) → Numbered cs → FirstBroken (asRules cs) n e → Fault n
+  last-numbered : (cs : List Check) (n e : ℕ) → Faults cs → FirstBroken (asRules cs) n e → Fault n
   last-numbered [] n e x f = absurd f
   last-numbered (c ∷ cs) n e x (inl f) = subst Fault (sym (f .1)) (x .0)
   last-numbered (c ∷ cs) n e x (inr f) = last-numbered cs n e (x .1) (f .1)

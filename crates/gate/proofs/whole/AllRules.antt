@@ -70,7 +70,7 @@ module _ (profile : Profile) where
   )
 
   -- the closing rules over all segments, with the test of marks
-  record Ends (vs : List View) : Type 0 where
+  record ClosesWell (vs : List View) : Type 0 where
     count : valueOf (textOf (elementOf (lastFrom [] vs) 1)) ≡ length vs
     control : textOf (elementOf (lastFrom [] vs) 2) ≡ textOf (elementOf (firstOf vs) 2)
     marks : T (filled (levelsOf (profile .levels) (claims (onto [] vs))))
@@ -85,7 +85,7 @@ module _ (profile : Profile) where
     controlOf v = textOf (elementOf v 2)
 
     -- the tests of the last segment after those before it say them
-    keeps-ends : Keeps (closingChecks profile (before [] vs) (lastFrom [] vs)) → Ends vs
+    keeps-ends : Keeps (closingChecks profile (before [] vs) (lastFrom [] vs)) → ClosesWell vs
     unfolding levelsIn
     keeps-ends (count, (control, (marks, _))) = record {
       count = eqb→eq counted (suc (length (before [] vs))) count ∙ before-count vs long;
@@ -94,7 +94,7 @@ module _ (profile : Profile) where
     }
 
     -- and back
-    ends-keeps : Ends vs → Keeps (closingChecks profile (before [] vs) (lastFrom [] vs))
+    ends-keeps : ClosesWell vs → Keeps (closingChecks profile (before [] vs) (lastFrom [] vs))
     unfolding levelsIn
     ends-keeps e =
         let count = equal-eqb counted (suc (length (before [] vs))) (e .count ∙ sym (before-count vs long)) in
@@ -108,7 +108,7 @@ module _ (profile : Profile) where
       let closes = word-closes vs rows (m .word) (m .tags) in
       let kept = meet-kept (profile .levels) (hls vs) (claims (onto [] vs)) (divided vs .tells) (claims-count vs) (m .levels) in
       let marks = meet-filled (profile .levels) (hls vs) (claims (onto [] vs)) (divided vs .tells) (claims-count vs) (m .levels) in
-      let ends : Ends vs = record { count = m .count; control = m .control; marks = marks } in
+      let ends : ClosesWell vs = record { count = m .count; control = m .control; marks = marks } in
       record {
         word = m .word;
         tags = m .tags;

@@ -23,7 +23,7 @@ use Rattle.reading.specs.internal.Cutting.{layoutOf, BadSegment, CutAs, 
 use Rattle.elements.proofs.PresentPieces.{some as filled}
 use Rattle.reading.specs.declared.cutting.Next.{Next}
 use Rattle.reading.specs.declared.cutting.Next.the-variants.{Open, Bad, Segment}
-use Rattle.reading.proofs.cut.SpecialBytes.{belongs, Allowed, refused}
+use Rattle.reading.proofs.cut.SpecialBytes.{belongs, Permitted, refused}
 use Rattle.reading.proofs.cut.Queue.{All, left-none, used-up}
 use Rattle.reading.proofs.cut.Bytes.{every-middle, all-every, data-kept, data-told}
 use Rattle.reading.proofs.cut.Ends.{Ended, ends-kept, ends-told}
@@ -81,8 +81,8 @@ module _ {q : Separators} {table : List Bool} {s : Bytes} {at : ℕ} {queue star
         ∙ ap (λ (l : List Bytes). w .gone ++ l) (pieces-free (q .element) final (piece-free w some))
 
     -- they may stand in a segment
-    passed-good : All (Allowed q) passed
-    passed-good = all-append (Allowed q) (closed (q .element) (w .gone)) final (w .good-gone) (piece-good w some)
+    passed-good : All (Permitted q) passed
+    passed-good = all-append (Permitted q) (closed (q .element) (w .gone)) final (w .good-gone) (piece-good w some)
 
     -- they are free of the terminator
     passed-free : Free (q .terminator) passed
@@ -136,7 +136,7 @@ module _ {q : Separators} {table : List Bool} {s : Bytes} {at : ℕ} {queue star
       whole = rw (← byte-there w some (q .terminator) e) passed-whole;
       free = passed-free;
       place = passed-long;
-      data-only = data-kept q passed (all-every (Allowed q) (belongs q) passed (λ b h. h .1) passed-good);
+      data-only = data-kept q passed (all-every (Permitted q) (belongs q) passed (λ b h. h .1) passed-good);
       elements = ap length passed-pieces ∙ simp length-append (omega (arith, w .count-is));
       begins = passed-begins;
       room = w .room;

@@ -105,8 +105,8 @@ abbrev pub belongs : Separators → ℕ → Bool
 belongs q b = (printable b || eqb b (q .component)) || eqb b (q .element)
 
 -- it does, and is no terminator
-abbrev pub Allowed : Separators → ℕ → Type 0
-Allowed q b = (b ≡ q .terminator → ⊥) × T (belongs q b)
+abbrev pub Permitted : Separators → ℕ → Type 0
+Permitted q b = (b ≡ q .terminator → ⊥) × T (belongs q b)
 
 -- none of the tests for a special byte holds
 record None (t c e p : Bool) : Type 0 where
@@ -137,7 +137,7 @@ module _ (q : Separators) (b : ℕ) (h : special q b ≡ false) where
   no-element = eqb-false b (q .element) (allowed .element)
 
   -- and may stand in a segment
-  pub data-allowed : Allowed q b
+  pub data-allowed : Permitted q b
   data-allowed = (
     eqb-false b (q .terminator) (allowed .terminator),
     or-left (printable b || eqb b (q .component)) (eqb b (q .element)) (or-left (printable b) (eqb b (q .component)) (rw (allowed .printed) tt)),
@@ -145,7 +145,7 @@ module _ (q : Separators) (b : ℕ) (h : special q b ≡ false) where
 
 module _ (q : Separators) (a : Fitted q) where
   -- the component separator may stand in a segment
-  pub component-allowed : Allowed q (q .component)
+  pub component-allowed : Permitted q (q .component)
   component-allowed = (
     a .component-terminator,
     or-left (printable (q .component) || eqb (q .component) (q .component)) (eqb (q .component) (q .element))
@@ -153,7 +153,7 @@ module _ (q : Separators) (a : Fitted q) where
   )
 
   -- and so may the element separator
-  pub element-allowed : Allowed q (q .element)
+  pub element-allowed : Permitted q (q .element)
   element-allowed = (
     a .element-terminator,
     or-right (printable (q .element) || eqb (q .element) (q .component)) (eqb (q .element) (q .element))

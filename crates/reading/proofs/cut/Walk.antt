@@ -21,7 +21,7 @@ use Rattle.text.specs.declared.separators.Separators.{Separators}
 use Rattle.text.proofs.View.{free-append}
 use Rattle.reading.specs.internal.SpecialBytes.{SpecialTable}
 use Rattle.reading.specs.internal.Queue.{Indexed, left, Ready}
-use Rattle.reading.proofs.cut.SpecialBytes.{Allowed, no-component, no-element, data-allowed, component-allowed, element-allowed}
+use Rattle.reading.proofs.cut.SpecialBytes.{Permitted, no-component, no-element, data-allowed, component-allowed, element-allowed}
 use Rattle.reading.proofs.cut.Queue.{All, Data, Front, front, left-cons, left-none, refilled}
 use Rattle.reading.proofs.cut.Ends.{endsIn, well, ends-snoc, ends-gap, ended-more}
 
@@ -78,8 +78,8 @@ pub record Walk (q : Separators) (table : List Bool) (s : Bytes) (at : ℕ) (que
   pub free : Free (q .element) begun
   pub start-is : start ≡ at + length (closed (q .element) gone)
   pub place : here ≡ start + length begun
-  pub good-gone : All (Allowed q) (closed (q .element) gone)
-  pub good-begun : All (Allowed q) begun
+  pub good-gone : All (Permitted q) (closed (q .element) gone)
+  pub good-begun : All (Permitted q) begun
   pub count-is : length gone ≡ count
   pub begins : (k : ℕ) → k ≤ 32 → k ≤ count → getD starts k 0 ≡ at + length (closed (q .element) (take k gone))
   pub room : length starts ≡ 33
@@ -120,13 +120,13 @@ walk-none {at = at} starts right differ r h = record {
 }
 
 -- what may stand in a segment is free of the terminator
-pub good-free : (q : Separators) (x : Bytes) → All (Allowed q) x → Free (q .terminator) x
-good-free q x u = all-free (Allowed q) (q .terminator) x (λ b h. h .0) u
+pub good-free : (q : Separators) (x : Bytes) → All (Permitted q) x → Free (q .terminator) x
+good-free q x u = all-free (Permitted q) (q .terminator) x (λ b h. h .0) u
 
 module _ {q : Separators} {table : List Bool} (right : SpecialTable q table) where
   -- data may stand in a segment
-  pub data-good : (x : Bytes) → All (Data table) x → All (Allowed q) x
-  data-good x u = all-map (Data table) (Allowed q) x (λ b h. data-allowed q b (rw (right .tells b) at h)) u
+  pub data-good : (x : Bytes) → All (Data table) x → All (Permitted q) x
+  data-good x u = all-map (Data table) (Permitted q) x (λ b h. data-allowed q b (rw (right .tells b) at h)) u
 
   -- it is free of the element separator
   data-element : (x : Bytes) → All (Data table) x → Free (q .element) x
@@ -177,8 +177,8 @@ module _ {q : Separators} {table : List Bool} {s : Bytes} {at : ℕ} {queue star
     piece-free = free-append (q .element) (w .begun) (next .gap) (w .free) (data-element (w .right) (next .gap) (next .data-only))
 
     -- its bytes may stand in a segment
-    pub piece-good : All (Allowed q) piece
-    piece-good = all-append (Allowed q) (w .begun) (next .gap) (w .good-begun) (data-good (w .right) (next .gap) (next .data-only))
+    pub piece-good : All (Permitted q) piece
+    piece-good = all-append (Permitted q) (w .begun) (next .gap) (w .good-begun) (data-good (w .right) (next .gap) (next .data-only))
 
     -- it is free of the component separator where none was met
     pub piece-alone : behind ≡ at → Free (q .component) piece
@@ -223,8 +223,8 @@ module _ {q : Separators} {table : List Bool} {s : Bytes} {at : ℕ} {queue star
           start-is = far;
           place = omega arith;
           good-gone = rw snoc
-              (all-append (Allowed q) (closed (q .element) (w .gone)) (piece ++ q .element ∷ []) (w .good-gone)
-              (all-append (Allowed q) piece (q .element ∷ []) piece-good (element-allowed q (w .differ), tt)));
+              (all-append (Permitted q) (closed (q .element) (w .gone)) (piece ++ q .element ∷ []) (w .good-gone)
+              (all-append (Permitted q) piece (q .element ∷ []) piece-good (element-allowed q (w .differ), tt)));
           good-begun = tt;
           count-is = simp length-append (omega (arith, w .count-is));
           begins = begins-more (q .element) at starts count (w .gone) piece (place + 1) (w .room) (w .count-is) far (w .begins);
@@ -257,7 +257,7 @@ module _ {q : Separators} {table : List Bool} {s : Bytes} {at : ℕ} {queue star
       start-is = w .start-is;
       place = rw (length-append piece (q .component ∷ [])) (omega (arith, piece-place));
       good-gone = w .good-gone;
-      good-begun = all-append (Allowed q) piece (q .component ∷ []) piece-good (component-allowed q (w .differ), tt);
+      good-begun = all-append (Permitted q) piece (q .component ∷ []) piece-good (component-allowed q (w .differ), tt);
       count-is = w .count-is;
       begins = w .begins;
       room = w .room;

@@ -2,7 +2,7 @@
 -- Assumes nothing.
 use Prim.Native.Nat.{_-_, _≤_}
 use lib.ListN.{length}
-use Rattle.text.proofs.Searching.{Passed, passed-none, passed-more}
+use Rattle.text.proofs.Searching.{Unmet, passed-none, passed-more}
 use Rattle.elements.proofs.ComponentPass.{upto-met, upto-end}
 use native.Mathlib.Omega.{arith}
 use borrow.Author.Needs.{needs}
@@ -10,7 +10,7 @@ use Rattle.elements.proofs.components.component_end.Statement.{statemen
 use Rattle.elements.proofs.components.component_end.Tie as tie
 
 abbrev Inv-loop : tie.InvT-loop
-Inv-loop p from separator i₀ i = Passed p from separator i × (i ≤ length p)
+Inv-loop p from separator i₀ i = Unmet p from separator i × (i ≤ length p)
 
 abbrev μ-loop : tie.MeasureT-loop
 μ-loop p from separator i₀ i = length p - i

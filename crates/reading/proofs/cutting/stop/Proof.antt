@@ -3,12 +3,12 @@
 use Prim.Native.Nat.{_-_}
 use lib.ListN.{length}
 use borrow.Author.Needs.{needs}
-use Rattle.text.proofs.Searching.{Passed, passed-none, passed-more, met, never-met}
+use Rattle.text.proofs.Searching.{Unmet, passed-none, passed-more, met, never-met}
 use Rattle.reading.proofs.cutting.stop.Statement.{statement}
 use Rattle.reading.proofs.cutting.stop.Tie as tie
 
 abbrev Inv-loop : tie.InvT-loop
-Inv-loop s from terminator i₀ i = Passed s from terminator i
+Inv-loop s from terminator i₀ i = Unmet s from terminator i
 
 abbrev μ-loop : tie.MeasureT-loop
 μ-loop s from terminator i₀ i = length s - i

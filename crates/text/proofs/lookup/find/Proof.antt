@@ -3,12 +3,12 @@
 use Prim.Native.Nat.{_-_}
 use borrow.Author.Needs.{needs}
 use lib.ListN.{length}
-use Rattle.text.proofs.Searching.{Passed, passed-none, passed-more, met, never-met}
+use Rattle.text.proofs.Searching.{Unmet, passed-none, passed-more, met, never-met}
 use Rattle.text.proofs.lookup.find.Statement.{statement}
 use Rattle.text.proofs.lookup.find.Tie as tie
 
 abbrev Inv-loop : tie.InvT-loop
-Inv-loop s from byte i₀ i = Passed s from byte i
+Inv-loop s from byte i₀ i = Unmet s from byte i
 
 abbrev μ-loop : tie.MeasureT-loop
 μ-loop s from byte i₀ i = length s - i
