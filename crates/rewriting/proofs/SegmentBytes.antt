@@ -10,7 +10,8 @@ use Rattle.text.specs.Bytes.{Bytes}
 use Rattle.text.specs.Pieces.{closed}
 use Rattle.text.specs.Cut.{Placed, Leads, Whole}
 use Rattle.text.specs.declared.separators.Separators.{Separators}
-use Rattle.text.proofs.DocumentCut.{Says, cut-says}
+use Rattle.text.proofs.CutLaws.{CutLaw}
+use Rattle.text.proofs.DocumentCut.{cut-law}
 use Rattle.gate.specs.Reads.{cutBy, skipBy}
 use Rattle.gate.specs.Conditions.{usedBy}
 use Rattle.rewriting.specs.Rewrites.{strictly}
@@ -28,15 +29,15 @@ module _ (old : Separators) where
       → s ≡ closed t (texts gs) ++ rest
   spelt at s [] end rest l = l .1
   spelt at s (g ∷ gs) end rest l =
-      let says : Says old s (Whole (g .segment) (l .0)) = rw (l .1) at (cut-says old s) in
-      says .0 ∙ rw (append-assoc, spelt (at + length (g .segment) + 1 + 0) (l .0) gs end rest (l .3))
+      let law : CutLaw t (cutBy (strictly old)) s (Whole (g .segment) (l .0)) = rw (l .1) at (cut-law old s) in
+      law .0 ∙ rw (append-assoc, spelt (at + length (g .segment) + 1 + skipBy (strictly old) (l .0)) (l .0) gs end rest (l .3))
 
   -- the used bytes are those of the segments
   used-from : (at : ℕ) (s : Bytes) (g : Placed) (gs : List Placed) (end : ℕ) (rest : Bytes) → Leads (cutBy (strictly old)) (skipBy (strictly old)) at s (g ∷ gs) end rest
       → usedBy (g ∷ gs) ≡ at + length (closed t (texts (g ∷ gs)))
   used-from at s g [] end rest l = rw (l .2, length-append (g .segment) (t ∷ [])) (omega arith)
   used-from at s g (h ∷ gs) end rest l =
-      used-from (at + length (g .segment) + 1 + 0) (l .0) h gs end rest (l .3)
+      used-from (at + length (g .segment) + 1 + skipBy (strictly old) (l .0)) (l .0) h gs end rest (l .3)
       ∙ rw (length-append (g .segment) (t ∷ closed t (texts (h ∷ gs)))) (omega arith)
 
   pub used-length : (s : Bytes) (gs : List Placed) (end : ℕ) (rest : Bytes) → Leads (cutBy (strictly old)) (skipBy (strictly old)) 0 s gs end rest

@@ -10,7 +10,8 @@ use Rattle.text.specs.Bytes.{Bytes}
 use Rattle.text.specs.View.{View, viewOf}
 use Rattle.text.specs.Cut.{Placed, Leads, Whole}
 use Rattle.text.specs.declared.separators.Separators.{Separators}
-use Rattle.text.proofs.DocumentCut.{Says, cut-says}
+use Rattle.text.proofs.CutLaws.{CutLaw}
+use Rattle.text.proofs.DocumentCut.{cut-law}
 use Rattle.levels.specs.Widths.{segmentWidth}
 use Rattle.gate.specs.Records.{segmentRecord, segmentRecords}
 use Rattle.gate.specs.Reads.{cutBy, skipBy}
@@ -37,33 +38,33 @@ module _ (table : List ℕ) (k : ℕ) (numbers more : List ℕ) (wide : length n
       ∙ drop-at numbers more segmentWidth wide
 
 -- the bytes at a segment
-module _ (s segment : Bytes) (t : ℕ) (more : Bytes) (at : ℕ) (here : drop at s ≡ segment ++ t ∷ more) where
+module _ (s segment : Bytes) (q : Separators) (more : Bytes) (at : ℕ) (here : drop at s ≡ segment ++ q .terminator ∷ more) where
   segment-inside : at + length segment + 1 ≤ length s
-  segment-inside = omega (arith, length-drop at s, ap length here ∙ length-append segment (t ∷ more))
+  segment-inside = omega (arith, length-drop at s, ap length here ∙ length-append segment (q .terminator ∷ more))
 
   segment-bytes : take (length segment) (drop at s) ≡ segment
-  segment-bytes = ap (take (length segment)) here ∙ take-at segment (t ∷ more) (length segment) refl
+  segment-bytes = ap (take (length segment)) here ∙ take-at segment (q .terminator ∷ more) (length segment) refl
 
-  bytes-behind : drop (at + length segment + 1 + 0) s ≡ more
+  bytes-behind : drop (at + length segment + 1 + skipBy (strictly q) more) s ≡ more
   bytes-behind =
-      let same : at + length segment + 1 + 0 ≡ at + (length segment + 1) = omega arith in
+      let same : at + length segment + 1 + skipBy (strictly q) more ≡ at + (length segment + 1) = omega arith in
       ap (λ (n : ℕ). drop n s) same
       ∙ sym (drop-drop (length segment + 1) at s)
       ∙ ap (drop (length segment + 1)) here
-      ∙ drop-append-add segment (t ∷ more) 1
+      ∙ drop-append-add segment (q .terminator ∷ more) 1
 
 -- a record whose numbers begin with the place and the length of a segment names that segment
 names : (s : Bytes) (table : List ℕ) (k : ℕ) (numbers more : List ℕ) → length numbers ≡ segmentWidth → drop (k * segmentWidth) table ≡ numbers ++ more
-    → (segment : Bytes) (t : ℕ) (behind : Bytes) (at : ℕ) → getD (numbers ++ more) 0 0 ≡ at → getD (numbers ++ more) 1 0 ≡ length segment
-    → drop at s ≡ segment ++ t ∷ behind → (placedIn s table k ≡ record { at = at; segment = segment }) × Names s table k
-names s table k numbers more wide here segment t behind at is long bytes =
+    → (segment : Bytes) (q : Separators) (behind : Bytes) (at : ℕ) → getD (numbers ++ more) 0 0 ≡ at → getD (numbers ++ more) 1 0 ≡ length segment
+    → drop at s ≡ segment ++ q .terminator ∷ behind → (placedIn s table k ≡ record { at = at; segment = segment }) × Names s table k
+names s table k numbers more wide here segment q behind at is long bytes =
     let starts : startIn table k ≡ at = record-start table k numbers more wide here ∙ is in
     let lasts : lengthIn table k ≡ length segment = entry table k numbers more wide here 1 ∙ long in
-    let holds : take (lengthIn table k) (drop (startIn table k) s) ≡ segment = rw (lasts, starts) (segment-bytes s segment t behind at bytes) in (
+    let holds : take (lengthIn table k) (drop (startIn table k) s) ≡ segment = rw (lasts, starts) (segment-bytes s segment q behind at bytes) in (
       ap₂ (λ (a : ℕ) (x : Bytes). record { at = a; segment = x }) starts holds,
       record {
         there = record-there table k numbers more wide here;
-        inside = omega (arith, starts, lasts, segment-inside s segment t behind at bytes);
+        inside = omega (arith, starts, lasts, segment-inside s segment q behind at bytes);
       },
     )
 
@@ -77,12 +78,12 @@ module _ (old : Separators) (s : Bytes) (table : List ℕ) where
   stored k at h (g ∷ gs) [] left end rest more n t b l = absurd (omega arith)
   stored k at h (g ∷ gs) (r ∷ rows) left end rest more n t b l =
       let v = viewOf old (g .segment) in
-      let says : Says old left (Whole (g .segment) (l .0)) = rw (l .1) at (cut-says old left) in
-      let here = b ∙ says .0 in
+      let law : CutLaw (old .terminator) (cutBy (strictly old)) left (Whole (g .segment) (l .0)) = rw (l .1) at (cut-law old left) in
+      let here = b ∙ law .0 in
       let numbers = segmentRecord h v g r in
       let behind = segmentRecords (strictly old) (v ∷ h) gs rows ++ more in
-      let named = names s table k numbers behind refl t (g .segment) (old .terminator) (l .0) (g .at) refl refl (rw (l .2) here) in
+      let named = names s table k numbers behind refl t (g .segment) old (l .0) (g .at) refl refl (rw (l .2) here) in
       let later =
-      stored (suc k) (at + length (g .segment) + 1 + 0) (v ∷ h) gs rows (l .0) end rest more (omega (arith, n))
-      (record-behind table k numbers behind refl t) (bytes-behind s (g .segment) (old .terminator) (l .0) at here) (l .3) in
+      stored (suc k) (at + length (g .segment) + 1 + skipBy (strictly old) (l .0)) (v ∷ h) gs rows (l .0) end rest more (omega (arith, n))
+      (record-behind table k numbers behind refl t) (bytes-behind s (g .segment) old (l .0) at here) (l .3) in
       (ap₂ (λ (x : Placed) (xs : List Placed). x ∷ xs) (named .0) (later .0), (named .1, later .1))

@@ -76,7 +76,7 @@ module _ (old new : Separators) (new-fit : Fitted new) where
           cut = writable-cut new new-fit v w;
           long = written-length old new (g .segment);
         },
-        all-keep (suc n) (at + length (g .segment) + 1 + 0) (l .0) gs end rest (l .3) (i .1),
+        all-keep (suc n) (at + length (g .segment) + 1 + skipBy (strictly old) (l .0)) (l .0) gs end rest (l .3) (i .1),
       )
 
   -- the same views
@@ -92,7 +92,7 @@ module _ (old new : Separators) (new-fit : Fitted new) where
     rewritten old new gs,
     k .0 .cut (rewritten old new gs),
     l .2,
-    rw (k .0 .long) (same-places (at + length (g .segment) + 1 + 0) (l .0) gs end rest (k .1) (l .3)),
+    rw (k .0 .long) (same-places (at + length (g .segment) + 1 + skipBy (strictly old) (l .0)) (l .0) gs end rest (k .1) (l .3)),
   )
 
   pub same-used : (gs : List Placed) → AllKeep gs → usedBy (again gs) ≡ usedBy gs
