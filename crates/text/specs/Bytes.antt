@@ -20,6 +20,10 @@ codes (suc n) i text = code (charAt text i) ∷ codes n (i + 1) text
 abbrev pub bytes : String → Bytes
 bytes text = codes (len text) 0 text
 
+-- the byte that a text of one character is
+abbrev pub byte : String → ℕ
+byte text = code (charAt text 0)
+
 -- lo ≤ n ≤ hi
 abbrev pub between : ℕ → ℕ → ℕ → Bool
 between lo hi n = leb lo n && leb n hi

@@ -4,19 +4,19 @@ use Prim.Native.Nat.{ℕ}
 use mathlib.Core.Bool.{Bool, not, _&&_, _||_}
 use mathlib.Core.Path.{_≡_}
 use lib.Dec.{T, eqb}
-use Rattle.text.specs.Bytes.{bytes, between, among}
+use Rattle.text.specs.Bytes.{byte, bytes, between, among}
 use Rattle.text.specs.declared.separators.Separators.{Separators}
 
 abbrev pub isDigit : ℕ → Bool
-isDigit b = between 48 57 b
+isDigit b = between (byte "0") (byte "9") b
 
 abbrev pub isCapital : ℕ → Bool
-isCapital b = between 65 90 b
+isCapital b = between (byte "A") (byte "Z") b
 
 abbrev pub isSmall : ℕ → Bool
-isSmall b = between 97 122 b
+isSmall b = between (byte "a") (byte "z") b
 
--- which bytes may serve: 1 to 126, and none that stands in plain values (letters, digits, space, `.`, `-`)
+-- which bytes may serve: 1 to 126, and none that values are mostly made of (letters, digits, space, `.`, `-`)
 unfoldable pub mayServe : ℕ → Bool
 mayServe b = between 1 126 b && not (isCapital b || isSmall b || isDigit b || among (bytes " .-") b)
 
@@ -37,7 +37,7 @@ pub record Fitted (q : Separators) : Type 0 where
 
 -- the standard set
 abbrev pub standard : Separators
-standard = record { element = 42; component = 58; terminator = 126 }
+standard = record { element = byte "*"; component = byte ":"; terminator = byte "~" }
 
 abbrev pub isSeparator : Separators → ℕ → Bool
 isSeparator q b = eqb b (q .element) || eqb b (q .component) || eqb b (q .terminator)

@@ -45,8 +45,8 @@ impl Separators {
 pub(crate) fn may_serve(b: u8) -> bool
     ensures { λ r. ⌜ r ≡ mayServe b ⌝ }
 {
-    let letter = ((65 <= b) & (b <= 90)) | ((97 <= b) & (b <= 122));
-    let digit = (48 <= b) & (b <= 57);
+    let letter = ((b'A' <= b) & (b <= b'Z')) | ((b'a' <= b) & (b <= b'z'));
+    let digit = (b'0' <= b) & (b <= b'9');
     let mark = (b == b' ') | (b == b'.') | (b == b'-');
     (1 <= b) & (b <= 126) & !(letter | digit | mark)
 }

@@ -10,10 +10,10 @@ use lib.Dec.{leb, eqb}
 use lib.ListN.{length, drop, getD, drop-of-length-le}
 use lib.Seq.{drop-cons}
 use borrow.Author.Tests.{eq-eqb, ne-eqb, le-leb}
-use Rattle.text.specs.Bytes.{Bytes, every}
+use Rattle.text.specs.Bytes.{Bytes, every, byte}
 use Rattle.text.specs.Separators.{isDigit}
 use Rattle.text.proofs.Tests.{and-first, and-second}
-use Rattle.types.specs.Types.{byte, isNumber, countOf, unsigned, isFigure, isReal}
+use Rattle.types.specs.Types.{isNumber, countOf, unsigned, isFigure, isReal}
 use Rattle.types.specs.internal.Parts.{Unsigned}
 use Rattle.types.proofs.Counts.{Counted, counted-one, counted-other, counted-all}
 use Rattle.types.proofs.Figures.{digit-bounds}

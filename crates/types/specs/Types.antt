@@ -1,20 +1,14 @@
 -- The six types of document 01, "Element rules", over the bytes of one value.
 -- Assumes nothing.
 use Prim.Native.Nat.{ℕ, suc, _+_, _-_, _*_, _%_}
-use Prim.Native.Char.{code}
-use Prim.Native.String.{String, charAt}
 use mathlib.Core.Bool.{Bool, true, not, cond, _&&_, _||_}
 use mathlib.Core.List.{List, [], _∷_}
 use lib.Dec.{leb, eqb}
 use lib.ListN.{length, take, drop, getD}
-use Rattle.text.specs.Bytes.{Bytes, bytes, between, every, among, same}
+use Rattle.text.specs.Bytes.{Bytes, byte, bytes, between, every, among, same}
 use Rattle.text.specs.Separators.{isDigit, isCapital}
 use Rattle.types.specs.declared.kind.Kind.{Kind}
 use Rattle.types.specs.declared.kind.Kind.the-variants.{AN, ID, Set842, N0, R, DT, TM}
-
--- the byte that a text of one character is
-abbrev pub byte : String → ℕ
-byte text = code (charAt text 0)
 
 -- ID: capital letters and digits
 abbrev pub isId : Bytes → Bool
