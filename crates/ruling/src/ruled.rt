@@ -123,36 +123,21 @@ fn is_few(s: &[u8], starts: &[usize; 33], layout: Layout, component: u8, tag: u8
 }
 
 // Answer 9: the first element with too many components, or past the last.
-fn too_many(
-    s: &[u8],
-    starts: &[usize; 33],
-    layout: Layout,
-    component: u8,
-    tag: u8,
-    last: usize,
-) -> Verdict
-    requires { ⌜ last ≡ length (rulesOf tag .elements) ⌝ }
+fn too_many(s: &[u8], starts: &[usize; 33], layout: Layout, component: u8, tag: u8) -> Verdict
     ensures { λ r. ⌜ r ≡ manyVerdict (rulesOf tag) (componentsIn (now (s .entry)) (now (starts .entry)) layout component) (layout .count) ⌝ }
 {
     if !is_few(s, starts, layout, component, tag) {
         return Verdict::Broken(9, 5);
     }
+    let last = rules::last_ruled(tag);
     if last < layout.count {
         return Verdict::Broken(9, last + 1);
     }
     Verdict::Holds
 }
 
-// Answers 9, 8 and 10 of a segment with that tag, whose rules end at element `last`. Of a usual segment all three are silent.
-fn early_verdict(
-    s: &[u8],
-    starts: &[usize; 33],
-    layout: Layout,
-    component: u8,
-    tag: u8,
-    last: usize,
-) -> Verdict
-    requires { ⌜ last ≡ length (rulesOf tag .elements) ⌝ }
+// Answers 9, 8 and 10 of a segment with that tag. Of a usual segment all three are silent.
+fn early_verdict(s: &[u8], starts: &[usize; 33], layout: Layout, component: u8, tag: u8) -> Verdict
     ensures { λ r. ⌜
         r ≡ earlyVerdict (rulesOf tag)
         (componentsIn (now (s .entry)) (now (starts .entry)) layout component) (layout .count)
@@ -161,7 +146,7 @@ fn early_verdict(
     if layout.single & usual::usual(s, starts, layout, tag) {
         return Verdict::Holds;
     }
-    if let Verdict::Broken(n, e) = too_many(s, starts, layout, component, tag, last) {
+    if let Verdict::Broken(n, e) = too_many(s, starts, layout, component, tag) {
         return Verdict::Broken(n, e);
     }
     fitting::fitting_verdict(s, starts, layout, component, tag)
@@ -180,11 +165,10 @@ pub fn ruled_verdict(
         (layoutView (now (s .entry)) (now (starts .entry)) layout component))
         ⌝ }
 {
-    let last = rules::last_ruled(tag);
-    if last == 0 {
+    if rules::last_ruled(tag) == 0 {
         return Verdict::Holds;
     }
-    if let Verdict::Broken(n, e) = early_verdict(s, starts, layout, component, tag, last) {
+    if let Verdict::Broken(n, e) = early_verdict(s, starts, layout, component, tag) {
         return Verdict::Broken(n, e);
     }
     notes_verdict(s, starts, layout, tag)

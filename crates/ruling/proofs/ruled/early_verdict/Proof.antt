@@ -19,7 +19,7 @@ returns c =
     (and-first (start .args .layout .single) seen (c .if1 .taken)) (start .args .component)
 
 too-many-requires : tie.Need-too-many-requires
-too-many-requires c κs = c .before .before .before .before .pre
+too-many-requires c κs = search needs
 
 enum-known-n : tie.Need-enum-known-n
 enum-known-n c = search needs

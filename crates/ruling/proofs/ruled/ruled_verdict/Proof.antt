@@ -31,7 +31,7 @@ returns : tie.Need-returns
 returns c = decide-plain _ _ _ _ _ (sym (c .before .last-ruled .ensures) ∙ c .if1 .taken)
 
 early-verdict-requires : tie.Need-early-verdict-requires
-early-verdict-requires c κs = c .before .last-ruled .ensures
+early-verdict-requires c κs = search needs
 
 enum-known-n : tie.Need-enum-known-n
 enum-known-n c = search needs

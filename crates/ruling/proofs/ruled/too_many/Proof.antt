@@ -26,20 +26,29 @@ is-few-requires c κs = search needs
 
 returns : tie.Need-returns
 returns c =
-    too-many-five (c .before .before .before .args .tag) (c .before .before .before .args .layout .count) (at (c .before .before .before))
-    (λ l. at-past _ _ _ _ 5 l)
+    let start = c .before .before .before in
+    too-many-five (start .args .tag) (start .args .layout .count) (at start) (λ l. at-past _ _ _ _ 5 l)
     (sym (c .before .is-few .ensures) ∙ not-true (c .before .is-few .result) (c .if1 .taken))
 
 returns-2 : tie.Need-returns-2
-returns-2 c = too-many-past (c .before .before .before .before .before .args .tag) (c .before .before .before .before .before .args .layout .count)
-    (at (c .before .before .before .before .before)) (few (c .before .before)) _ (c .before .before .before .before .before .pre) (c .if2 .taken)
+returns-2 c =
+    let told = c .before .before in
+    let few-five = told .before in
+    let start = few-five .before .before .before in
+    too-many-past (start .args .tag) (start .args .layout .count) (at start) (few few-five) _ (told .last-ruled .ensures) (c .if2 .taken)
 
 returns-3 : tie.Need-returns-3
-returns-3 c = few-all (c .before .before .before .before .before .args .tag) (c .before .before .before .before .before .args .layout .count)
-    (at (c .before .before .before .before .before)) (few (c .before .before)) (rw (c .before .before .before .before .before .pre) at (c .if2 .left))
+returns-3 c =
+    let told = c .before .before in
+    let few-five = told .before in
+    let start = few-five .before .before .before in
+    few-all (start .args .tag) (start .args .layout .count) (at start) (few few-five) (rw (told .last-ruled .ensures) at (c .if2 .left))
+
+last-ruled-requires : tie.Need-last-ruled-requires
+last-ruled-requires c κs = search needs
 
 add-t9 : tie.Need-add-t9
 add-t9 c = search needs
 
 pub too-many-spec : {M : Type 1} → statement M
-too-many-spec = tie.close (tie.spec is-few-requires returns add-t9 returns-2 returns-3)
+too-many-spec = tie.close (tie.spec is-few-requires returns last-ruled-requires add-t9 returns-2 returns-3)
