@@ -13,7 +13,7 @@ use lib.Seq.{split-at, ext-getD, getD-take, getD-drop, getD-append-seam}
 use borrow.Author.Tests.{lt-ltb, eqb-true, eqb-false}
 use Rattle.text.specs.Bytes.{Bytes, same}
 use Rattle.text.specs.Pieces.{pieces, joined}
-use Rattle.text.proofs.Pieces.{Clean, pieces-some, joined-pieces, pieces-clean, pieces-free, pieces-cut}
+use Rattle.text.proofs.Pieces.{Clean, pieces-some, joined-pieces, pieces-clean, pieces-free, pieces-cut, firstPiece}
 use Rattle.text.specs.internal.Search.{Free}
 use Rattle.text.specs.Lookup.{pieceSpan}
 use Rattle.text.proofs.Sames.{same-true, same-false, true-same}
@@ -43,10 +43,6 @@ ends-inside separator s n (inr m) = omega (arith, m .0)
 -- the bytes begin with the piece p: they are p, or p and a separator come first
 abbrev pub Begins : ℕ → Bytes → Bytes → Type 0
 Begins separator s p = (s ≡ p) ⊎ ((rest : Bytes) × (s ≡ p ++ separator ∷ rest))
-
--- the first piece
-abbrev pub firstPiece : ℕ → Bytes → Bytes
-firstPiece separator s = getD (pieces separator s) 0 []
 
 -- bytes begin with their first piece, in which no separator stands
 pub begins-first : (separator : ℕ) (s : Bytes) → Begins separator s (firstPiece separator s)

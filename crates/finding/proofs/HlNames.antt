@@ -13,7 +13,8 @@ use Rattle.text.specs.internal.Search.{Free}
 use Rattle.finding.specs.internal.Entries.{startOf, levelEntry}
 use Rattle.finding.specs.internal.TableLevels.{idAt, tableLevel}
 use Rattle.finding.specs.internal.PieceEnds.{MayEnd}
-use Rattle.finding.proofs.FirstPiece.{firstPiece, first-met, first-compared, first-other-end, first-other-byte, first-unfree, drop-within}
+use Rattle.finding.proofs.FirstPiece.{first-met, first-compared, first-other-end, first-other-byte, first-unfree, drop-within}
+use Rattle.text.proofs.Pieces.{firstPiece}
 
 -- the HL01 of a segment that starts at `start` is looked for from `from` on
 module _ (s : Bytes) (separator start from : ℕ) (id : Bytes) (place : from ≡ min (start + 3) (length s)) where

@@ -12,11 +12,11 @@ use lib.ListN.{length, take, drop, getD, length-drop, drop-of-length-le}
 use lib.Seq.{drop-cons, getD-drop, take-all}
 use Rattle.text.specs.Bytes.{Bytes, same}
 use Rattle.text.specs.Pieces.{pieces}
-use Rattle.text.proofs.Pieces.{piece-cut, piece-kept}
+use Rattle.text.proofs.Pieces.{piece-cut, piece-kept, firstPiece}
 use Rattle.finding.specs.internal.Entries.{startOf, lengthOf, levelEntry}
 use Rattle.finding.specs.internal.TableLevels.{tableLevel}
 use Rattle.finding.specs.internal.PieceEnds.{MayEnd}
-use Rattle.finding.proofs.FirstPiece.{firstPiece, first-met, first-other-end, first-other-byte, first-unfree, drop-within}
+use Rattle.finding.proofs.FirstPiece.{first-met, first-other-end, first-other-byte, first-unfree, drop-within}
 
 -- i bytes are passed, and `ahead` separators are yet to come: element 4 is that piece of the rest, and not its first
 pub record Ahead (separator : ℕ) (s : Bytes) (ahead i : ℕ) : Type 0 where

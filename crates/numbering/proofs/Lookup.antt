@@ -14,7 +14,7 @@ use borrow.Author.Tests.{eq-eqb, ne-eqb, le-leb, lt-leb, le-ltb, lt-ltb}
 use Rattle.text.proofs.Bools.{cond-same}
 use Rattle.text.proofs.Tables.{tab, tab-at}
 use Rattle.rows.specs.Tags.{tag, tagNumber}
-use Rattle.rows.specs.Rows.{Viable, list842}
+use Rattle.rows.specs.Rows.{list842}
 use Rattle.rows.specs.RowList.{rowAt, maxOf}
 use Rattle.rows.specs.Following.{OneFits, lastOf, twice}
 use Rattle.rows.specs.NextTable.{entryFor, NextTable}

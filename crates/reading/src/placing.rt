@@ -1,5 +1,4 @@
 // Judging an HL by the levels before it.
-ghost use mathlib.Core.Path.{_≡_};
 ghost use Rattle.levels.specs.Profile.{nonconformance};
 ghost use Rattle.reading.specs.internal.Judgements.{JudgesLevel};
 use elements::layout;

@@ -1,9 +1,7 @@
 // Reading one transaction, segment after segment.
 ghost use mathlib.Core.Path.{_≡_};
-ghost use mathlib.Core.List.{List};
-ghost use Prim.Native.Nat.{ℕ, _+_, _≤_};
+ghost use Prim.Native.Nat.{_+_, _≤_};
 ghost use lib.ListN.{length};
-ghost use Rattle.text.specs.Bytes.{Bytes};
 ghost use Rattle.text.specs.View.{viewOf};
 ghost use Rattle.text.specs.Separators.{Fitted};
 ghost use Rattle.rows.specs.NextTable.{NextTable};
@@ -11,7 +9,6 @@ ghost use Rattle.elements.specs.Checks.{firstBroken};
 ghost use Rattle.elements.specs.Rules.{byteChecks};
 ghost use Rattle.reading.specs.internal.SpecialBytes.{SpecialTable};
 ghost use Rattle.gate.specs.Profile.{nonconformance};
-ghost use Rattle.gate.specs.Records.{Tables};
 ghost use Rattle.gate.specs.declared.answer.Answer.the-variants.{Refused};
 ghost use Rattle.gate.specs.Reads.{limit, Read, Reads};
 ghost use Rattle.reading.specs.internal.Cutting.{cutOut};

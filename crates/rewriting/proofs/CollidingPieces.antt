@@ -16,7 +16,8 @@ use Rattle.elements.specs.declared.verdict.Verdict.{Verdict}
 use Rattle.elements.specs.declared.verdict.Verdict.the-variants.{Holds, Broken}
 use Rattle.elements.proofs.FirstBroken.{eachOf, each-of}
 use Rattle.rewriting.specs.Rewrites.{apartFrom, collisionChecks}
-use Rattle.rewriting.proofs.PieceByPiece.{firstPiece, left, left-none, next-piece, piece-within}
+use Rattle.rewriting.proofs.PieceByPiece.{left, left-none, next-piece, piece-within}
+use Rattle.text.proofs.Pieces.{firstPiece}
 
 module _ (old new : Separators) (segment : Bytes) where
   -- the first collision of the segment

@@ -11,12 +11,8 @@ use lib.Seq.{take-all}
 use Rattle.text.specs.Bytes.{Bytes}
 use Rattle.text.specs.Lookup.{elementSpan, partOf}
 use Rattle.text.specs.Pieces.{before, pieces, joined}
-use Rattle.text.proofs.Pieces.{pieces-some}
+use Rattle.text.proofs.Pieces.{pieces-some, firstPiece}
 use Rattle.text.proofs.Spans.{span-there, lies}
-
--- the first piece
-abbrev pub firstPiece : ℕ → Bytes → Bytes
-firstPiece sep s = getD (pieces sep s) 0 []
 
 pub first-within : (sep : ℕ) (s : Bytes) → length (firstPiece sep s) ≤ length s
 first-within sep s = omega (arith, rw (span-there sep s 0 (pieces-some sep s)) at (lies sep s 0 .inside))

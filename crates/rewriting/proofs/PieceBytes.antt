@@ -13,38 +13,28 @@ use Rattle.text.specs.Bytes.{Bytes, every}
 use Rattle.text.specs.Separators.{isSeparator}
 use Rattle.text.specs.Pieces.{before, pieces, joined}
 use Rattle.text.specs.declared.separators.Separators.{Separators}
-use Rattle.text.proofs.Bools.{and-assoc}
-use Rattle.text.proofs.Pieces.{pieces-some}
+use Rattle.text.proofs.Pieces.{pieces-some, every-pieces}
 use Rattle.rewriting.specs.Rewrites.{apartFrom}
 use Rattle.rewriting.specs.internal.Output.{pieceAgain, byteAgain}
 
--- a test of every byte of pieces, with one byte more in front
-every-before : (f : ℕ → Bool) (t : Bool) (b : ℕ) (ps : List Bytes) → 0 < length ps → every (every f) (before t b ps) ≡ (t || f b) && every (every f) ps
-every-before f true b ps l = refl
-every-before f false b [] l = absurd (omega arith)
-every-before f false b (p ∷ ps) l = and-assoc (f b) (every f p) (every (every f) ps)
-
-every-piece : (f : ℕ → Bool) (sep : ℕ) (s : Bytes) → every (every f) (pieces sep s) ≡ every (λ (b : ℕ). eqb b sep || f b) s
-every-piece f sep [] = refl
-every-piece f sep (b ∷ s) =
-    every-before f (eqb b sep) b (pieces sep s) (pieces-some sep s) ∙ ap (λ (t : Bool). (eqb b sep || f b) && t) (every-piece f sep s)
-
 module _ (old new : Separators) where
-  -- a byte that does not collide: a component separator, or no new separator
+  -- a byte that does not collide: no new separator, or a component separator
   abbrev clear : ℕ → Bool
-  clear b = eqb b (old .component) || not (isSeparator new b)
+  clear b = not (isSeparator new b) || eqb b (old .component)
 
   -- what the code tests
-  collides : (x y t : Bool) → not x && y ≡ t → x || not y ≡ not t
-  collides true y t e = ap not e
-  collides false y t e = ap not e
+  collides : (x y t : Bool) → not x && y ≡ t → not y || x ≡ not t
+  collides true true t e = ap not e
+  collides true false t e = ap not e
+  collides false true t e = ap not e
+  collides false false t e = ap not e
 
   -- every byte before i is clear
   pub record ClearTo (piece : Bytes) (i : ℕ) : Type 0 where
     pub so-far : apartFrom new (pieces (old .component) piece) ≡ every clear (drop i piece)
 
   pub clear-none : (piece : Bytes) → ClearTo piece 0
-  clear-none piece = record { so-far = every-piece (λ (b : ℕ). not (isSeparator new b)) (old .component) piece }
+  clear-none piece = record { so-far = every-pieces (λ (b : ℕ). not (isSeparator new b)) (old .component) piece }
 
   module _ {piece : Bytes} {i : ℕ} (c : ClearTo piece i) where
     tested : (t : Bool) → i < length piece → not (eqb (getD piece i 0) (old .component)) && isSeparator new (getD piece i 0) ≡ t

@@ -11,10 +11,10 @@ use Rattle.text.specs.Bytes.{Bytes}
 use Rattle.text.specs.Pieces.{pieces, joined}
 use Rattle.text.specs.View.{viewOf, written}
 use Rattle.text.specs.declared.separators.Separators.{Separators}
-use Rattle.text.proofs.Pieces.{joined-pieces}
+use Rattle.text.proofs.Pieces.{joined-pieces, firstPiece}
 use Rattle.rewriting.specs.internal.Output.{putAt, pieceAgain, byteAgain}
 use Rattle.rewriting.proofs.PieceBytes.{piece-bytes, piece-length}
-use Rattle.rewriting.proofs.PieceByPiece.{firstPiece, left, left-none, first-within, first-split, next-piece, piece-within, opened, joined-opened}
+use Rattle.rewriting.proofs.PieceByPiece.{left, left-none, first-within, first-split, next-piece, piece-within, opened, joined-opened}
 use Rattle.rewriting.proofs.OutputSoFar.{SoFar, put-byte, so-far-none, so-far-room, so-far-length, so-far-all, so-far-more}
 
 module _ (old new : Separators) where

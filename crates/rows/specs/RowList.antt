@@ -1,7 +1,7 @@
 -- The row list as 79 records, one a row, read off the bracketed list.
 -- Assumes nothing.
 use Prim.Native.Nat.{ℕ}
-use mathlib.Core.Bool.{Bool, false}
+use mathlib.Core.Bool.{false}
 use mathlib.Core.List.{List, [], _∷_, _++_}
 use lib.ListN.{getD}
 use Rattle.rows.specs.Rows.{Items, end, row, loop, list842}

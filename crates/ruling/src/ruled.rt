@@ -2,7 +2,6 @@
 ghost use mathlib.Core.Path.{_≡_};
 ghost use Prim.Native.Nat.{_+_, _<_};
 ghost use mathlib.Core.List.{[], _∷_};
-ghost use lib.ListN.{length};
 ghost use Rattle.elements.specs.Checks.{firstBroken};
 ghost use Rattle.elements.specs.Data.{Paired, Required, pairsFrom, rulesDTM, nonconformance};
 ghost use Rattle.elements.specs.Rules.{ruleOf, fewComponents, noteHolds, noteChecks, ruledChecks};

@@ -1,14 +1,15 @@
 -- The laws of pieces: joining gives the bytes back, no piece holds the separator, and pieces without it are cut again as they were.
 -- Assumes nothing.
 use Prim.Native.Nat.{ℕ, suc, _<_}
-use mathlib.Core.Path.{_≡_, refl, sym, ap, _∙_}
-use mathlib.Core.Bool.{Bool, true, false}
+use mathlib.Core.Path.{_≡_, refl, ap, _∙_}
+use mathlib.Core.Bool.{Bool, true, false, _&&_, _||_}
 use mathlib.Core.List.{List, [], _∷_, _++_, append-assoc}
 use native.Mathlib.Omega.{arith}
 use lib.Dec.{eqb}
 use lib.ListN.{length, getD}
 use borrow.Author.Tests.{eq-eqb, ne-eqb, eqb-true, eqb-false}
-use Rattle.text.specs.Bytes.{Bytes}
+use Rattle.text.specs.Bytes.{Bytes, every}
+use Rattle.text.proofs.Bools.{or-false, and-assoc}
 use Rattle.text.specs.Pieces.{before, pieces, joined, closed}
 use Rattle.text.specs.internal.Search.{Free}
 
@@ -94,3 +95,24 @@ clean-snoc sep (q ∷ ps) p c f = (c .0, clean-snoc sep ps p (c .1) f)
 pub free-snoc : (sep : ℕ) (s : Bytes) (b : ℕ) → Free sep s → (b ≡ sep → ⊥) → Free sep (s ++ (b ∷ []))
 free-snoc sep [] b f h = (h, tt)
 free-snoc sep (a ∷ s) b f h = (f .0, free-snoc sep s b (f .1) h)
+
+-- a test of the bytes of pieces, with one byte more in front
+every-before : (f : ℕ → Bool) (t : Bool) (b : ℕ) (ps : List Bytes) → 0 < length ps
+    → every (every f) (before t b ps) ≡ (f b || t) && every (every f) ps
+every-before f t b [] h = absurd (omega arith)
+every-before f true b (p ∷ ps) h = any-way (f b) (every f p && every (every f) ps)
+  where
+    any-way : (a x : Bool) → x ≡ (a || true) && x
+    any-way true x = refl
+    any-way false x = refl
+every-before f false b (p ∷ ps) h = rw (or-false (f b)) (and-assoc (f b) (every f p) (every (every f) ps))
+
+-- a test of the bytes of all pieces is one of all bytes but the separator
+pub every-pieces : (f : ℕ → Bool) (sep : ℕ) (s : Bytes) → every (every f) (pieces sep s) ≡ every (λ (b : ℕ). f b || eqb b sep) s
+every-pieces f sep [] = refl
+every-pieces f sep (b ∷ s) =
+    every-before f (eqb b sep) b (pieces sep s) (pieces-some sep s) ∙ ap (λ (t : Bool). (f b || eqb b sep) && t) (every-pieces f sep s)
+
+-- the first piece
+abbrev pub firstPiece : ℕ → Bytes → Bytes
+firstPiece sep s = getD (pieces sep s) 0 []

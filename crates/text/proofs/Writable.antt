@@ -1,9 +1,7 @@
 -- A view that can be written with these separators: it is cut off whole and seen again as it was. What stands above uses these laws and does not
 -- look into `Writable`.
 -- Assumes nothing.
-use Prim.Native.Nat.{ℕ}
 use mathlib.Core.Path.{_≡_, subst}
-use mathlib.Core.Bool.{not}
 use mathlib.Core.List.{_∷_, _++_}
 use lib.Dec.{T}
 use Rattle.text.specs.Bytes.{Bytes}

@@ -47,6 +47,6 @@ pub(crate) fn may_serve(b: u8) -> bool
 {
     let letter = ((b'A' <= b) & (b <= b'Z')) | ((b'a' <= b) & (b <= b'z'));
     let digit = (b'0' <= b) & (b <= b'9');
-    let mark = (b == b' ') | (b == b'.') | (b == b'-');
-    (1 <= b) & (b <= 126) & !(letter | digit | mark)
+    let sign = (b == b' ') | (b == b'.') | (b == b'-');
+    (1 <= b) & (b <= 126) & !(letter | digit | sign)
 }

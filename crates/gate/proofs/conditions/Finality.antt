@@ -10,7 +10,7 @@ use lib.ListN.{length, take, drop, length-append}
 use lib.Seq.{take-at, drop-at}
 use Rattle.text.specs.Bytes.{Bytes}
 use Rattle.text.specs.View.{View, viewOf}
-use Rattle.text.specs.Cut.{Cut, Whole, Stop, Placed}
+use Rattle.text.specs.Cut.{Cut, Whole, Placed}
 use Rattle.text.proofs.CutLaws.{Faulty, CutLaw, Front, leads-front}
 use Rattle.text.proofs.DocumentCut.{cut-law, skip-law}
 use Rattle.gate.specs.Answers.{Fault}

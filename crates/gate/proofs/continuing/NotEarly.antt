@@ -13,7 +13,7 @@ use Rattle.text.specs.Bytes.{Bytes, every}
 use Rattle.text.specs.Separators.{fitSeparators, isCapital, Fitted}
 use Rattle.text.specs.Pieces.{joined}
 use Rattle.text.specs.View.{View, viewOf, written}
-use Rattle.text.specs.Cut.{Cut, Whole, Stop, Placed, Leads}
+use Rattle.text.specs.Cut.{Cut, Whole, Placed, Leads}
 use Rattle.text.specs.declared.separators.Separators.{Separators}
 use Rattle.text.proofs.Bools.{both, first-of, second-of}
 use Rattle.text.proofs.Lists.{map-append}

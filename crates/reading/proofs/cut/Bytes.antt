@@ -2,19 +2,19 @@
 -- Assumes nothing.
 use Prim.Native.Nat.{ℕ, zero, suc, _+_, _≤_, _<_}
 use mathlib.Core.Path.{_≡_, refl, sym, ap, _∙_}
-use mathlib.Core.Bool.{Bool, true, false, _&&_, _||_}
+use mathlib.Core.Bool.{Bool, true, _&&_, _||_}
 use mathlib.Core.List.{List, [], _∷_, _++_, map}
 use native.Mathlib.Omega.{arith}
 use lib.Dec.{T, eqb}
 use lib.ListN.{length, getD}
 use Rattle.text.specs.Bytes.{Bytes, every}
 use Rattle.text.specs.Separators.{printable}
-use Rattle.text.specs.Pieces.{before, pieces}
+use Rattle.text.specs.Pieces.{pieces}
 use Rattle.text.specs.View.{viewOf, empty, elementOf}
 use Rattle.text.specs.declared.separators.Separators.{Separators}
-use Rattle.text.proofs.Bools.{both, first-of, second-of, and-assoc, and-true, or-false}
+use Rattle.text.proofs.Bools.{both, first-of, second-of, and-assoc, and-true}
 use Rattle.text.proofs.Everys.{every-at}
-use Rattle.text.proofs.Pieces.{pieces-some}
+use Rattle.text.proofs.Pieces.{every-pieces}
 use Rattle.elements.specs.Checks.{each, Keeps}
 use Rattle.elements.specs.Rules.{dataPiece, byteChecks}
 use Rattle.reading.proofs.cut.SpecialBytes.{belongs}
@@ -45,23 +45,6 @@ every-snoc f (x ∷ xs) y = ap (λ (t : Bool). f x && t) (every-snoc f xs y) ∙
 pub all-every : (P : ℕ → Type 0) (f : ℕ → Bool) (s : Bytes) → ((b : ℕ) → P b → T (f b)) → All P s → T (every f s)
 all-every P f [] h u = tt
 all-every P f (b ∷ s) h u = both (f b) (every f s) (h b (u .0)) (all-every P f s h (u .1))
-
--- a test of the bytes of pieces, with one byte more in front
-every-before : (f : ℕ → Bool) (t : Bool) (b : ℕ) (ps : List Bytes) → 0 < length ps
-    → every (every f) (before t b ps) ≡ (f b || t) && every (every f) ps
-every-before f t b [] h = absurd (omega arith)
-every-before f true b (p ∷ ps) h = any-way (f b) (every f p && every (every f) ps)
-  where
-    any-way : (a x : Bool) → x ≡ (a || true) && x
-    any-way true x = refl
-    any-way false x = refl
-every-before f false b (p ∷ ps) h = rw (or-false (f b)) (and-assoc (f b) (every f p) (every (every f) ps))
-
--- a test of the bytes of all pieces is one of all bytes but the separator
-pub every-pieces : (f : ℕ → Bool) (sep : ℕ) (s : Bytes) → every (every f) (pieces sep s) ≡ every (λ (b : ℕ). f b || eqb b sep) s
-every-pieces f sep [] = refl
-every-pieces f sep (b ∷ s) =
-    every-before f (eqb b sep) b (pieces sep s) (pieces-some sep s) ∙ ap (λ (t : Bool). (f b || eqb b sep) && t) (every-pieces f sep s)
 
 -- a view's bytes are printable: in terms of its pieces
 data-pieces : (c : ℕ) (ps : List Bytes) → every dataPiece (map (pieces c) ps) ≡ every (every (λ (b : ℕ). printable b || eqb b c)) ps

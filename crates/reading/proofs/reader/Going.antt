@@ -11,7 +11,6 @@ use lib.ListN.{length, take, drop, length-append, length-drop}
 use lib.Seq.{take-append-seam}
 use Rattle.text.specs.Bytes.{Bytes}
 use Rattle.text.specs.View.{viewOf}
-use Rattle.text.specs.Cut.{Placed}
 use Rattle.text.specs.Separators.{Fitted}
 use Rattle.elements.specs.Checks.{firstBroken}
 use Rattle.elements.specs.Rules.{byteChecks}
@@ -20,10 +19,9 @@ use Rattle.gate.specs.Segments.{seen, onto}
 use Rattle.levels.specs.Widths.{segmentWidth, levelWidth}
 use Rattle.gate.specs.Records.{Tables}
 use Rattle.gate.specs.Reads.{Read}
-use Rattle.reading.specs.internal.Standing.{Standing}
 use Rattle.reading.specs.internal.Cutting.{cutOut, Cuts, BadSegment, GoodSegment}
 use Rattle.reading.specs.internal.Judgements.{Inside, JudgesNext}
-use Rattle.reading.specs.internal.Settling.{refusedBy, InRoom, Settling, Stands, Settles, SettlesBy}
+use Rattle.reading.specs.internal.Settling.{refusedBy, InRoom, Stands, Settles, SettlesBy}
 use Rattle.reading.specs.internal.Loop.{Going}
 use Rattle.gate.specs.declared.answer.Answer.{Answer}
 use Rattle.gate.specs.declared.answer.Answer.the-variants.{Refused}

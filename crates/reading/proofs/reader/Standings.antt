@@ -14,17 +14,15 @@ use Rattle.text.specs.Cut.{Whole, Placed}
 use Rattle.text.proofs.Lists.{map-append}
 use Rattle.text.specs.Separators.{Fitted}
 use Rattle.rows.specs.Tags.{tag}
-use Rattle.rows.specs.Following.{Fits, lastOf, twice}
-use Rattle.elements.specs.Checks.{Keeps}
-use Rattle.levels.specs.Levels.{Level, called, levelOf, recordOf, recordsOf, claimOf}
-use Rattle.levels.specs.Rules.{levelChecks}
+use Rattle.rows.specs.Following.{lastOf, twice}
+use Rattle.levels.specs.Levels.{Level, recordOf, recordsOf}
 use Rattle.finding.specs.internal.Entries.{storedAt}
 use Rattle.levels.specs.internal.Everyone.{Everyone}
 use Rattle.levels.proofs.Depth.{Within4}
 use Rattle.gate.specs.Profile.{Profile, profileOf}
 use Rattle.levels.specs.Widths.{segmentWidth, levelWidth}
 use Rattle.gate.specs.Segments.{tagIn, isHL, isSE, seen, onto, levelsIn}
-use Rattle.gate.specs.Rules.{hlChecks, Kept, Sound}
+use Rattle.gate.specs.Rules.{Sound}
 use Rattle.gate.specs.Records.{Tables, segmentRecords, levelRecords, Room, over}
 use Rattle.gate.specs.Reads.{cutBy, skipBy, Passed, Read}
 use Rattle.reading.specs.internal.Standing.{Standing}

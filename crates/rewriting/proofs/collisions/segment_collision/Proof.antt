@@ -4,7 +4,8 @@ use Prim.Native.Nat.{_-_, _+_}
 use mathlib.Core.Path.{_≡_, sym, _∙_}
 use lib.ListN.{length, drop}
 use borrow.Author.Tests.{not-true, not-false}
-use Rattle.rewriting.proofs.PieceByPiece.{firstPiece, first-found}
+use Rattle.rewriting.proofs.PieceByPiece.{first-found}
+use Rattle.text.proofs.Pieces.{firstPiece}
 use Rattle.rewriting.proofs.CollidingPieces.{ApartTo, apart-none, apart-all, apart-not, apart-more}
 use borrow.Author.Needs.{needs}
 use Rattle.rewriting.proofs.collisions.segment_collision.Statement.{statement}

@@ -6,7 +6,8 @@ use native.Mathlib.Omega.{arith}
 use lib.ListN.{length, drop, length-set}
 use borrow.Author.Needs.{needs}
 use Rattle.text.specs.Bytes.{Bytes}
-use Rattle.rewriting.proofs.PieceByPiece.{firstPiece, first-within, first-held, first-found}
+use Rattle.rewriting.proofs.PieceByPiece.{first-within, first-held, first-found}
+use Rattle.text.proofs.Pieces.{firstPiece}
 use Rattle.rewriting.proofs.WritingPieces.{SegmentTo, segment-tag, segment-long, segment-all, segment-room, segment-more, separator-room}
 use Rattle.rewriting.proofs.writing.write_segment.Statement.{statement}
 use Rattle.rewriting.proofs.writing.write_segment.Tie as tie

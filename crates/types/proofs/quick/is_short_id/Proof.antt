@@ -4,7 +4,6 @@ use mathlib.Core.Path.{ap₂, _∙_}
 use mathlib.Core.Bool.{_&&_}
 use denote.Ref.{now}
 use Rattle.types.proofs.QuickFits.{short-one, short-two, short-three, short-other}
-use native.Mathlib.Omega.{arith}
 use borrow.Author.Needs.{needs}
 use Rattle.types.proofs.quick.is_short_id.Statement.{statement}
 use Rattle.types.proofs.quick.is_short_id.Tie as tie

@@ -3,7 +3,6 @@
 use mathlib.Core.Path.{_∙_}
 use denote.Ref.{now}
 use Rattle.types.proofs.QuickFits.{time-other, time-four}
-use native.Mathlib.Omega.{arith}
 use borrow.Author.Needs.{needs}
 use Rattle.types.proofs.quick.is_short_time.Statement.{statement}
 use Rattle.types.proofs.quick.is_short_time.Tie as tie

@@ -2,8 +2,6 @@
 -- Assumes nothing.
 use mathlib.Core.Path.{refl}
 use Rattle.types.specs.internal.Quick.{isSized}
-use native.Mathlib.Omega.{arith}
-use borrow.Author.Needs.{needs}
 use Rattle.types.proofs.quick.is_sized.Statement.{statement}
 use Rattle.types.proofs.quick.is_sized.Tie as tie
 

@@ -5,7 +5,6 @@ use denote.Ref.{now}
 use borrow.Author.Tests.{not-true, not-false}
 use Rattle.types.specs.declared.kind.Kind.the-variants.{TM}
 use Rattle.types.proofs.QuickFits.{quickly-not, quickly-is}
-use native.Mathlib.Omega.{arith}
 use borrow.Author.Needs.{needs}
 use Rattle.types.proofs.quick.short_time.Statement.{statement}
 use Rattle.types.proofs.quick.short_time.Tie as tie

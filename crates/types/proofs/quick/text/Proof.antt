@@ -3,7 +3,6 @@
 use mathlib.Core.Path.{_∙_}
 use denote.Ref.{now}
 use Rattle.types.proofs.QuickFits.{text-sized}
-use native.Mathlib.Omega.{arith}
 use borrow.Author.Needs.{needs}
 use Rattle.types.proofs.quick.text.Statement.{statement}
 use Rattle.types.proofs.quick.text.Tie as tie
