@@ -1,7 +1,7 @@
 /*
 ** stormhlaw.h: a reading gate for X12 842 nonconformance reports whose verdicts are proved.
 **
-** Link with libexports.a, which `rt staticlib exports` writes to target/staticlib, on x86-64 Linux.
+** Link with libstormhlaw.a or libstormhlaw.so.
 **
 ** What holds of every function here:
 **

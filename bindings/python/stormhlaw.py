@@ -123,7 +123,7 @@ _HL_ROW = 18
 def _load() -> ctypes.CDLL:
     path = os.environ.get("STORMHLAW_LIBRARY") or Path(__file__).parent / "target" / "libstormhlaw.so"
     if not os.path.exists(path):
-        raise ImportError(f"there is no {path}: run `rt staticlib exports` in the repository and then bindings/python/build")
+        raise ImportError(f"there is no {path}: run bindings/library and bindings/python/build")
     library = ctypes.CDLL(str(path))
     library.stormhlaw_read.restype = None
     library.stormhlaw_read.argtypes = [
