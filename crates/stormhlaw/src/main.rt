@@ -1,92 +1,19 @@
-// The gate as a program: reads a report from standard input with the standard separators, and lists its segments and levels, or says in
-// one line why it is refused. What decides is `reading::read`; this crate only prints.
+// The gate as a program: reads one report, from the file that the first argument names or from standard input, with the standard
+// separators, and lists its segments and levels on standard output, or says there in one line why it is refused. Standard error gets a
+// hint where the bytes show what was sent instead, and why an input could not be read; then nothing is on standard output.
+// What decides is `reading::read`; this crate only prints. The script `stormhlaw` runs it, once for each report.
+mod hints;
+mod input;
+mod listing;
+mod printing;
+
 use gate::answer::Answer;
 use gate::how::How;
+use text::compare;
 use text::separators::Separators;
 
-fn word(bytes: &[u8]) {
-    io::write_all(1, bytes);
-}
-
-fn number(n: u64) {
-    io::print_decimal(1, n);
-}
-
-// A number behind a space.
-fn next(n: u64) {
-    word(b" ");
-    number(n);
-}
-
-// A refusal, in one line.
-fn refuse(answer: usize, segment: usize, byte: usize, element: usize) {
-    word(b"refused ");
-    number(answer as u64);
-    word(b" segment ");
-    number(segment as u64);
-    word(b" byte ");
-    number(byte as u64);
-    word(b" element ");
-    number(element as u64);
-    word(b"\n");
-}
-
-// The first line of a listing.
-fn head(segments: usize, levels: usize, bytes: usize) {
-    word(b"842 segments ");
-    number(segments as u64);
-    word(b" levels ");
-    number(levels as u64);
-    word(b" bytes ");
-    number(bytes as u64);
-    word(b"\n");
-}
-
-// A line for each segment: its number, start, length and row.
-fn list_segments(segments: &[u64], count: usize) {
-    let mut k: usize = 0;
-    while k < count {
-        if k < segments.len() / 3 {
-            number(k as u64 + 1);
-            next(segments[3 * k]);
-            next(segments[3 * k + 1]);
-            next(segments[3 * k + 2]);
-            word(b"\n");
-        }
-        k += 1;
-    }
-}
-
-// The letters of a level's code.
-fn letters(code: u64) {
-    match code {
-        1 => word(b" RP"),
-        2 => word(b" I"),
-        3 => word(b" F"),
-        4 => word(b" PC"),
-        _ => word(b" SN"),
-    }
-}
-
-// A line for each level: its number, segment, parent, depth and code.
-fn list_levels(levels: &[u64], count: usize) {
-    let mut k: usize = 0;
-    while k < count {
-        if k < levels.len() / 4 {
-            word(b"level");
-            next(k as u64 + 1);
-            next(levels[4 * k]);
-            next(levels[4 * k + 1]);
-            next(levels[4 * k + 2]);
-            letters(levels[4 * k + 3]);
-            word(b"\n");
-        }
-        k += 1;
-    }
-}
-
 // Reads the report and prints what came of it. Room for 1,000 segments and 200 levels.
-fn gate(report: &[u8]) {
+fn judge(report: &[u8], name: &[u8]) {
     let mut segments = [0u64; 3000];
     let mut levels = [0u64; 800];
     let how = How {
@@ -98,26 +25,56 @@ fn gate(report: &[u8]) {
             levels: known,
             bytes,
         } => {
-            head(count, known, bytes);
-            list_segments(&segments, count);
-            list_levels(&levels, known);
+            listing::head(count, known, bytes);
+            listing::list_segments(&segments, count);
+            listing::list_levels(&levels, known);
+            hints::after_acceptance(report, bytes, name);
         }
         Answer::Refused {
-            number: answer,
+            number,
             segment,
             byte,
             element,
-        } => refuse(answer, segment, byte, element),
+        } => {
+            listing::refuse(number, segment, byte, element);
+            hints::after_refusal(report, number, segment, name);
+        }
     }
 }
 
-fn main() {
+// Reads what the descriptor gives, at most 65,536 bytes, and judges it.
+fn run(descriptor: i32, name: &[u8]) {
     let mut buffer = io::large_buffer();
-    let len = io::read_full(0, &mut buffer);
-    let mut more = [0u8; 1];
-    if 0 < io::read_full(0, &mut more) {
-        refuse(2, 0, 0, 0);
+    let len = io::read_full(descriptor, &mut buffer);
+    let further = input::beyond(descriptor);
+    if further < 0 {
+        input::unreadable(name);
         return;
     }
-    gate(&buffer[..len]);
+    if (0 < further) & (len == 65536) {
+        listing::refuse(2, 0, 0, 0);
+        hints::after_refusal(&buffer[..len], 2, 0, name);
+        return;
+    }
+    judge(&buffer[..len], name);
+}
+
+fn main() {
+    let mut space = io::buffer();
+    let given = os::arg(1, &mut space);
+    let fault = os::errno();
+    if fault == libc::ENAMETOOLONG {
+        input::unreadable(b"the name");
+        return;
+    }
+    if (fault != 0) | compare::same_bytes(&space[..given], b"-") {
+        run(0, b"standard input");
+        return;
+    }
+    let descriptor = os::open_read(&space[..given]);
+    if descriptor < 0 {
+        input::unreadable(&space[..given]);
+        return;
+    }
+    run(descriptor, &space[..given]);
 }

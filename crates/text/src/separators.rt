@@ -42,7 +42,7 @@ impl Separators {
 }
 
 // A byte 1 to 126 that is no letter, digit, space, '.' or '-'.
-pub(crate) fn may_serve(b: u8) -> bool
+pub fn may_serve(b: u8) -> bool
     ensures { λ r. ⌜ r ≡ mayServe b ⌝ }
 {
     let letter = ((b'A' <= b) & (b <= b'Z')) | ((b'a' <= b) & (b <= b'z'));

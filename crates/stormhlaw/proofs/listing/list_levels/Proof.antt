@@ -2,8 +2,8 @@
 -- Assumes nothing.
 use Prim.Native.Nat.{_-_, _≤_}
 use borrow.Author.Needs.{needs}
-use Rattle.stormhlaw.proofs.list_levels.Statement.{statement}
-use Rattle.stormhlaw.proofs.list_levels.Tie as tie
+use Rattle.stormhlaw.proofs.listing.list_levels.Statement.{statement}
+use Rattle.stormhlaw.proofs.listing.list_levels.Tie as tie
 
 abbrev Inv-loop : tie.InvT-loop
 Inv-loop levels count k₀ t4 t5 k = k ≤ count

@@ -2,8 +2,8 @@
 -- Assumes nothing.
 use Prim.Native.Nat.{_-_, _≤_}
 use borrow.Author.Needs.{needs}
-use Rattle.stormhlaw.proofs.list_segments.Statement.{statement}
-use Rattle.stormhlaw.proofs.list_segments.Tie as tie
+use Rattle.stormhlaw.proofs.listing.list_segments.Statement.{statement}
+use Rattle.stormhlaw.proofs.listing.list_segments.Tie as tie
 
 abbrev Inv-loop : tie.InvT-loop
 Inv-loop segments count k₀ t4 k = k ≤ count
