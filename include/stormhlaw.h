@@ -120,9 +120,12 @@ extern "C" {
 **
 ** A report of n bytes has at most n / 5 segments, and fewer levels than that. Tables may be of any size; with too little room the
 ** answer is STORMHLAW_NO_ROOM.
+**
+** TIME-FORMULA
 */
 #define STORMHLAW_SEGMENT_NUMBERS 3
 #define STORMHLAW_LEVEL_NUMBERS 4
+#define STORMHLAW_LEVEL_ROOM 4096
 
 /*
 ** Reads one transaction from the start of `input`.
@@ -174,6 +177,37 @@ void stormhlaw_rewrite(
     uint64_t *levels, size_t levels_length,
     uint8_t *output, size_t output_length,
     uint64_t answer[4]);
+
+/*
+** How many segment records, and how many level records, are valid after stormhlaw_read or stormhlaw_rewrite gave `answer` and left
+** `segments`: all after an acceptance and after answers 18 and 19, those before the segment named after answers 3 to 17, none after
+** 1 and 2. `segments` is the table that was lent in that call, as the call left it.
+*/
+static inline size_t stormhlaw_valid_segments(const uint64_t answer[4], const uint64_t *segments)
+{
+    const uint64_t row_of_se = 79;
+    size_t count = 1;
+    if (answer[STORMHLAW_NUMBER] == STORMHLAW_ACCEPTED)
+        return (size_t)answer[STORMHLAW_SEGMENTS];
+    if (answer[STORMHLAW_NUMBER] <= STORMHLAW_INPUT_TOO_LONG)
+        return 0;
+    if (answer[STORMHLAW_NUMBER] <= STORMHLAW_NO_ROOM)
+        return (size_t)answer[STORMHLAW_SEGMENT] - 1;
+    while (segments[STORMHLAW_SEGMENT_NUMBERS * count - 1] != row_of_se)
+        count++;
+    return count;
+}
+
+static inline size_t stormhlaw_valid_levels(const uint64_t answer[4], const uint64_t *segments)
+{
+    const uint64_t row_of_hl = 18;
+    const size_t count = stormhlaw_valid_segments(answer, segments);
+    size_t levels = 0;
+    size_t k;
+    for (k = 1; k <= count; k++)
+        levels += segments[STORMHLAW_SEGMENT_NUMBERS * k - 1] == row_of_hl;
+    return levels;
+}
 
 /*
 ** Finds an element of a segment: span[0] is where it starts within `segment`, span[1] how many bytes it has.

@@ -4,8 +4,9 @@
 
 #include "stormhlaw.h"
 
-#define SEGMENTS 1000
-#define LEVELS 200
+/* Room for every segment of an input of any length, and for as many levels as are read in no time that is noticed. */
+#define SEGMENTS (STORMHLAW_LONGEST / 5)
+#define LEVELS STORMHLAW_LEVEL_ROOM
 
 static const char *const codes[] = {"?", "RP", "I", "F", "PC", "SN"};
 
@@ -46,6 +47,10 @@ int main(int count, char **words)
             return 2;
         }
         length = fread(input, 1, sizeof input, file);
+        if (ferror(file)) {
+            perror(words[1]);
+            return 2;
+        }
         fclose(file);
     }
     stormhlaw_read(input, length, '*', ':', '~', segments, STORMHLAW_SEGMENT_NUMBERS * SEGMENTS, levels,

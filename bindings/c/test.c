@@ -41,6 +41,33 @@ static void expect_tables(void)
     expect("levels of W1", levels, wanted_levels, 12);
 }
 
+/* How many records are valid after a rewriting with so much room for segments, numbers of the output and other separators. */
+static void expect_valid(const char *report, uint8_t element, uint8_t new_element, size_t room, size_t length, uint64_t number,
+                         uint64_t segment_count, uint64_t level_count)
+{
+    uint64_t segments[30] = {0}, levels[20] = {0}, answer[4], found[3];
+    uint8_t output[80];
+    stormhlaw_rewrite((const uint8_t *)report, strlen(report), element, ':', '~', new_element, '^', '\'', segments, room, levels, 20,
+                      output, length, answer);
+    found[0] = answer[STORMHLAW_NUMBER];
+    found[1] = stormhlaw_valid_segments(answer, segments);
+    found[2] = stormhlaw_valid_levels(answer, segments);
+    expect("valid records", found, (const uint64_t[]){number, segment_count, level_count}, 3);
+}
+
+static void expect_valid_records(void)
+{
+    expect_valid(W1, '*', '|', 30, 80, STORMHLAW_ACCEPTED, 7, 2);
+    expect_valid(W1, 'A', '|', 30, 80, STORMHLAW_SEPARATORS_UNFIT, 0, 0);
+    expect_valid("", '*', '|', 30, 80, STORMHLAW_NO_TERMINATOR, 0, 0);
+    expect_valid("ST*842*0001~BNR*11*NR7*20240301~HL*1**RP*1~HL*2*1*F*0~", '*', '|', 30, 80, STORMHLAW_LEVEL_NOT_PERMITTED, 3, 1);
+    expect_valid(W1, '*', '|', 18, 80, STORMHLAW_NO_ROOM, 6, 2);
+    expect_valid(W1, '*', '7', 30, 80, STORMHLAW_SEPARATORS_UNFIT, 0, 0);
+    expect_valid("ST*842*0001~BNR*11*N|7*20240301~HL*1**RP*1~HL*2*1*I*0~NCD*1~NCA**R1~SE*7*0001~", '*', '|', 30, 80,
+                 STORMHLAW_DATA_EQUALS_SEPARATOR, 7, 2);
+    expect_valid(W1, '*', '|', 30, 77, STORMHLAW_OUTPUT_TOO_SHORT, 7, 2);
+}
+
 static void expect_element(const char *segment, uint64_t number, uint64_t start, uint64_t length)
 {
     uint64_t span[2], wanted[2] = {start, length};
@@ -108,6 +135,7 @@ int main(void)
     expect_tables();
     expect_lookups();
     expect_rewriting();
+    expect_valid_records();
     printf(failures ? "%d failed\n" : "C: all as expected\n", failures);
     return failures != 0;
 }
