@@ -6,13 +6,15 @@
 
 #define W1 "ST*842*0001~BNR*11*NR7*20240301~HL*1**RP*1~HL*2*1*I*0~NCD*1~NCA**R1~SE*7*0001~"
 
-static int failures;
+static int passed, failed;
 
 static void expect(const char *what, const uint64_t *found, const uint64_t *wanted, size_t count)
 {
-    if (memcmp(found, wanted, count * sizeof *found) == 0)
+    if (memcmp(found, wanted, count * sizeof *found) == 0) {
+        passed++;
         return;
-    failures++;
+    }
+    failed++;
     printf("%s:", what);
     for (size_t k = 0; k < count; k++)
         printf(" %llu for %llu", (unsigned long long)found[k], (unsigned long long)wanted[k]);
@@ -107,10 +109,12 @@ static void expect_rewrite(const char *report, size_t length, const uint64_t wan
     stormhlaw_rewrite((const uint8_t *)report, strlen(report), '*', ':', '~', '|', '^', '\'', segments, 30, levels, 20,
                       (uint8_t *)output, length, answer);
     expect(report, answer, wanted, 4);
-    if (strcmp(output, wanted_output) != 0) {
-        failures++;
-        printf("%s: output %s\n", report, output);
+    if (strcmp(output, wanted_output) == 0) {
+        passed++;
+        return;
     }
+    failed++;
+    printf("%s: output %s\n", report, output);
 }
 
 static void expect_rewriting(void)
@@ -136,6 +140,6 @@ int main(void)
     expect_lookups();
     expect_rewriting();
     expect_valid_records();
-    printf(failures ? "%d failed\n" : "C: all as expected\n", failures);
-    return failures != 0;
+    printf("C: %d passed, %d failed\n", passed, failed);
+    return failed != 0;
 }
