@@ -4,6 +4,7 @@
 
 #![forbid(unsafe_code)]
 
+use std::borrow::Cow;
 use std::error::Error;
 use std::process::ExitCode;
 use stormhlaw::{element, Level, Segment, Separators, Tables};
@@ -21,18 +22,19 @@ fn main() -> ExitCode {
 /// A line for each level: its HL01, what it is, its depth and its parent.
 fn list() -> Result<(), Box<dyn Error>> {
     let path = std::env::args().nth(1).ok_or("list REPORT")?;
-    let report = std::fs::read(path)?;
+    let report = std::fs::read(&path).map_err(|error| format!("{path}: {error}"))?;
     let mut tables = Tables::for_input(&report);
     tables.read(&report, Separators::STANDARD)?;
     for level in tables.levels() {
-        let name = String::from_utf8_lossy(name(level, tables.segments(), &report).unwrap_or_default());
-        println!("{name}: {:?}, depth {}, parent {}", level.code(), level.depth, level.parent);
+        if let (Some(name), Some(code)) = (name(level, tables.segments(), &report), level.code()) {
+            println!("{name}: {code:?}, depth {}, parent {}", level.depth, level.parent);
+        }
     }
     Ok(())
 }
 
 /// The text of a level's HL01.
-fn name<'a>(level: &Level, segments: &[Segment], report: &'a [u8]) -> Option<&'a [u8]> {
+fn name<'a>(level: &Level, segments: &[Segment], report: &'a [u8]) -> Option<Cow<'a, str>> {
     let hl = level.hl(segments)?.bytes(report)?;
-    Some(element(hl, Separators::STANDARD.element, 1))
+    Some(String::from_utf8_lossy(element(hl, Separators::STANDARD.element, 1)))
 }
