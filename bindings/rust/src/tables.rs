@@ -18,7 +18,8 @@ const SHORTEST_SEGMENT: usize = 5;
 /// How many segments an input can have at most, and how many levels: each is made by a segment.
 const MOST: usize = LONGEST / SHORTEST_SEGMENT;
 
-/// A segment table and a level table, with the records of the last reading. They can be used again for any input.
+/// A segment table and a level table, with the records of the last reading. They can be used again, for any input that
+/// has room in them.
 ///
 /// The time of a reading grows with the square of the number of levels where names come in no order. The room for levels
 /// bounds that number: a report with more is refused with [`Reason::NoRoom`](crate::Reason::NoRoom). This is why
