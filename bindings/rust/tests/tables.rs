@@ -84,6 +84,7 @@ fn default_room_is_enough_for_every_segment() {
 
 #[test]
 fn default_room_is_for_so_many_levels_and_more_is_asked_for() {
+    assert_eq!(DEFAULT_LEVELS, 4_096);
     let most = items(DEFAULT_LEVELS);
     assert_eq!(Tables::for_input(&most).read(&most, STANDARD).unwrap().levels, DEFAULT_LEVELS);
     let more = items(DEFAULT_LEVELS + 1);
