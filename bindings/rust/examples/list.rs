@@ -1,41 +1,40 @@
-//! Reads the report in the file that is named and lists its levels with the text of each HL, or says why it is refused.
+//! Reads the report in the file that is named and lists its levels with the text of each HL01, or says why it is refused.
 //!
 //!     cargo run --offline --release --example list -- REPORT
 
+#![forbid(unsafe_code)]
+
+use std::borrow::Cow;
+use std::error::Error;
 use std::process::ExitCode;
-use stormhlaw::{element, read, Level, Segment, Separators};
+use stormhlaw::{element, Level, Segment, Separators, Tables};
 
 fn main() -> ExitCode {
-    let Some(path) = std::env::args().nth(1) else {
-        eprintln!("list REPORT");
-        return ExitCode::from(2);
-    };
-    let report = match std::fs::read(&path) {
-        Ok(report) => report,
+    match list() {
+        Ok(()) => ExitCode::SUCCESS,
         Err(error) => {
-            eprintln!("{path}: {error}");
-            return ExitCode::from(2);
-        }
-    };
-    // No segment is shorter than five bytes with its terminator.
-    let room = report.len() / 5 + 1;
-    let mut segments = vec![Segment::default(); room];
-    let mut levels = vec![Level::default(); room];
-    match read(&report, Separators::STANDARD, &mut segments, &mut levels) {
-        Ok(accepted) => list(&report, &segments, &levels[..accepted.levels]),
-        Err(refusal) => {
-            println!("{refusal}: {:?}", refusal.reason);
-            return ExitCode::FAILURE;
+            eprintln!("{error}");
+            ExitCode::FAILURE
         }
     }
-    ExitCode::SUCCESS
 }
 
 /// A line for each level: its HL01, what it is, its depth and its parent.
-fn list(report: &[u8], segments: &[Segment], levels: &[Level]) {
-    for level in levels {
-        let hl = segments[level.segment as usize - 1].bytes(report).unwrap_or_default();
-        let name = String::from_utf8_lossy(element(hl, Separators::STANDARD.element, 1));
-        println!("{name}: {:?}, depth {}, parent {}", level.code(), level.depth, level.parent);
+fn list() -> Result<(), Box<dyn Error>> {
+    let path = std::env::args().nth(1).ok_or("list REPORT")?;
+    let report = std::fs::read(&path).map_err(|error| format!("{path}: {error}"))?;
+    let mut tables = Tables::for_input(&report);
+    tables.read(&report, Separators::STANDARD)?;
+    for level in tables.levels() {
+        if let (Some(name), Some(code)) = (name(level, tables.segments(), &report), level.code()) {
+            println!("{name}: {code:?}, depth {}, parent {}", level.depth, level.parent);
+        }
     }
+    Ok(())
+}
+
+/// The text of a level's HL01.
+fn name<'a>(level: &Level, segments: &[Segment], report: &'a [u8]) -> Option<Cow<'a, str>> {
+    let hl = level.hl(segments)?.bytes(report)?;
+    Some(String::from_utf8_lossy(element(hl, Separators::STANDARD.element, 1)))
 }

@@ -1,5 +1,7 @@
 //! What a reading answers.
 
+#![forbid(unsafe_code)]
+
 use std::error::Error;
 use std::fmt;
 
@@ -110,13 +112,14 @@ impl fmt::Display for Refusal {
 
 impl Error for Refusal {}
 
-/// The answer that four numbers tell of.
+/// The answer that four numbers tell of. The library answers 0 to 19, and no count and no place exceeds the limit of the
+/// input.
 pub(crate) fn told(numbers: [u64; 4]) -> Result<Accepted, Refusal> {
-    // No count and no place exceeds the limit of the input.
     let [number, first, second, third] = numbers.map(|number| number as usize);
-    let Some(before) = number.checked_sub(1) else {
-        return Ok(Accepted { segments: first, levels: second, bytes: third });
-    };
-    let reason = Reason::ALL[before];
-    Err(Refusal { reason, segment: first, byte: second, element: third })
+    match number.checked_sub(1) {
+        None => Ok(Accepted { segments: first, levels: second, bytes: third }),
+        Some(before) => {
+            Err(Refusal { reason: Reason::ALL[before], segment: first, byte: second, element: third })
+        }
+    }
 }

@@ -1,18 +1,38 @@
 //! A reading gate for X12 842 nonconformance reports whose verdicts are proved, called from Rust.
 //!
-//! `read` reads one transaction, ST to SE, out of bytes that the caller lends, and fills two lent tables of records.
-//! `rewrite` writes it again with other separators, `element` and `component` look up parts. Nothing is allocated, nothing is kept between calls, and every function may be
-//! called from several threads at once.
+//! A report is one transaction, ST to SE. [`Tables`] own room for the records of its segments and levels:
 //!
 //! ```
-//! use stormhlaw::{read, Level, Segment, Separators};
+//! use stormhlaw::{element, Code, Separators, Tables};
 //!
 //! let report = b"ST*842*0001~BNR*11*NR7*20240301~HL*1**RP*1~HL*2*1*I*0~NCD*1~NCA**R1~SE*7*0001~";
-//! let mut segments = [Segment::default(); 100];
-//! let mut levels = [Level::default(); 20];
-//! let accepted = read(report, Separators::STANDARD, &mut segments, &mut levels).unwrap();
-//! assert_eq!((accepted.segments, accepted.levels, accepted.bytes), (7, 2, 78));
+//! let mut tables = Tables::for_input(report);
+//! tables.read(report, Separators::STANDARD)?;
+//!
+//! let item = tables.levels()[1];
+//! assert_eq!((item.code(), item.parent, item.depth), (Some(Code::Item), 1, 2));
+//! let hl = item.hl(tables.segments()).and_then(|segment| segment.bytes(report));
+//! assert_eq!(hl, Some(&b"HL*2*1*I*0"[..]));
+//! # Ok::<(), stormhlaw::Refusal>(())
 //! ```
+//!
+//! A refusal names the rule, the segment, the byte and the element:
+//!
+//! ```
+//! use stormhlaw::{Reason, Separators, Tables};
+//!
+//! let report = b"ST*842*0001~BNR*11*NR7*20240301~HL*1**RP*1~HL*2*1*F*0~";
+//! let refusal = Tables::for_input(report).read(report, Separators::STANDARD).unwrap_err();
+//! assert_eq!(refusal.reason, Reason::LevelNotPermitted);
+//! assert_eq!(refusal.to_string(), "refused 14 segment 4 byte 43 element 2");
+//! ```
+//!
+//! [`read`] and [`rewrite`] do the same in records that the caller lends, and allocate nothing. [`element`] and
+//! [`component`] look up parts of a segment. Nothing is kept between calls, no input makes a function panic, and every
+//! function may be called from several threads at once.
+
+#![deny(unsafe_code)]
+#![warn(missing_docs)]
 
 mod answer;
 mod lookup;
@@ -21,6 +41,8 @@ mod reading;
 mod records;
 mod rewriting;
 mod separators;
+mod tables;
+mod valid;
 
 pub use answer::{Accepted, Reason, Refusal};
 pub use lookup::{component, component_span, element, element_span};
@@ -28,3 +50,5 @@ pub use reading::{read, LONGEST};
 pub use records::{Code, Level, Segment};
 pub use rewriting::rewrite;
 pub use separators::Separators;
+pub use tables::{Tables, DEFAULT_LEVELS};
+pub use valid::Valid;

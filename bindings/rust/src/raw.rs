@@ -1,8 +1,18 @@
-//! The functions as the library has them; `include/stormhlaw.h` says what each does.
+//! The functions of the library over plain numbers: tables of any length, and answers and spans as the library writes
+//! them. `include/stormhlaw.h` says what each number is.
+//!
+//! No other module calls C. What is lent are slices: no pointer is null, every length is right, and what is written
+//! overlaps with nothing else.
+
+#![allow(unsafe_code)]
+
+use crate::records::{Level, Segment};
+use crate::separators::Separators;
+use std::mem::{align_of, size_of};
+use std::slice::from_raw_parts_mut;
 
 extern "C" {
-    /// Reads one transaction: both tables, and the four numbers of the answer.
-    pub fn stormhlaw_read(
+    fn stormhlaw_read(
         input: *const u8,
         input_length: usize,
         element: u8,
@@ -15,8 +25,7 @@ extern "C" {
         answer: *mut [u64; 4],
     );
 
-    /// Reads one transaction and writes it with other separators.
-    pub fn stormhlaw_rewrite(
+    fn stormhlaw_rewrite(
         input: *const u8,
         input_length: usize,
         element: u8,
@@ -34,8 +43,7 @@ extern "C" {
         answer: *mut [u64; 4],
     );
 
-    /// Start and length of an element of a segment.
-    pub fn stormhlaw_element(
+    fn stormhlaw_element(
         segment: *const u8,
         segment_length: usize,
         separator: u8,
@@ -43,12 +51,109 @@ extern "C" {
         span: *mut [u64; 2],
     );
 
-    /// Start and length of a component of an element.
-    pub fn stormhlaw_component(
+    fn stormhlaw_component(
         element: *const u8,
         element_length: usize,
         separator: u8,
         number: u64,
         span: *mut [u64; 2],
     );
+}
+
+/// What an answer and a span hold before the call. The library always writes them; a zero would read as an acceptance.
+const UNWRITTEN: u64 = u64::MAX;
+
+/// Reads one transaction: fills both tables and gives the four numbers of the answer.
+pub fn read(input: &[u8], separators: Separators, segments: &mut [u64], levels: &mut [u64]) -> [u64; 4] {
+    let mut answer = [UNWRITTEN; 4];
+    // SAFETY: every pointer and length is of a slice or an array that lives until the call returns, and those that are
+    // written are borrowed for it alone.
+    unsafe {
+        stormhlaw_read(
+            input.as_ptr(),
+            input.len(),
+            separators.element,
+            separators.component,
+            separators.terminator,
+            segments.as_mut_ptr(),
+            segments.len(),
+            levels.as_mut_ptr(),
+            levels.len(),
+            &mut answer,
+        );
+    }
+    answer
+}
+
+/// Reads one transaction and writes it with other separators: fills both tables and the output and gives the four
+/// numbers of the answer.
+pub fn rewrite(
+    input: &[u8],
+    separators: Separators,
+    new: Separators,
+    segments: &mut [u64],
+    levels: &mut [u64],
+    output: &mut [u8],
+) -> [u64; 4] {
+    let mut answer = [UNWRITTEN; 4];
+    // SAFETY: as for `read`; the output too is borrowed for the call alone.
+    unsafe {
+        stormhlaw_rewrite(
+            input.as_ptr(),
+            input.len(),
+            separators.element,
+            separators.component,
+            separators.terminator,
+            new.element,
+            new.component,
+            new.terminator,
+            segments.as_mut_ptr(),
+            segments.len(),
+            levels.as_mut_ptr(),
+            levels.len(),
+            output.as_mut_ptr(),
+            output.len(),
+            &mut answer,
+        );
+    }
+    answer
+}
+
+/// Start and length of an element of a segment.
+pub fn element(segment: &[u8], separator: u8, number: u64) -> [u64; 2] {
+    let mut span = [UNWRITTEN; 2];
+    // SAFETY: the slice and the array live until the call returns, and the array is borrowed for it alone.
+    unsafe { stormhlaw_element(segment.as_ptr(), segment.len(), separator, number, &mut span) };
+    span
+}
+
+/// Start and length of a component of an element.
+pub fn component(element: &[u8], separator: u8, number: u64) -> [u64; 2] {
+    let mut span = [UNWRITTEN; 2];
+    // SAFETY: the slice and the array live until the call returns, and the array is borrowed for it alone.
+    unsafe { stormhlaw_component(element.as_ptr(), element.len(), separator, number, &mut span) };
+    span
+}
+
+/// How many numbers a segment's record has, and a level's.
+const SEGMENT_NUMBERS: usize = 3;
+const LEVEL_NUMBERS: usize = 4;
+
+// A record is as many numbers one behind the other, and nothing else.
+const _: () = assert!(size_of::<Segment>() == SEGMENT_NUMBERS * size_of::<u64>());
+const _: () = assert!(size_of::<Level>() == LEVEL_NUMBERS * size_of::<u64>());
+const _: () = assert!(align_of::<Segment>() == align_of::<u64>());
+const _: () = assert!(align_of::<Level>() == align_of::<u64>());
+
+/// The numbers of a segment table.
+pub(crate) fn segment_numbers(table: &mut [Segment]) -> &mut [u64] {
+    // SAFETY: a record is three numbers, any number is fit in each place, and the slice stays borrowed. Their count is
+    // no more than the slice has bytes, and does not overflow.
+    unsafe { from_raw_parts_mut(table.as_mut_ptr().cast(), table.len() * SEGMENT_NUMBERS) }
+}
+
+/// The numbers of a level table.
+pub(crate) fn level_numbers(table: &mut [Level]) -> &mut [u64] {
+    // SAFETY: as for `segment_numbers`, with four numbers a record.
+    unsafe { from_raw_parts_mut(table.as_mut_ptr().cast(), table.len() * LEVEL_NUMBERS) }
 }

@@ -1,37 +1,34 @@
 //! Reading one transaction.
 
+#![forbid(unsafe_code)]
+
 use crate::answer::{told, Accepted, Refusal};
-use crate::raw::stormhlaw_read;
-use crate::records::{Level, Segment, LEVEL_NUMBERS, SEGMENT_NUMBERS};
+use crate::raw;
+use crate::records::{Level, Segment};
 use crate::separators::Separators;
 
 /// The most bytes an input may have.
 pub const LONGEST: usize = 1_048_576;
 
 /// Reads one transaction from the start of the input. Room is as many records as are lent. A refusal at segment k
-/// leaves the records of segments 1 to k-1, as an accepted reading would; every other record keeps what it held.
+/// leaves the records of segments 1 to k-1, as an accepted reading would, and [`Refusal::valid`] counts them; every other
+/// record keeps what it held.
+///
+/// ```
+/// use stormhlaw::{read, Level, Segment, Separators};
+///
+/// let report = b"ST*842*0001~BNR*11*NR7*20240301~HL*1**RP*1~HL*2*1*I*0~NCD*1~NCA**R1~SE*7*0001~";
+/// let mut segments = [Segment::default(); 100];
+/// let mut levels = [Level::default(); 20];
+/// let accepted = read(report, Separators::STANDARD, &mut segments, &mut levels)?;
+/// assert_eq!((accepted.segments, accepted.levels, accepted.bytes), (7, 2, 78));
+/// # Ok::<(), stormhlaw::Refusal>(())
+/// ```
 pub fn read(
     input: &[u8],
     separators: Separators,
     segments: &mut [Segment],
     levels: &mut [Level],
 ) -> Result<Accepted, Refusal> {
-    let mut answer = [0; 4];
-    // SAFETY: every pointer and length is of a slice or an array that lives until the call returns, and those that
-    // are written are borrowed for it alone. A record is so many u64, one behind the other.
-    unsafe {
-        stormhlaw_read(
-            input.as_ptr(),
-            input.len(),
-            separators.element,
-            separators.component,
-            separators.terminator,
-            segments.as_mut_ptr().cast(),
-            segments.len() * SEGMENT_NUMBERS,
-            levels.as_mut_ptr().cast(),
-            levels.len() * LEVEL_NUMBERS,
-            &mut answer,
-        );
-    }
-    told(answer)
+    told(raw::read(input, separators, raw::segment_numbers(segments), raw::level_numbers(levels)))
 }

@@ -1,9 +1,6 @@
 //! The records of the two lent tables.
 
-/// How many numbers a segment's record has.
-pub(crate) const SEGMENT_NUMBERS: usize = 3;
-/// How many numbers a level's record has.
-pub(crate) const LEVEL_NUMBERS: usize = 4;
+#![forbid(unsafe_code)]
 
 /// One segment of a report.
 #[repr(C)]
@@ -46,10 +43,6 @@ pub enum Code {
     SerialNumber,
 }
 
-// The tables are lent as plain numbers.
-const _: () = assert!(size_of::<Segment>() == SEGMENT_NUMBERS * size_of::<u64>());
-const _: () = assert!(size_of::<Level>() == LEVEL_NUMBERS * size_of::<u64>());
-
 impl Segment {
     /// The bytes of the segment in the input that was read. None if the record is not of that input.
     pub fn bytes<'a>(&self, input: &'a [u8]) -> Option<&'a [u8]> {
@@ -60,6 +53,11 @@ impl Segment {
 }
 
 impl Level {
+    /// The record of its HL, where `segments` are those of the same reading. None if there is no such record.
+    pub fn hl<'a>(&self, segments: &'a [Segment]) -> Option<&'a Segment> {
+        segments.get(usize::try_from(self.segment).ok()?.checked_sub(1)?)
+    }
+
     /// What the level stands for. None in a record that no reading wrote.
     pub fn code(&self) -> Option<Code> {
         match self.code {

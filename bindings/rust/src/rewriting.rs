@@ -1,12 +1,27 @@
 //! Rewriting a transaction with other separators.
 
+#![forbid(unsafe_code)]
+
 use crate::answer::{told, Accepted, Refusal};
-use crate::raw::stormhlaw_rewrite;
-use crate::records::{Level, Segment, LEVEL_NUMBERS, SEGMENT_NUMBERS};
+use crate::raw;
+use crate::records::{Level, Segment};
 use crate::separators::Separators;
 
 /// Reads the input and writes it with the new separators, as many bytes as the transaction takes. The tables are left as
-/// `read` leaves them, and untouched where either set is unfit. On any refusal the output keeps its bytes.
+/// [`read`](crate::read) leaves them, and untouched where either set is unfit. On any refusal the output keeps its bytes.
+///
+/// ```
+/// use stormhlaw::{rewrite, Level, Segment, Separators};
+///
+/// let report = b"ST*842*0001~BNR*11*NR7*20240301~HL*1**I~SE*4*0001~";
+/// let new = Separators { element: b'|', component: b'^', terminator: b'\'' };
+/// let mut segments = [Segment::default(); 100];
+/// let mut levels = [Level::default(); 20];
+/// let mut output = [0; 50];
+/// let accepted = rewrite(report, Separators::STANDARD, new, &mut segments, &mut levels, &mut output)?;
+/// assert_eq!(&output[..accepted.bytes], b"ST|842|0001'BNR|11|NR7|20240301'HL|1||I'SE|4|0001'");
+/// # Ok::<(), stormhlaw::Refusal>(())
+/// ```
 pub fn rewrite(
     input: &[u8],
     separators: Separators,
@@ -15,27 +30,6 @@ pub fn rewrite(
     levels: &mut [Level],
     output: &mut [u8],
 ) -> Result<Accepted, Refusal> {
-    let mut answer = [0; 4];
-    // SAFETY: every pointer and length is of a slice or an array that lives until the call returns, and those that
-    // are written are borrowed for it alone. A record is so many u64, one behind the other.
-    unsafe {
-        stormhlaw_rewrite(
-            input.as_ptr(),
-            input.len(),
-            separators.element,
-            separators.component,
-            separators.terminator,
-            new.element,
-            new.component,
-            new.terminator,
-            segments.as_mut_ptr().cast(),
-            segments.len() * SEGMENT_NUMBERS,
-            levels.as_mut_ptr().cast(),
-            levels.len() * LEVEL_NUMBERS,
-            output.as_mut_ptr(),
-            output.len(),
-            &mut answer,
-        );
-    }
-    told(answer)
+    let (segments, levels) = (raw::segment_numbers(segments), raw::level_numbers(levels));
+    told(raw::rewrite(input, separators, new, segments, levels, output))
 }

@@ -1,5 +1,7 @@
 //! The three separators.
 
+#![forbid(unsafe_code)]
+
 /// The three separators of a transaction, fit or not: reading tests them.
 #[derive(Clone, Copy, Debug, PartialEq, Eq, Hash)]
 pub struct Separators {

@@ -1,35 +1,17 @@
 //! Rewriting by both sides, where the library has it.
 
 use crate::outcome::{Outcome, Sizes};
+use crate::sides::library_set;
 use crate::tally::Tally;
 use reference::Separators;
-use stormhlaw::raw::stormhlaw_rewrite;
+use stormhlaw::raw;
 
 /// The library's rewriting.
 fn library(input: &[u8], set: Separators, new: Separators, sizes: Sizes) -> Outcome {
     let mut outcome = Outcome::new(sizes);
     let (segments, levels) = (outcome.segments.part(), outcome.levels.part());
-    let output = outcome.output.part();
-    // SAFETY: every pointer and length is of a slice that lives until the call returns, and none overlap.
-    unsafe {
-        stormhlaw_rewrite(
-            input.as_ptr(),
-            input.len(),
-            set.element,
-            set.component,
-            set.terminator,
-            new.element,
-            new.component,
-            new.terminator,
-            segments.as_mut_ptr(),
-            segments.len(),
-            levels.as_mut_ptr(),
-            levels.len(),
-            output.as_mut_ptr(),
-            output.len(),
-            &mut outcome.answer,
-        );
-    }
+    outcome.answer =
+        raw::rewrite(input, library_set(set), library_set(new), segments, levels, outcome.output.part());
     outcome
 }
 

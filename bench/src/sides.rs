@@ -1,0 +1,70 @@
+//! The sides of a contest: the builds of the library, and the hand-written reader.
+
+use reference::Separators;
+use std::hint::black_box;
+use stormhlaw::{raw, LONGEST};
+
+/// The separators of every input, and those that it is rewritten to.
+pub const OLD: stormhlaw::Separators = stormhlaw::Separators::STANDARD;
+pub const NEW: stormhlaw::Separators =
+    stormhlaw::Separators { element: b'|', component: b'^', terminator: b'\'' };
+
+/// Room for every segment and every level that is timed.
+const SEGMENT_NUMBERS: usize = 3 * LONGEST / 5;
+const LEVEL_NUMBERS: usize = 4 * 20_000;
+
+/// What is lent to a call.
+#[derive(PartialEq)]
+pub struct Lent {
+    pub segments: Vec<u64>,
+    pub levels: Vec<u64>,
+    pub output: Vec<u8>,
+}
+
+impl Lent {
+    pub fn new() -> Lent {
+        Lent { segments: vec![7; SEGMENT_NUMBERS], levels: vec![8; LEVEL_NUMBERS], output: vec![9; LONGEST] }
+    }
+}
+
+/// A call: an input, what is lent, and the four numbers of the answer.
+pub type Call = fn(&[u8], &mut Lent) -> [u64; 4];
+
+/// What one side calls.
+pub struct Side {
+    pub name: &'static str,
+    pub read: Call,
+    pub rewrite: Call,
+}
+
+/// The build that callers link, the one for this processor where it is built, and the hand-written reader, always last.
+pub fn sides() -> Vec<Side> {
+    vec![
+        Side { name: "callers", read: library_read, rewrite: library_rewrite },
+        #[cfg(feature = "native")]
+        Side { name: "native", read: crate::native::read, rewrite: crate::native::rewrite },
+        Side { name: "by hand", read: read_by_hand, rewrite: rewrite_by_hand },
+    ]
+}
+
+fn library_read(input: &[u8], lent: &mut Lent) -> [u64; 4] {
+    raw::read(input, OLD, &mut lent.segments, &mut lent.levels)
+}
+
+fn library_rewrite(input: &[u8], lent: &mut Lent) -> [u64; 4] {
+    raw::rewrite(input, OLD, NEW, &mut lent.segments, &mut lent.levels, &mut lent.output)
+}
+
+fn read_by_hand(input: &[u8], lent: &mut Lent) -> [u64; 4] {
+    reference::read(input, told(OLD), &mut lent.segments, &mut lent.levels).numbers()
+}
+
+fn rewrite_by_hand(input: &[u8], lent: &mut Lent) -> [u64; 4] {
+    let Lent { segments, levels, output } = lent;
+    reference::rewrite(input, told(OLD), told(NEW), segments, levels, output).numbers()
+}
+
+/// The set as the hand-written reader takes it, known only when it is called, as the library's is.
+fn told(set: stormhlaw::Separators) -> Separators {
+    black_box(Separators::new(set.element, set.component, set.terminator))
+}
