@@ -3,7 +3,7 @@ pub mod PieceBytes
 pub mod PieceByPiece
 pub mod OutputSoFar
 pub mod CollidingPieces
-pub mod WritingPieces
+pub mod ByteByByte
 pub mod RecordByRecord
 pub mod WrittenSegments
 pub mod TableRecords

@@ -3,22 +3,22 @@
 use Prim.Native.Nat.{ℕ, zero, suc, _+_, _-_, _≤_, _<_}
 use mathlib.Core.Path.{_≡_, refl, sym, ap, _∙_}
 use mathlib.Core.Bool.{Bool, true, false}
-use mathlib.Core.List.{List, [], _∷_, _++_, append-nil, head-eq-of-cons-eq, tail-eq-of-cons-eq}
+use mathlib.Core.List.{List, [], _∷_, head-eq-of-cons-eq, tail-eq-of-cons-eq}
 use native.Mathlib.Omega.{arith}
 use lib.Dec.{eqb}
 use lib.ListN.{length, take, drop, getD, length-drop}
 use lib.Seq.{take-all}
 use Rattle.text.specs.Bytes.{Bytes}
 use Rattle.text.specs.Lookup.{elementSpan, partOf}
-use Rattle.text.specs.Pieces.{before, pieces, joined}
+use Rattle.text.specs.Pieces.{before, pieces}
 use Rattle.text.proofs.Pieces.{pieces-some, firstPiece}
 use Rattle.text.proofs.Spans.{span-there, lies}
 
-pub first-within : (sep : ℕ) (s : Bytes) → length (firstPiece sep s) ≤ length s
+first-within : (sep : ℕ) (s : Bytes) → length (firstPiece sep s) ≤ length s
 first-within sep s = omega (arith, rw (span-there sep s 0 (pieces-some sep s)) at (lies sep s 0 .inside))
 
 -- as a lookup finds it, in the bytes and in those from `start` on
-pub first-held : (sep : ℕ) (s part : Bytes) → part ≡ partOf s (elementSpan sep s 0) → part ≡ firstPiece sep s
+first-held : (sep : ℕ) (s part : Bytes) → part ≡ partOf s (elementSpan sep s 0) → part ≡ firstPiece sep s
 first-held sep s part e = e ∙ lies sep s 0 .holds
 
 pub first-found : (sep : ℕ) (s part : Bytes) (start : ℕ)
@@ -40,7 +40,7 @@ left-none sep [] (suc n) l = refl
 left-none sep (b ∷ s) (suc n) l = left-none sep s n (omega arith)
 
 -- the first piece, and those behind its end
-pub first-split : (sep : ℕ) (s : Bytes) → pieces sep s ≡ firstPiece sep s ∷ left sep s (suc (length (firstPiece sep s)))
+first-split : (sep : ℕ) (s : Bytes) → pieces sep s ≡ firstPiece sep s ∷ left sep s (suc (length (firstPiece sep s)))
 first-split sep [] = refl
 first-split sep (b ∷ s) = by-byte (first-split sep s) (eqb b sep)
   where
@@ -76,12 +76,3 @@ next-piece sep s start piece l is = rw is (first-there sep s start l)
 pub piece-within : (sep : ℕ) (s : Bytes) (start : ℕ) (piece : Bytes) → start ≤ length s → piece ≡ firstPiece sep (drop start s)
     → start + length piece ≤ length s
 piece-within sep s start piece l is = omega (arith, ap length is, first-within sep (drop start s), length-drop start s)
-
--- pieces with a separator before each
-abbrev pub opened : ℕ → List Bytes → Bytes
-opened sep [] = []
-opened sep (p ∷ ps) = (sep ∷ []) ++ (p ++ opened sep ps)
-
-pub joined-opened : (sep : ℕ) (p : Bytes) (ps : List Bytes) → joined sep (p ∷ ps) ≡ p ++ opened sep ps
-joined-opened sep p [] = sym (append-nil p)
-joined-opened sep p (q ∷ ps) = ap (λ (l : Bytes). p ++ sep ∷ l) (joined-opened sep q ps)

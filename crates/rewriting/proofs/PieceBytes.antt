@@ -1,21 +1,19 @@
--- A piece of a segment byte by byte: the test of its data bytes, and how it is written again.
+-- The test of a piece's data bytes, byte by byte.
 -- Assumes nothing.
 use Prim.Native.Nat.{ℕ, _+_, _≤_, _<_}
-use mathlib.Core.Path.{_≡_, refl, sym, ap, _∙_}
-use mathlib.Core.Bool.{Bool, true, false, not, cond, _&&_, _||_}
-use mathlib.Core.List.{List, [], _∷_, map}
+use mathlib.Core.Path.{_≡_, sym, ap, _∙_}
+use mathlib.Core.Bool.{Bool, true, false, not, _&&_, _||_}
 use native.Mathlib.Omega.{arith}
 use native.Mathlib.Numerals.{add-one}
 use lib.Dec.{eqb}
-use lib.ListN.{length, getD, drop, length-map, drop-of-length-le}
+use lib.ListN.{length, getD, drop, drop-of-length-le}
 use lib.Seq.{drop-cons}
 use Rattle.text.specs.Bytes.{Bytes, every}
 use Rattle.text.specs.Separators.{isSeparator}
-use Rattle.text.specs.Pieces.{before, pieces, joined}
+use Rattle.text.specs.Pieces.{pieces}
 use Rattle.text.specs.declared.separators.Separators.{Separators}
-use Rattle.text.proofs.Pieces.{pieces-some, every-pieces}
+use Rattle.text.proofs.Pieces.{every-pieces}
 use Rattle.rewriting.specs.Rewrites.{apartFrom}
-use Rattle.rewriting.specs.internal.Output.{pieceAgain, byteAgain}
 
 module _ (old new : Separators) where
   -- a byte that does not collide: no new separator, or a component separator
@@ -52,21 +50,3 @@ module _ (old new : Separators) where
 
     pub clear-all : length piece ≤ i → true ≡ apartFrom new (pieces (old .component) piece)
     clear-all l = sym (c .so-far ∙ rw (drop-of-length-le piece {i = i} l))
-
-  -- a piece written again, byte by byte
-  again-before : (t : Bool) (b : ℕ) (ps : List Bytes) → 0 < length ps
-      → joined (new .component) (before t b ps) ≡ cond t (new .component) b ∷ joined (new .component) ps
-  again-before t b [] l = absurd (omega arith)
-  again-before true b (p ∷ ps) l = refl
-  again-before false b (p ∷ []) l = refl
-  again-before false b (p ∷ (q ∷ ps)) l = refl
-
-  pub piece-bytes : (piece : Bytes) → pieceAgain old new piece ≡ map (byteAgain old new) piece
-  piece-bytes [] = refl
-  piece-bytes (b ∷ s) =
-      again-before (eqb b (old .component)) b (pieces (old .component) s) (pieces-some (old .component) s)
-      ∙ ap (λ (l : Bytes). byteAgain old new b ∷ l) (piece-bytes s)
-
-  -- as long as it was
-  pub piece-length : (piece : Bytes) → length (pieceAgain old new piece) ≡ length piece
-  piece-length piece = ap length (piece-bytes piece) ∙ length-map piece (byteAgain old new)
