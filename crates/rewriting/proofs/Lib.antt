@@ -3,6 +3,7 @@ pub mod PieceBytes
 pub mod PieceByPiece
 pub mod OutputSoFar
 pub mod CollidingPieces
+pub mod HarmlessBytes
 pub mod ByteByByte
 pub mod RecordByRecord
 pub mod WrittenSegments

@@ -1,11 +1,13 @@
 // Answer 18: the first data byte that equals a new separator.
 ghost use mathlib.Core.Path.{_≡_};
+ghost use Rattle.text.specs.Bytes.{every};
 ghost use Rattle.text.specs.Pieces.{pieces};
 ghost use Rattle.text.specs.Separators.{isSeparator};
 ghost use Rattle.text.specs.View.{viewOf};
 ghost use Rattle.elements.specs.Checks.{firstBroken};
 ghost use Rattle.rewriting.specs.Rewrites.{apartFrom, collisionChecks, collision};
 ghost use Rattle.rewriting.specs.internal.SegmentTable.{segmentsFrom, NamesFrom};
+ghost use Rattle.rewriting.specs.internal.QuickTest.{harmlessByte, Telling};
 use crate::change::Change;
 use crate::table;
 use elements::verdict::Verdict;
@@ -27,6 +29,20 @@ fn separates(separators: Separators, byte: u8) -> bool
     ensures { λ r. ⌜ r ≡ isSeparator separators byte ⌝ }
 {
     (byte == separators.element) | (byte == separators.component) | (byte == separators.terminator)
+}
+
+// Whether every byte is no new separator, or an old one too. One loop that always runs to the end, so that many bytes are compared at once.
+fn harmless(bytes: &[u8], change: Change) -> bool
+    ensures { λ r. ⌜ r ≡ every (harmlessByte (change .old) (change .new)) (now (bytes .entry)) ⌝ }
+{
+    let mut so_far = true;
+    let mut i: usize = 0;
+    while i < bytes.len() {
+        let byte = bytes[i];
+        so_far = so_far & (!separates(change.new, byte) | separates(change.old, byte));
+        i += 1;
+    }
+    so_far
 }
 
 // Whether no data byte of the piece, the tag or an element, is a new separator.
@@ -62,7 +78,7 @@ fn segment_collision(segment: &[u8], change: Change) -> Verdict
 }
 
 // The first segment that collides, of those that the first `count` records name.
-pub(crate) fn first_collision(s: &[u8], segments: &[u64], count: usize, change: Change) -> Clash
+fn first_collision(s: &[u8], segments: &[u64], count: usize, change: Change) -> Clash
     requires { ⌜ NamesFrom (now s) (now segments) 0 count ⌝ }
     ensures { λ r. ⌜ r ≡ collision (change .old) (change .new) 1 (segmentsFrom (now (s .entry)) (now (segments .entry)) 0 count) ⌝ }
 {
@@ -85,4 +101,22 @@ pub(crate) fn first_collision(s: &[u8], segments: &[u64], count: usize, change: 
         }
     }
     Clash::Nowhere
+}
+
+// The first collision in an accepted reading that takes so many bytes. The segments are searched only if some byte can collide.
+pub(crate) fn find_clash(
+    s: &[u8],
+    bytes: usize,
+    segments: &[u64],
+    count: usize,
+    change: Change,
+) -> Clash
+    requires { ⌜ NamesFrom (now s) (now segments) 0 count ⌝ }
+    requires { ⌜ Telling (change .old) (change .new) (now s) bytes (segmentsFrom (now s) (now segments) 0 count) ⌝ }
+    ensures { λ r. ⌜ r ≡ collision (change .old) (change .new) 1 (segmentsFrom (now (s .entry)) (now (segments .entry)) 0 count) ⌝ }
+{
+    if harmless(&s[..bytes], change) {
+        return Clash::Nowhere;
+    }
+    first_collision(s, segments, count, change)
 }
