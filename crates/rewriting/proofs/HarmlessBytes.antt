@@ -2,8 +2,8 @@
 -- Assumes nothing.
 use Prim.Native.Nat.{ℕ, suc, _+_, _≤_, _<_}
 use mathlib.Core.Path.{_≡_, refl, sym, _∙_}
-use mathlib.Core.Bool.{Bool, true, false, not, _&&_, _||_}
-use mathlib.Core.List.{List, [], _∷_, _++_, map}
+use mathlib.Core.Bool.{Bool, true, false, not, cond, _&&_, _||_}
+use mathlib.Core.List.{List, [], _∷_, _++_}
 use native.Mathlib.Omega.{arith}
 use native.Mathlib.Numerals.{add-one}
 use lib.Dec.{T, eqb}
@@ -11,36 +11,28 @@ use lib.ListN.{length, getD, drop, drop-of-length-le}
 use lib.Seq.{drop-cons}
 use Rattle.text.specs.Bytes.{Bytes, every}
 use Rattle.text.specs.Separators.{isSeparator}
-use Rattle.text.specs.Pieces.{pieces, closed}
+use Rattle.text.specs.Pieces.{closed}
 use Rattle.text.specs.View.{viewOf, empty, elementOf}
 use Rattle.text.specs.Cut.{Placed, Leads}
 use Rattle.text.specs.declared.separators.Separators.{Separators}
-use Rattle.text.proofs.Bools.{both, first-of, second-of, and-assoc, and-true, passes}
+use Rattle.text.proofs.Bools.{first-of, second-of, and-assoc, and-true, passes}
 use Rattle.text.proofs.Everys.{every-at}
-use Rattle.text.proofs.Pieces.{every-pieces}
 use Rattle.text.proofs.Writable.{cut-unseparated}
 use Rattle.elements.specs.Checks.{firstBroken}
-use Rattle.elements.specs.declared.verdict.Verdict.the-variants.{Holds}
+use Rattle.elements.specs.declared.verdict.Verdict.{Verdict}
+use Rattle.elements.specs.declared.verdict.Verdict.the-variants.{Holds, Broken}
 use Rattle.elements.proofs.FirstBroken.{each-holds}
 use Rattle.gate.specs.Reads.{cutBy, skipBy}
 use Rattle.rewriting.specs.Rewrites.{strictly, apartFrom, collisionChecks, collision}
 use Rattle.rewriting.specs.declared.collisions.Clash.the-variants.{Nowhere}
 use Rattle.rewriting.specs.internal.QuickTest.{harmlessByte}
 use Rattle.rewriting.proofs.SegmentBytes.{texts}
+use Rattle.rewriting.proofs.CollidingBytes.{clashFrom, clash-first}
 
 -- a test of two lists, one after the other, is one of both
 every-both : (f : ℕ → Bool) (l m : Bytes) → every f (l ++ m) ≡ every f l && every f m
 every-both f [] m = refl
 every-both f (b ∷ l) m = rw (every-both f l m) (sym (and-assoc (f b) (every f l) (every f m)))
-
--- a test of all data bytes is one of all bytes but the separators
-every-data : (q : Separators) (f : ℕ → Bool) (segment : Bytes)
-    → every (every (every f)) (viewOf q segment) ≡ every (λ (b : ℕ). (f b || eqb b (q .component)) || eqb b (q .element)) segment
-every-data q f segment = each (pieces (q .element) segment) ∙ every-pieces (λ (b : ℕ). f b || eqb b (q .component)) (q .element) segment
-  where
-    each : (ps : List Bytes) → every (every (every f)) (map (pieces (q .component)) ps) ≡ every (every (λ (b : ℕ). f b || eqb b (q .component))) ps
-    each [] = refl
-    each (p ∷ ps) = rw (every-pieces f (q .component) p, each ps)
 
 module _ (old new : Separators) where
   -- the bytes before i are tested
@@ -59,36 +51,31 @@ module _ (old new : Separators) where
     pub tested-all : length s ≤ i → so-far ≡ every (harmlessByte old new) s
     tested-all l = sym (t .all ∙ rw (drop-of-length-le s {i = i} l) (and-true so-far))
 
-  -- a harmless byte that is an old separator only between data is a new one only there
-  spared : (is-new is-old c e : Bool) → T (not is-new || is-old) → T ((not is-old || c) || e) → T ((not is-new || c) || e)
-  spared true true c e h o = o
-  spared true false c e h o = absurd h
-  spared false is-old c e h o = tt
+  -- one byte: it separates elements, or components, or is harmless and no old separator
+  spared : (e c is-new is-old : Bool) (k : ℕ) {x y x′ y′ : Verdict} → T (not is-new || is-old) → (x ≡ Holds → x′ ≡ Holds) → (y ≡ Holds → y′ ≡ Holds)
+      → cond e x (cond (c || not is-old) y (Broken 18 k)) ≡ Holds → cond e x′ (cond (c || not is-new) y′ (Broken 18 k)) ≡ Holds
+  spared true c is-new is-old k h f g z = f z
+  spared false true is-new is-old k h f g z = g z
+  spared false false false false k h f g z = g z
+  spared false false true false k h f g z = absurd h
+  spared false false is-new true k h f g z = let z : _≡_ {A = ℕ} 0 1 = cc in absurd (omega arith)
 
-  -- a byte that is none of the separators, but where the old ones separate elements and components
-  abbrev but : Separators → ℕ → Bool
-  but q b = (not (isSeparator q b) || eqb b (old .component)) || eqb b (old .element)
+  -- no old separator stands among the data, and so no new one
+  none-either : (k : ℕ) (s : Bytes) → T (every (harmlessByte old new) s) → clashFrom old old k s ≡ Holds → clashFrom old new k s ≡ Holds
+  none-either k [] h z = refl
+  none-either k (b ∷ s) h z =
+      let later = second-of (harmlessByte old new b) (every (harmlessByte old new) s) h in
+      spared (eqb b (old .element)) (eqb b (old .component)) (isSeparator new b) (isSeparator old b) k
+      (first-of (harmlessByte old new b) (every (harmlessByte old new) s) h) (none-either (suc k) s later) (none-either k s later) z
 
-  -- data bytes that are no old separators are no new ones
-  harmless-segment : (segment : Bytes) → T (every (harmlessByte old new) segment) → T (every (apartFrom old) (viewOf old segment))
-      → T (every (apartFrom new) (viewOf old segment))
-  harmless-segment segment h o =
-      rw (every-data old (λ (b : ℕ). not (isSeparator new b)) segment)
-      (each segment h (rw (every-data old (λ (b : ℕ). not (isSeparator old b)) segment) at o))
-    where
-      each : (s : Bytes) → T (every (harmlessByte old new) s) → T (every (but old) s) → T (every (but new) s)
-      each [] h o = tt
-      each (b ∷ s) h o =
-          both (but new b) (every (but new) s)
-          (spared (isSeparator new b) (isSeparator old b) (eqb b (old .component)) (eqb b (old .element)) (first-of (harmlessByte old new b) (every (harmlessByte old new) s) h)
-          (first-of (but old b) (every (but old) s) o))
-          (each s (second-of (harmlessByte old new b) (every (harmlessByte old new) s) h) (second-of (but old b) (every (but old) s) o))
-
-  segment-holds : (segment : Bytes) → T (every (apartFrom new) (viewOf old segment)) → firstBroken (collisionChecks new (viewOf old segment)) ≡ Holds
-  segment-holds segment h =
+  harmless-holds : (segment : Bytes) → T (every (harmlessByte old new) segment) → T (every (apartFrom old) (viewOf old segment))
+      → firstBroken (collisionChecks new (viewOf old segment)) ≡ Holds
+  harmless-holds segment h o =
       let v = viewOf old segment in
-      each-holds 18 0 (length v) (λ (k : ℕ). apartFrom new (elementOf v k))
-      (λ k l u. passes (apartFrom new (elementOf v k)) (every-at (apartFrom new) v empty h k (omega arith)))
+      let none : firstBroken (collisionChecks old v) ≡ Holds =
+      each-holds 18 0 (length v) (λ (k : ℕ). apartFrom old (elementOf v k))
+      (λ k l u. passes (apartFrom old (elementOf v k)) (every-at (apartFrom old) v empty o k (omega arith))) in
+      clash-first old new segment ∙ none-either 0 segment h (sym (clash-first old old segment) ∙ none)
 
   -- segments of harmless bytes do not collide
   pub harmless-nowhere : (n at : ℕ) (s : Bytes) (gs : List Placed) (end : ℕ) (rest : Bytes) → Leads (cutBy (strictly old)) (skipBy (strictly old)) at s gs end rest
@@ -99,7 +86,7 @@ module _ (old new : Separators) where
       let t = old .terminator in
       let behind = closed t (texts gs) in
       let halves = rw (every-both f (g .segment) (t ∷ behind)) at h in
-      let here = harmless-segment (g .segment) (first-of (every f (g .segment)) (every f (t ∷ behind)) halves) (cut-unseparated old s (g .segment) (l .0) (l .1)) in
+      let here = harmless-holds (g .segment) (first-of (every f (g .segment)) (every f (t ∷ behind)) halves) (cut-unseparated old s (g .segment) (l .0) (l .1)) in
       let later = second-of (f t) (every f behind) (second-of (every f (g .segment)) (every f (t ∷ behind)) halves) in
-      rw (segment-holds (g .segment) here)
+      rw here
       (harmless-nowhere (suc n) (at + length (g .segment) + 1 + skipBy (strictly old) (l .0)) (l .0) gs end rest (l .3) later)

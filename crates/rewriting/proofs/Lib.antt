@@ -1,8 +1,6 @@
 pub mod SegmentBytes
-pub mod PieceBytes
-pub mod PieceByPiece
 pub mod OutputSoFar
-pub mod CollidingPieces
+pub mod CollidingBytes
 pub mod HarmlessBytes
 pub mod ByteByByte
 pub mod RecordByRecord

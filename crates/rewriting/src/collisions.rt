@@ -1,17 +1,15 @@
 // Answer 18: the first data byte that equals a new separator.
 ghost use mathlib.Core.Path.{_≡_};
 ghost use Rattle.text.specs.Bytes.{every};
-ghost use Rattle.text.specs.Pieces.{pieces};
 ghost use Rattle.text.specs.Separators.{isSeparator};
 ghost use Rattle.text.specs.View.{viewOf};
 ghost use Rattle.elements.specs.Checks.{firstBroken};
-ghost use Rattle.rewriting.specs.Rewrites.{apartFrom, collisionChecks, collision};
+ghost use Rattle.rewriting.specs.Rewrites.{collisionChecks, collision};
 ghost use Rattle.rewriting.specs.internal.SegmentTable.{segmentsFrom, NamesFrom};
 ghost use Rattle.rewriting.specs.internal.QuickTest.{harmlessByte, Telling};
 use crate::change::Change;
 use crate::table;
 use elements::verdict::Verdict;
-use text::lookup;
 use text::separators::Separators;
 
 // Where a data byte equals a new separator: the segment's number, the byte where the segment starts, and the element; the tag is element 0.
@@ -45,34 +43,20 @@ fn harmless(bytes: &[u8], change: Change) -> bool
     so_far
 }
 
-// Whether no data byte of the piece, the tag or an element, is a new separator.
-fn apart(piece: &[u8], change: Change) -> bool
-    ensures { λ r. ⌜ r ≡ apartFrom (change .new) (pieces (change .old .component) (now (piece .entry))) ⌝ }
-{
-    let mut i = 0;
-    while i < piece.len() {
-        let byte = piece[i];
-        if (byte != change.old.component) & separates(change.new, byte) {
-            return false;
-        }
-        i += 1;
-    }
-    true
-}
-
 // The first element of the segment that collides; the tag is element 0.
 fn segment_collision(segment: &[u8], change: Change) -> Verdict
     ensures { λ r. ⌜ r ≡ firstBroken (collisionChecks (change .new) (viewOf (change .old) (now (segment .entry)))) ⌝ }
 {
     let mut element: usize = 0;
-    let mut start: usize = 0;
-    while start <= segment.len() {
-        let piece = lookup::element(&segment[start..], change.old.element, 0);
-        if !apart(piece, change) {
+    let mut i: usize = 0;
+    while i < segment.len() {
+        let byte = segment[i];
+        if byte == change.old.element {
+            element += 1;
+        } else if (byte != change.old.component) & separates(change.new, byte) {
             return Verdict::Broken(18, element);
         }
-        start += piece.len() + 1;
-        element += 1;
+        i += 1;
     }
     Verdict::Holds
 }
