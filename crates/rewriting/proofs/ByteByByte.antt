@@ -17,7 +17,7 @@ use Rattle.text.proofs.Pieces.{pieces-some}
 use Rattle.rewriting.specs.internal.Output.{putAt, byteAgain}
 use Rattle.rewriting.proofs.OutputSoFar.{SoFar, put-byte, so-far-none, so-far-room, so-far-length, so-far-all, so-far-more}
 
--- pieces that are cut at one separator, changed, and joined with another: so it is byte by byte, where the change is
+-- bytes that are cut at one separator and joined with another: the one becomes the other, and every other byte is changed as f changes a piece
 module _ (old new : ℕ) (f : Bytes → Bytes) (g : ℕ → ℕ) (none : f [] ≡ []) (more : (b : ℕ) (p : Bytes) → f (b ∷ p) ≡ g b ∷ f p) where
   byte-before : (t : Bool) (b : ℕ) (ps : List Bytes) → 0 < length ps
       → joined new (map f (before t b ps)) ≡ cond t new (g b) ∷ joined new (map f ps)
@@ -33,24 +33,25 @@ module _ (old new : ℕ) (f : Bytes → Bytes) (g : ℕ → ℕ) (none : f [] �
       ∙ ap (λ (l : Bytes). cond (eqb b old) new (g b) ∷ l) (byte-by-byte s)
 
 module _ (old new : Separators) where
+  -- what a byte of a piece becomes
   abbrev componentAgain : ℕ → ℕ
   componentAgain b = cond (eqb b (old .component)) (new .component) b
 
-  piece-bytes : (piece : Bytes) → joined (new .component) (pieces (old .component) piece) ≡ map componentAgain piece
-  piece-bytes piece =
+  piece-again : (piece : Bytes) → joined (new .component) (pieces (old .component) piece) ≡ map componentAgain piece
+  piece-again piece =
       ap (joined (new .component)) (sym (map-id (pieces (old .component) piece)))
       ∙ byte-by-byte (old .component) (new .component) (λ p. p) (λ b. b) refl (λ b p. refl) piece
 
   -- a segment written again is each of its bytes written again
-  segment-bytes : (segment : Bytes) → written new (viewOf old segment) ≡ map (byteAgain old new) segment
-  segment-bytes segment =
+  segment-again : (segment : Bytes) → written new (viewOf old segment) ≡ map (byteAgain old new) segment
+  segment-again segment =
       ap (joined (new .element)) (map-map (joined (new .component)) (pieces (old .component)) (pieces (old .element) segment))
       ∙ byte-by-byte (old .element) (new .element) (λ p. joined (new .component) (pieces (old .component) p)) componentAgain refl
-      (λ b p. piece-bytes (b ∷ p) ∙ ap (λ (l : Bytes). componentAgain b ∷ l) (sym (piece-bytes p))) segment
+      (λ b p. piece-again (b ∷ p) ∙ ap (λ (l : Bytes). componentAgain b ∷ l) (sym (piece-again p))) segment
 
   -- and as long as it was
   pub written-length : (segment : Bytes) → length (written new (viewOf old segment)) ≡ length segment
-  written-length segment = ap length (segment-bytes segment) ∙ length-map segment (byteAgain old new)
+  written-length segment = ap length (segment-again segment) ∙ length-map segment (byteAgain old new)
 
   module _ (first : Bytes) (at : ℕ) where
     -- the bytes of the segment before i are written
@@ -61,7 +62,7 @@ module _ (old new : Separators) where
     segment-none segment l =
         let same : at + 0 ≡ at = omega arith in
         record {
-          so-far = rw (same, ← segment-bytes segment) (so-far-none first at (written new (viewOf old segment)) (omega (arith, written-length segment, l)));
+          so-far = rw (same, ← segment-again segment) (so-far-none first at (written new (viewOf old segment)) (omega (arith, written-length segment, l)));
         }
 
     module _ {segment output : Bytes} {i : ℕ} (w : SegmentTo segment output i) where

@@ -44,9 +44,9 @@ module _ (old new : Separators) where
 
   module _ {s : Bytes} {so-far : Bool} {i : ℕ} (t : TestedTo s so-far i) where
     pub tested-more : i < length s → TestedTo s (so-far && harmlessByte old new (getD s i 0)) (i + 1)
-    tested-more l = record {
-      all = t .all ∙ rw (add-one, drop-cons s i 0 l) (sym (and-assoc so-far (harmlessByte old new (getD s i 0)) (every (harmlessByte old new) (drop (suc i) s))));
-    }
+    tested-more l =
+        let f = harmlessByte old new in
+        record { all = t .all ∙ rw (add-one, drop-cons s i 0 l) (sym (and-assoc so-far (f (getD s i 0)) (every f (drop (suc i) s)))) }
 
     pub tested-all : length s ≤ i → so-far ≡ every (harmlessByte old new) s
     tested-all l = sym (t .all ∙ rw (drop-of-length-le s {i = i} l) (and-true so-far))
@@ -68,6 +68,7 @@ module _ (old new : Separators) where
       spared (eqb b (old .element)) (eqb b (old .component)) (isSeparator new b) (isSeparator old b) k
       (first-of (harmlessByte old new b) (every (harmlessByte old new) s) h) (none-either (suc k) s later) (none-either k s later) z
 
+  -- a segment of harmless bytes does not collide; no data byte of it is an old separator
   harmless-holds : (segment : Bytes) → T (every (harmlessByte old new) segment) → T (every (apartFrom old) (viewOf old segment))
       → firstBroken (collisionChecks new (viewOf old segment)) ≡ Holds
   harmless-holds segment h o =
@@ -77,7 +78,7 @@ module _ (old new : Separators) where
       (λ k l u. passes (apartFrom old (elementOf v k)) (every-at (apartFrom old) v empty o k (omega arith))) in
       clash-first old new segment ∙ none-either 0 segment h (sym (clash-first old old segment) ∙ none)
 
-  -- segments of harmless bytes do not collide
+  -- and so it is of all segments that were read
   pub harmless-nowhere : (n at : ℕ) (s : Bytes) (gs : List Placed) (end : ℕ) (rest : Bytes) → Leads (cutBy (strictly old)) (skipBy (strictly old)) at s gs end rest
       → T (every (harmlessByte old new) (closed (old .terminator) (texts gs))) → collision old new n gs ≡ Nowhere
   harmless-nowhere n at s [] end rest l h = refl
@@ -86,7 +87,8 @@ module _ (old new : Separators) where
       let t = old .terminator in
       let behind = closed t (texts gs) in
       let halves = rw (every-both f (g .segment) (t ∷ behind)) at h in
-      let here = harmless-holds (g .segment) (first-of (every f (g .segment)) (every f (t ∷ behind)) halves) (cut-unseparated old s (g .segment) (l .0) (l .1)) in
+      let here =
+      harmless-holds (g .segment) (first-of (every f (g .segment)) (every f (t ∷ behind)) halves) (cut-unseparated old s (g .segment) (l .0) (l .1)) in
       let later = second-of (f t) (every f behind) (second-of (every f (g .segment)) (every f (t ∷ behind)) halves) in
       rw here
       (harmless-nowhere (suc n) (at + length (g .segment) + 1 + skipBy (strictly old) (l .0)) (l .0) gs end rest (l .3) later)

@@ -29,7 +29,7 @@ fn separates(separators: Separators, byte: u8) -> bool
     (byte == separators.element) | (byte == separators.component) | (byte == separators.terminator)
 }
 
-// Whether every byte is no new separator, or an old one too. One loop that always runs to the end, so that many bytes are compared at once.
+// Whether every byte is no new separator, or is an old one too. The loop always runs to the end, so that it can take many bytes at once.
 fn harmless(bytes: &[u8], change: Change) -> bool
     ensures { λ r. ⌜ r ≡ every (harmlessByte (change .old) (change .new)) (now (bytes .entry)) ⌝ }
 {
@@ -87,7 +87,7 @@ fn first_collision(s: &[u8], segments: &[u64], count: usize, change: Change) -> 
     Clash::Nowhere
 }
 
-// The first collision in an accepted reading that takes so many bytes. The segments are searched only if some byte can collide.
+// The first collision of an accepted reading that takes so many bytes; the segments are searched only where some byte may collide.
 pub(crate) fn find_clash(
     s: &[u8],
     bytes: usize,

@@ -22,7 +22,7 @@ fn byte_again(byte: u8, change: Change) -> u8
     byte
 }
 
-// Writes a segment without its terminator from `at` on, byte by byte.
+// Writes a segment without its terminator from `at` on, in one loop that can take many bytes at once.
 fn write_segment(segment: &[u8], change: Change, output: &mut [u8], at: usize)
     requires { ⌜ at + length (now segment) ≤ length (now output) ⌝ }
     ensures { λ _. ⌜ now (output .exit) ≡ putAt at (written (change .new) (viewOf (change .old) (now (segment .entry)))) (now (output .entry)) ⌝ }
