@@ -3,8 +3,11 @@
 use Prim.Native.Nat.{ℕ}
 use mathlib.Core.Path.{_≡_, refl, sym, ap, subst, _∙_}
 use mathlib.Core.List.{List, []}
-use lib.ListN.{length, drop, length-map}
-use Rattle.text.specs.Bytes.{Bytes}
+use native.Mathlib.Omega.{arith}
+use lib.Dec.{T}
+use lib.ListN.{length, take, drop, length-map, length-append}
+use Rattle.text.specs.Bytes.{Bytes, every}
+use Rattle.text.specs.Pieces.{closed}
 use Rattle.text.specs.View.{viewOf}
 use Rattle.text.specs.Cut.{Placed}
 use Rattle.text.specs.declared.separators.Separators.{Separators}
@@ -18,7 +21,9 @@ use Rattle.gate.specs.declared.answer.Answer.the-variants.{Accepted, Refused}
 use Rattle.gate.proofs.conditions.Conditions.{accepted-numbered, condition-2}
 use Rattle.rewriting.specs.Rewrites.{strictly, rewritten, OutcomeOf, AfterAcceptance}
 use Rattle.rewriting.specs.internal.SegmentTable.{segmentsFrom, NamesFrom}
-use Rattle.rewriting.proofs.SegmentBytes.{used-length}
+use Rattle.rewriting.specs.internal.QuickTest.{harmlessByte, Telling}
+use Rattle.rewriting.proofs.SegmentBytes.{texts, spelt, used-length, used-taken}
+use Rattle.rewriting.proofs.HarmlessBytes.{harmless-nowhere}
 use Rattle.rewriting.proofs.WrittenSegments.{rewritten-length}
 use Rattle.rewriting.proofs.TableRecords.{stored}
 
@@ -80,6 +85,21 @@ module _ (old : Separators) (s : Bytes) (before : Tables) (a l b : ℕ) (tables 
       ∙ used-length old s gs (n .end) (n .rest) (n .leads)
       ∙ sym (rewritten-length old new gs)
       ∙ ap (λ (gs : List Placed). length (rewritten old new gs)) (sym (named .0))
+
+  -- where every used byte is harmless, nothing collides
+  pub accepted-telling : (new : Separators) → Telling old new s b (segmentsFrom s (tables .segments) 0 a)
+  accepted-telling new =
+      let used = ap bytesOf (kept .shows .answer) in
+      let bytes = closed (old .terminator) (texts gs) in
+      let spelt-out = ap length (spelt old 0 s gs (n .end) (n .rest) (n .leads)) ∙ length-append bytes (n .rest) in
+      record {
+        within = omega (arith, used, used-length old s gs (n .end) (n .rest) (n .leads), spelt-out);
+        told = λ h.
+            let harmless : T (every (harmlessByte old new) (take b s)) = rw h tt in
+            rw (named .0)
+            (harmless-nowhere old new 1 0 s gs (n .end) (n .rest) (n .leads)
+            (rw (used, used-taken old s gs (n .end) (n .rest) (n .leads)) at harmless));
+      }
 
   -- the outcome over the segments that the table names is the one that the promise asks
   pub accepting : (new : Separators) (output : Bytes) (r : Answer) (after : Bytes)

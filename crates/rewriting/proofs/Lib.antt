@@ -1,9 +1,8 @@
 pub mod SegmentBytes
-pub mod PieceBytes
-pub mod PieceByPiece
 pub mod OutputSoFar
-pub mod CollidingPieces
-pub mod WritingPieces
+pub mod CollidingBytes
+pub mod HarmlessBytes
+pub mod ByteByByte
 pub mod RecordByRecord
 pub mod WrittenSegments
 pub mod TableRecords

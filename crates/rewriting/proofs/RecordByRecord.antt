@@ -18,7 +18,7 @@ use Rattle.rewriting.specs.declared.collisions.Clash.the-variants.{At, N
 use Rattle.rewriting.specs.internal.SegmentTable.{startIn, segmentIn, placedIn, segmentsFrom, Names, NamesFrom}
 use Rattle.rewriting.specs.internal.Output.{putAt}
 use Rattle.rewriting.proofs.OutputSoFar.{SoFar, put-byte, put-length, so-far-none, so-far-room, so-far-length, so-far-all, so-far-more}
-use Rattle.rewriting.proofs.WritingPieces.{written-length}
+use Rattle.rewriting.proofs.ByteByByte.{written-length}
 
 module _ (s : Bytes) (table : List ℕ) (count : ℕ) where
   -- the segments of the records from k on

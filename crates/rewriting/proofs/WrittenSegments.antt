@@ -24,7 +24,7 @@ use Rattle.rewriting.specs.Rewrites.{strictly, rewritten, apartFrom, col
 use Rattle.rewriting.specs.declared.collisions.Clash.{Clash}
 use Rattle.rewriting.specs.declared.collisions.Clash.the-variants.{At, Nowhere}
 use Rattle.rewriting.proofs.SegmentBytes.{texts}
-use Rattle.rewriting.proofs.WritingPieces.{written-length}
+use Rattle.rewriting.proofs.ByteByByte.{written-length}
 
 -- a clash is one
 clash-none : {segment byte element : ℕ} → At segment byte element ≡ Nowhere → ⊥

@@ -2,3 +2,4 @@
 -- Assumes nothing.
 pub mod SegmentTable
 pub mod Output
+pub mod QuickTest

@@ -1,15 +1,15 @@
 // Answer 18: the first data byte that equals a new separator.
 ghost use mathlib.Core.Path.{_≡_};
-ghost use Rattle.text.specs.Pieces.{pieces};
+ghost use Rattle.text.specs.Bytes.{every};
 ghost use Rattle.text.specs.Separators.{isSeparator};
 ghost use Rattle.text.specs.View.{viewOf};
 ghost use Rattle.elements.specs.Checks.{firstBroken};
-ghost use Rattle.rewriting.specs.Rewrites.{apartFrom, collisionChecks, collision};
+ghost use Rattle.rewriting.specs.Rewrites.{collisionChecks, collision};
 ghost use Rattle.rewriting.specs.internal.SegmentTable.{segmentsFrom, NamesFrom};
+ghost use Rattle.rewriting.specs.internal.QuickTest.{harmlessByte, Telling};
 use crate::change::Change;
 use crate::table;
 use elements::verdict::Verdict;
-use text::lookup;
 use text::separators::Separators;
 
 // Where a data byte equals a new separator: the segment's number, the byte where the segment starts, and the element; the tag is element 0.
@@ -29,19 +29,18 @@ fn separates(separators: Separators, byte: u8) -> bool
     (byte == separators.element) | (byte == separators.component) | (byte == separators.terminator)
 }
 
-// Whether no data byte of the piece, the tag or an element, is a new separator.
-fn apart(piece: &[u8], change: Change) -> bool
-    ensures { λ r. ⌜ r ≡ apartFrom (change .new) (pieces (change .old .component) (now (piece .entry))) ⌝ }
+// Whether every byte is no new separator, or is an old one too. The loop always runs to the end, so that it can take many bytes at once.
+fn harmless(bytes: &[u8], change: Change) -> bool
+    ensures { λ r. ⌜ r ≡ every (harmlessByte (change .old) (change .new)) (now (bytes .entry)) ⌝ }
 {
-    let mut i = 0;
-    while i < piece.len() {
-        let byte = piece[i];
-        if (byte != change.old.component) & separates(change.new, byte) {
-            return false;
-        }
+    let mut so_far = true;
+    let mut i: usize = 0;
+    while i < bytes.len() {
+        let byte = bytes[i];
+        so_far = so_far & (!separates(change.new, byte) | separates(change.old, byte));
         i += 1;
     }
-    true
+    so_far
 }
 
 // The first element of the segment that collides; the tag is element 0.
@@ -49,20 +48,21 @@ fn segment_collision(segment: &[u8], change: Change) -> Verdict
     ensures { λ r. ⌜ r ≡ firstBroken (collisionChecks (change .new) (viewOf (change .old) (now (segment .entry)))) ⌝ }
 {
     let mut element: usize = 0;
-    let mut start: usize = 0;
-    while start <= segment.len() {
-        let piece = lookup::element(&segment[start..], change.old.element, 0);
-        if !apart(piece, change) {
+    let mut i: usize = 0;
+    while i < segment.len() {
+        let byte = segment[i];
+        if byte == change.old.element {
+            element += 1;
+        } else if (byte != change.old.component) & separates(change.new, byte) {
             return Verdict::Broken(18, element);
         }
-        start += piece.len() + 1;
-        element += 1;
+        i += 1;
     }
     Verdict::Holds
 }
 
 // The first segment that collides, of those that the first `count` records name.
-pub(crate) fn first_collision(s: &[u8], segments: &[u64], count: usize, change: Change) -> Clash
+fn first_collision(s: &[u8], segments: &[u64], count: usize, change: Change) -> Clash
     requires { ⌜ NamesFrom (now s) (now segments) 0 count ⌝ }
     ensures { λ r. ⌜ r ≡ collision (change .old) (change .new) 1 (segmentsFrom (now (s .entry)) (now (segments .entry)) 0 count) ⌝ }
 {
@@ -85,4 +85,22 @@ pub(crate) fn first_collision(s: &[u8], segments: &[u64], count: usize, change: 
         }
     }
     Clash::Nowhere
+}
+
+// The first collision of an accepted reading that takes so many bytes; the segments are searched only where some byte may collide.
+pub(crate) fn find_clash(
+    s: &[u8],
+    bytes: usize,
+    segments: &[u64],
+    count: usize,
+    change: Change,
+) -> Clash
+    requires { ⌜ NamesFrom (now s) (now segments) 0 count ⌝ }
+    requires { ⌜ Telling (change .old) (change .new) (now s) bytes (segmentsFrom (now s) (now segments) 0 count) ⌝ }
+    ensures { λ r. ⌜ r ≡ collision (change .old) (change .new) 1 (segmentsFrom (now (s .entry)) (now (segments .entry)) 0 count) ⌝ }
+{
+    if harmless(&s[..bytes], change) {
+        return Clash::Nowhere;
+    }
+    first_collision(s, segments, count, change)
 }

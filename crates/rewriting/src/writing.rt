@@ -5,47 +5,32 @@ ghost use lib.ListN.{length};
 ghost use Rattle.text.specs.View.{viewOf, written};
 ghost use Rattle.rewriting.specs.Rewrites.{rewritten};
 ghost use Rattle.rewriting.specs.internal.SegmentTable.{segmentsFrom, NamesFrom};
-ghost use Rattle.rewriting.specs.internal.Output.{putAt, pieceAgain, byteAgain};
+ghost use Rattle.rewriting.specs.internal.Output.{putAt, byteAgain};
 use crate::change::Change;
 use crate::table;
-use text::lookup;
 
-// What a byte of a piece becomes.
+// What a byte of a segment becomes.
 fn byte_again(byte: u8, change: Change) -> u8
     ensures { λ r. ⌜ r ≡ byteAgain (change .old) (change .new) byte ⌝ }
 {
+    if byte == change.old.element {
+        return change.new.element;
+    }
     if byte == change.old.component {
         return change.new.component;
     }
     byte
 }
 
-// Writes a piece, the tag or an element, from `at` on.
-fn write_piece(piece: &[u8], change: Change, output: &mut [u8], at: usize)
-    requires { ⌜ at + length (now piece) ≤ length (now output) ⌝ }
-    ensures { λ _. ⌜ now (output .exit) ≡ putAt at (pieceAgain (change .old) (change .new) (now (piece .entry))) (now (output .entry)) ⌝ }
-{
-    let mut i: usize = 0;
-    while i < piece.len() {
-        output[at + i] = byte_again(piece[i], change);
-        i += 1;
-    }
-}
-
-// Writes a segment without its terminator from `at` on: the tag, then each element behind its separator.
+// Writes a segment without its terminator from `at` on, in one loop that can take many bytes at once.
 fn write_segment(segment: &[u8], change: Change, output: &mut [u8], at: usize)
     requires { ⌜ at + length (now segment) ≤ length (now output) ⌝ }
     ensures { λ _. ⌜ now (output .exit) ≡ putAt at (written (change .new) (viewOf (change .old) (now (segment .entry)))) (now (output .entry)) ⌝ }
 {
-    let tag = lookup::element(segment, change.old.element, 0);
-    write_piece(tag, change, output, at);
-    let mut end = tag.len();
-    while end < segment.len() {
-        output[at + end] = change.new.element;
-        let start = end + 1;
-        let piece = lookup::element(&segment[start..], change.old.element, 0);
-        write_piece(piece, change, output, at + start);
-        end = start + piece.len();
+    let mut i: usize = 0;
+    while i < segment.len() {
+        output[at + i] = byte_again(segment[i], change);
+        i += 1;
     }
 }
 

@@ -1,4 +1,4 @@
--- What a function that writes leaves in the lent output, and what it writes for a piece.
+-- What a function that writes leaves in the lent output, and what it writes for a byte.
 -- Assumes nothing.
 use Prim.Native.Nat.{ℕ, _+_}
 use mathlib.Core.Bool.{cond}
@@ -6,17 +6,12 @@ use mathlib.Core.List.{_++_}
 use lib.Dec.{eqb}
 use lib.ListN.{length, take, drop}
 use Rattle.text.specs.Bytes.{Bytes}
-use Rattle.text.specs.Pieces.{pieces, joined}
 use Rattle.text.specs.declared.separators.Separators.{Separators}
 
 -- the bytes stand in the output from `at` on; all else is as it was
 abbrev pub putAt : ℕ → Bytes → Bytes → Bytes
 putAt at bytes output = take at output ++ (bytes ++ drop (at + length bytes) output)
 
--- a piece, the tag or an element, as it is written with the new component separator
-abbrev pub pieceAgain : Separators → Separators → Bytes → Bytes
-pieceAgain old new piece = joined (new .component) (pieces (old .component) piece)
-
--- what a byte of a piece becomes
+-- what a byte of a segment becomes
 abbrev pub byteAgain : Separators → Separators → ℕ → ℕ
-byteAgain old new b = cond (eqb b (old .component)) (new .component) b
+byteAgain old new b = cond (eqb b (old .element)) (new .element) (cond (eqb b (old .component)) (new .component) b)

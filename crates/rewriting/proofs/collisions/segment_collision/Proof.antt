@@ -1,71 +1,50 @@
--- `segment_collision` meets its contract: the pieces before `start` do not collide.
+-- `segment_collision` meets its contract: the bytes before i do not collide.
 -- Assumes nothing.
-use Prim.Native.Nat.{_-_, _+_}
-use mathlib.Core.Path.{_≡_, sym, _∙_}
-use lib.ListN.{length, drop}
-use borrow.Author.Tests.{not-true, not-false}
-use Rattle.rewriting.proofs.PieceByPiece.{first-found}
-use Rattle.text.proofs.Pieces.{firstPiece}
-use Rattle.rewriting.proofs.CollidingPieces.{ApartTo, apart-none, apart-all, apart-not, apart-more}
+use Prim.Native.Nat.{_-_}
+use mathlib.Core.Logic.{⊎-elim}
+use lib.ListN.{length}
+use Rattle.rewriting.proofs.CollidingBytes.{ApartTo, apart-none, apart-all, apart-behind, apart-more, apart-not}
 use borrow.Author.Needs.{needs}
 use Rattle.rewriting.proofs.collisions.segment_collision.Statement.{statement}
 use Rattle.rewriting.proofs.collisions.segment_collision.Tie as tie
 
 abbrev Inv-loop : tie.InvT-loop
-Inv-loop segment change element₀ start₀ element start = ApartTo (change .old) (change .new) segment element start
+Inv-loop segment change element₀ i₀ element i = ApartTo (change .old) (change .new) segment element i
 
 abbrev μ-loop : tie.MeasureT-loop
-μ-loop segment change element₀ start₀ element start = length segment + 1 - start
-
--- the piece is the one that starts there
-found : (c : tie.After-element Inv-loop μ-loop) → let at = c .before .before .before in
-    c .element .result .now ≡ firstPiece (at .before .before .args .change .old .element) (drop (at .loop .start) (at .before .before .args .segment .now))
-found c =
-    let at = c .before .before .before in
-    let a = at .before .before .args in
-    first-found (a .change .old .element) (a .segment .now) _ (at .loop .start) (c .element .ensures .content)
+μ-loop segment change element₀ i₀ element i = length segment - i
 
 loop-holds : tie.Need-loop-holds Inv-loop μ-loop
 loop-holds c = apart-none _ _ _
 
-sub-element : tie.Need-sub-element Inv-loop μ-loop
-sub-element c = search needs
-
-part-element-start : tie.Need-part-element-start Inv-loop μ-loop
-part-element-start c = search needs
-
-part-element-end : tie.Need-part-element-end Inv-loop μ-loop
-part-element-end c = search needs
-
-element-requires : tie.Need-element-requires Inv-loop μ-loop
-element-requires c κs = search needs
-
-apart-requires : tie.Need-apart-requires Inv-loop μ-loop
-apart-requires c κs = search needs
-
-returns : tie.Need-returns Inv-loop μ-loop
-returns c =
-    let round = c .before .before .before .before in
-    apart-not _ _ _ (round .before .loop .inv) _ (round .loop-test .taken) (found (c .before .before))
-    (sym (c .before .apart .ensures) ∙ not-true _ (c .if1 .taken))
-
-add-start : tie.Need-add-start Inv-loop μ-loop
-add-start c = search needs
-
-add-start-2 : tie.Need-add-start-2 Inv-loop μ-loop
-add-start-2 c = search needs
+shared-slice-read-byte : tie.Need-shared-slice-read-byte Inv-loop μ-loop
+shared-slice-read-byte c = search needs
 
 add-element : tie.Need-add-element Inv-loop μ-loop
 add-element c = search needs
+
+separates-requires : tie.Need-separates-requires Inv-loop μ-loop
+separates-requires c κs = search needs
+
+returns : tie.Need-returns Inv-loop μ-loop
+returns c =
+    let other = c .before .before .before in
+    let round = other .before .before .before in
+    apart-not _ _ _ (round .before .loop .inv) (round .loop-test .taken) (other .if1 .left) (rw (c .before .separates .ensures) at (c .if2 .taken))
+
+add-i : tie.Need-add-i Inv-loop μ-loop
+add-i c = search needs
 
 loop-less : tie.Need-loop-less Inv-loop μ-loop
 loop-less c = search needs
 
 loop-again : tie.Need-loop-again Inv-loop μ-loop
 loop-again c =
-    let round = c .before .before .before .before in
-    apart-more _ _ _ (round .before .loop .inv) _ (round .loop-test .taken) (found (c .before .before))
-    (sym (c .before .apart .ensures) ∙ not-false _ (c .if1 .left))
+    let round = c .before .before .before in
+    let inv = round .before .loop .inv in
+    let inside = round .loop-test .taken in
+    ⊎-elim (λ w. rw (w .1) (apart-behind _ _ _ inv inside (w .0 .taken)))
+    (λ w. rw (w .4) (apart-more _ _ _ inv inside (w .0 .left) (rw (w .2 .ensures) at (w .3 .left)))) (c .if1 .came)
 
 returns-2 : tie.Need-returns-2 Inv-loop μ-loop
 returns-2 c = apart-all _ _ _ (c .before .loop .inv) (c .loop-test .left)
@@ -77,15 +56,11 @@ segment-collision-spec =
     Inv-loop
     μ-loop
     loop-holds
-    sub-element
-    part-element-start
-    part-element-end
-    element-requires
-    apart-requires
-    returns
-    add-start
-    add-start-2
+    shared-slice-read-byte
     add-element
+    separates-requires
+    returns
+    add-i
     loop-less
     loop-again
     returns-2)

@@ -4,7 +4,7 @@ use mathlib.Core.Path.{_≡_, sym, _∙_}
 use mathlib.Core.Bool.{true}
 use borrow.Author.Tests.{not-true, not-false}
 use Rattle.text.specs.Separators.{fitSeparators}
-use Rattle.rewriting.proofs.AcceptedTable.{accepted-names, accepted-length}
+use Rattle.rewriting.proofs.AcceptedTable.{accepted-names, accepted-length, accepted-telling}
 use Rattle.rewriting.proofs.Outcomes.{old-unfit, new-unfit, reading-refused, reading-accepted}
 use borrow.Author.Needs.{needs}
 use Rattle.rewriting.proofs.rewriting.rewrite.Statement.{statement}
@@ -51,7 +51,7 @@ write-accepted-requires c κs =
     let counted = c .before .before .before in
     let read = counted .before .before .before .before .before .before in
     let accepted = rw (counted .count .given .1) at (read .read .ensures) in
-    (accepted-names _ _ _ _ _ _ _ accepted, accepted-length _ _ _ _ _ _ _ accepted _)
+    (accepted-names _ _ _ _ _ _ _ accepted, (accepted-length _ _ _ _ _ _ _ accepted _, accepted-telling _ _ _ _ _ _ _ accepted _))
 
 enum-known-number : tie.Need-enum-known-number
 enum-known-number c = search needs

@@ -6,8 +6,8 @@ use borrow.Author.Needs.{needs}
 use Rattle.rewriting.proofs.rewriting.write_accepted.Statement.{statement}
 use Rattle.rewriting.proofs.rewriting.write_accepted.Tie as tie
 
-first-collision-requires : tie.Need-first-collision-requires
-first-collision-requires c κs = search needs
+find-clash-requires : tie.Need-find-clash-requires
+find-clash-requires c κs = search needs
 
 enum-known-segment : tie.Need-enum-known-segment
 enum-known-segment c = search needs
@@ -24,7 +24,7 @@ returns c =
     let a = tested .before .before .before .before .before .before .before .args in
     rw (c .refused .ensures)
     (too-short (a .change .old) (a .change .new) (a .s .now) (a .segments .now) (a .count) (a .levels) (a .bytes) (a .output .now)
-    (sym (tested .before .enum-told .given .1) ∙ tested .before .before .before .first-collision .ensures) (tested .if1 .taken))
+    (sym (tested .before .enum-told .given .1) ∙ tested .before .before .before .find-clash .ensures) (tested .if1 .taken))
 
 write-segments-requires : tie.Need-write-segments-requires
 write-segments-requires c κs = search needs
@@ -33,7 +33,7 @@ returns-2 : tie.Need-returns-2
 returns-2 c =
     let a = c .before .before .before .before .before .before .before .args in
     collided (a .change .old) (a .change .new) (a .s .now) (a .segments .now) (a .count) (a .levels) (a .bytes) (a .output .now) _ _ _
-    (sym (c .before .segment .given .1) ∙ c .before .before .before .first-collision .ensures)
+    (sym (c .before .segment .given .1) ∙ c .before .before .before .find-clash .ensures)
 
 same-length : tie.Need-same-length
 same-length c = search needs
@@ -43,14 +43,14 @@ returns-3 c =
     let room = c .before .before .before .before in
     let a = room .before .before .before .before .before .before .before .args in
     put (a .change .old) (a .change .new) (a .s .now) (a .segments .now) (a .count) (a .levels) (a .bytes) (a .output .now)
-    (sym (room .before .enum-told .given .1) ∙ room .before .before .before .first-collision .ensures) (room .if1 .left) _
+    (sym (room .before .enum-told .given .1) ∙ room .before .before .before .find-clash .ensures) (room .if1 .left) _
     (c .before .before .write-segments .ensures)
 
 pub write-accepted-spec : {M : Type 1} → statement M
 write-accepted-spec =
     tie.close
     (tie.spec
-    first-collision-requires
+    find-clash-requires
     enum-known-segment
     enum-told
     refused-requires

@@ -1,0 +1,94 @@
+-- The quick test: bytes tested one by one, and why no segment collides where all are harmless.
+-- Assumes nothing.
+use Prim.Native.Nat.{ℕ, suc, _+_, _≤_, _<_}
+use mathlib.Core.Path.{_≡_, refl, sym, _∙_}
+use mathlib.Core.Bool.{Bool, true, false, not, cond, _&&_, _||_}
+use mathlib.Core.List.{List, [], _∷_, _++_}
+use native.Mathlib.Omega.{arith}
+use native.Mathlib.Numerals.{add-one}
+use lib.Dec.{T, eqb}
+use lib.ListN.{length, getD, drop, drop-of-length-le}
+use lib.Seq.{drop-cons}
+use Rattle.text.specs.Bytes.{Bytes, every}
+use Rattle.text.specs.Separators.{isSeparator}
+use Rattle.text.specs.Pieces.{closed}
+use Rattle.text.specs.View.{viewOf, empty, elementOf}
+use Rattle.text.specs.Cut.{Placed, Leads}
+use Rattle.text.specs.declared.separators.Separators.{Separators}
+use Rattle.text.proofs.Bools.{first-of, second-of, and-assoc, and-true, passes}
+use Rattle.text.proofs.Everys.{every-at}
+use Rattle.text.proofs.Writable.{cut-unseparated}
+use Rattle.elements.specs.Checks.{firstBroken}
+use Rattle.elements.specs.declared.verdict.Verdict.{Verdict}
+use Rattle.elements.specs.declared.verdict.Verdict.the-variants.{Holds, Broken}
+use Rattle.elements.proofs.FirstBroken.{each-holds}
+use Rattle.gate.specs.Reads.{cutBy, skipBy}
+use Rattle.rewriting.specs.Rewrites.{strictly, apartFrom, collisionChecks, collision}
+use Rattle.rewriting.specs.declared.collisions.Clash.the-variants.{Nowhere}
+use Rattle.rewriting.specs.internal.QuickTest.{harmlessByte}
+use Rattle.rewriting.proofs.SegmentBytes.{texts}
+use Rattle.rewriting.proofs.CollidingBytes.{clashFrom, clash-first}
+
+-- a test of two lists, one after the other, is one of both
+every-both : (f : ℕ → Bool) (l m : Bytes) → every f (l ++ m) ≡ every f l && every f m
+every-both f [] m = refl
+every-both f (b ∷ l) m = rw (every-both f l m) (sym (and-assoc (f b) (every f l) (every f m)))
+
+module _ (old new : Separators) where
+  -- the bytes before i are tested
+  pub record TestedTo (s : Bytes) (so-far : Bool) (i : ℕ) : Type 0 where
+    pub all : every (harmlessByte old new) s ≡ so-far && every (harmlessByte old new) (drop i s)
+
+  pub tested-none : (s : Bytes) → TestedTo s true 0
+  tested-none s = record { all = refl }
+
+  module _ {s : Bytes} {so-far : Bool} {i : ℕ} (t : TestedTo s so-far i) where
+    pub tested-more : i < length s → TestedTo s (so-far && harmlessByte old new (getD s i 0)) (i + 1)
+    tested-more l =
+        let f = harmlessByte old new in
+        record { all = t .all ∙ rw (add-one, drop-cons s i 0 l) (sym (and-assoc so-far (f (getD s i 0)) (every f (drop (suc i) s)))) }
+
+    pub tested-all : length s ≤ i → so-far ≡ every (harmlessByte old new) s
+    tested-all l = sym (t .all ∙ rw (drop-of-length-le s {i = i} l) (and-true so-far))
+
+  -- one byte: it separates elements, or components, or is harmless and no old separator
+  spared : (e c is-new is-old : Bool) (k : ℕ) {x y x′ y′ : Verdict} → T (not is-new || is-old) → (x ≡ Holds → x′ ≡ Holds) → (y ≡ Holds → y′ ≡ Holds)
+      → cond e x (cond (c || not is-old) y (Broken 18 k)) ≡ Holds → cond e x′ (cond (c || not is-new) y′ (Broken 18 k)) ≡ Holds
+  spared true c is-new is-old k h f g z = f z
+  spared false true is-new is-old k h f g z = g z
+  spared false false false false k h f g z = g z
+  spared false false true false k h f g z = absurd h
+  spared false false is-new true k h f g z = let z : _≡_ {A = ℕ} 0 1 = cc in absurd (omega arith)
+
+  -- no old separator stands among the data, and so no new one
+  none-either : (k : ℕ) (s : Bytes) → T (every (harmlessByte old new) s) → clashFrom old old k s ≡ Holds → clashFrom old new k s ≡ Holds
+  none-either k [] h z = refl
+  none-either k (b ∷ s) h z =
+      let later = second-of (harmlessByte old new b) (every (harmlessByte old new) s) h in
+      spared (eqb b (old .element)) (eqb b (old .component)) (isSeparator new b) (isSeparator old b) k
+      (first-of (harmlessByte old new b) (every (harmlessByte old new) s) h) (none-either (suc k) s later) (none-either k s later) z
+
+  -- a segment of harmless bytes does not collide; no data byte of it is an old separator
+  harmless-holds : (segment : Bytes) → T (every (harmlessByte old new) segment) → T (every (apartFrom old) (viewOf old segment))
+      → firstBroken (collisionChecks new (viewOf old segment)) ≡ Holds
+  harmless-holds segment h o =
+      let v = viewOf old segment in
+      let none : firstBroken (collisionChecks old v) ≡ Holds =
+      each-holds 18 0 (length v) (λ (k : ℕ). apartFrom old (elementOf v k))
+      (λ k l u. passes (apartFrom old (elementOf v k)) (every-at (apartFrom old) v empty o k (omega arith))) in
+      clash-first old new segment ∙ none-either 0 segment h (sym (clash-first old old segment) ∙ none)
+
+  -- and so it is of all segments that were read
+  pub harmless-nowhere : (n at : ℕ) (s : Bytes) (gs : List Placed) (end : ℕ) (rest : Bytes) → Leads (cutBy (strictly old)) (skipBy (strictly old)) at s gs end rest
+      → T (every (harmlessByte old new) (closed (old .terminator) (texts gs))) → collision old new n gs ≡ Nowhere
+  harmless-nowhere n at s [] end rest l h = refl
+  harmless-nowhere n at s (g ∷ gs) end rest l h =
+      let f = harmlessByte old new in
+      let t = old .terminator in
+      let behind = closed t (texts gs) in
+      let halves = rw (every-both f (g .segment) (t ∷ behind)) at h in
+      let here =
+      harmless-holds (g .segment) (first-of (every f (g .segment)) (every f (t ∷ behind)) halves) (cut-unseparated old s (g .segment) (l .0) (l .1)) in
+      let later = second-of (f t) (every f behind) (second-of (every f (g .segment)) (every f (t ∷ behind)) halves) in
+      rw here
+      (harmless-nowhere (suc n) (at + length (g .segment) + 1 + skipBy (strictly old) (l .0)) (l .0) gs end rest (l .3) later)
