@@ -3,7 +3,7 @@
 use Prim.Native.Nat.{ℕ, suc, _+_, _≤_, _<_}
 use mathlib.Core.Path.{_≡_, refl, sym, _∙_}
 use mathlib.Core.Bool.{Bool, true, false, not, cond, _&&_, _||_}
-use mathlib.Core.List.{List, [], _∷_, _++_}
+use mathlib.Core.List.{List, [], _∷_}
 use native.Mathlib.Omega.{arith}
 use native.Mathlib.Numerals.{add-one}
 use lib.Dec.{T, eqb}
@@ -16,7 +16,7 @@ use Rattle.text.specs.View.{viewOf, empty, elementOf}
 use Rattle.text.specs.Cut.{Placed, Leads}
 use Rattle.text.specs.declared.separators.Separators.{Separators}
 use Rattle.text.proofs.Bools.{first-of, second-of, and-assoc, and-true, passes}
-use Rattle.text.proofs.Everys.{every-at}
+use Rattle.text.proofs.Everys.{every-at, every-both}
 use Rattle.text.proofs.Writable.{cut-unseparated}
 use Rattle.elements.specs.Checks.{firstBroken}
 use Rattle.elements.specs.declared.verdict.Verdict.{Verdict}
@@ -28,11 +28,6 @@ use Rattle.rewriting.specs.declared.collisions.Clash.the-variants.{Nowhe
 use Rattle.rewriting.specs.internal.QuickTest.{harmlessByte}
 use Rattle.rewriting.proofs.SegmentBytes.{texts}
 use Rattle.rewriting.proofs.CollidingBytes.{clashFrom, clash-first}
-
--- a test of two lists, one after the other, is one of both
-every-both : (f : ℕ → Bool) (l m : Bytes) → every f (l ++ m) ≡ every f l && every f m
-every-both f [] m = refl
-every-both f (b ∷ l) m = rw (every-both f l m) (sym (and-assoc (f b) (every f l) (every f m)))
 
 module _ (old new : Separators) where
   -- the bytes before i are tested

@@ -1,15 +1,16 @@
 -- Laws of `every`: what passes at every one of a list passes at each place, and carries over to other lists and tests.
 -- Assumes nothing.
 use Prim.Native.Nat.{ℕ, zero, suc, _<_}
+use mathlib.Core.Path.{_≡_, refl, sym}
 use mathlib.Core.Logic.{by-cases}
-use mathlib.Core.Bool.{Bool}
+use mathlib.Core.Bool.{Bool, _&&_}
 use mathlib.Core.List.{List, [], _∷_, _++_}
 use native.Mathlib.Omega.{arith}
 use native.Mathlib.Decide.{decLt}
 use lib.Dec.{T}
 use lib.ListN.{length, getD, List·getD-eq-default}
 use Rattle.text.specs.Bytes.{every}
-use Rattle.text.proofs.Bools.{both, first-of, second-of}
+use Rattle.text.proofs.Bools.{both, first-of, second-of, and-assoc, and-true}
 
 module _ {A : Type 0} where
   -- a weaker test passes at every one too
@@ -29,8 +30,23 @@ module _ {A : Type 0} where
   every-anywhere f l d t h k =
       by-cases (decLt k (length l)) (λ b. every-at f l d h k b) (λ n. rw (List·getD-eq-default l d {n = k} (omega arith)) t)
 
-  -- a test passes at every one of two lists, one after the other
+  -- and where it passes at each place it passes at every one
+  pub every-of : (f : A → Bool) (l : List A) (d : A) → ((k : ℕ) → k < length l → T (f (getD l k d))) → T (every f l)
+  every-of f [] d h = tt
+  every-of f (x ∷ l) d h = both (f x) (every f l) (h 0 (omega arith)) (every-of f l d (λ k u. h (suc k) (omega arith)))
+
+  -- a test of two lists, one after the other, is one of both
+  pub every-both : (f : A → Bool) (l m : List A) → every f (l ++ m) ≡ every f l && every f m
+  every-both f [] m = refl
+  every-both f (x ∷ l) m = rw (every-both f l m) (sym (and-assoc (f x) (every f l) (every f m)))
+
   pub every-append : (f : A → Bool) (l m : List A) → T (every f l) → T (every f m) → T (every f (l ++ m))
-  every-append f [] m h i = i
-  every-append f (x ∷ l) m h i =
-      both (f x) (every f (l ++ m)) (first-of (f x) (every f l) h) (every-append f l m (second-of (f x) (every f l) h) i)
+  every-append f l m h i = rw (every-both f l m) (both (every f l) (every f m) h i)
+
+  -- one more at the end
+  pub every-snoc : (f : A → Bool) (l : List A) (x : A) → every f (l ++ (x ∷ [])) ≡ every f l && f x
+  every-snoc f l x = rw (every-both f l (x ∷ []), and-true (f x))
+
+  -- one in the middle
+  pub every-middle : (f : A → Bool) (l : List A) (x : A) (m : List A) → T (every f (l ++ x ∷ m)) → T (f x)
+  every-middle f l x m h = first-of (f x) (every f m) (second-of (every f l) (every f (x ∷ m)) (rw (every-both f l (x ∷ m)) at h))

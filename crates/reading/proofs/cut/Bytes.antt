@@ -1,19 +1,19 @@
 -- Rule 5 in bytes: the view of a segment holds data alone exactly if each byte of the segment is data or one of its two separators.
 -- Assumes nothing.
 use Prim.Native.Nat.{ℕ, zero, suc, _+_, _≤_, _<_}
-use mathlib.Core.Path.{_≡_, refl, sym, ap, _∙_}
-use mathlib.Core.Bool.{Bool, true, _&&_, _||_}
-use mathlib.Core.List.{List, [], _∷_, _++_, map}
+use mathlib.Core.Path.{_≡_, refl, ap, _∙_}
+use mathlib.Core.Bool.{Bool, _||_}
+use mathlib.Core.List.{List, [], _∷_, map}
 use native.Mathlib.Omega.{arith}
 use lib.Dec.{T, eqb}
-use lib.ListN.{length, getD}
+use lib.ListN.{length}
 use Rattle.text.specs.Bytes.{Bytes, every}
 use Rattle.text.specs.Separators.{printable}
 use Rattle.text.specs.Pieces.{pieces}
 use Rattle.text.specs.View.{viewOf, empty, elementOf}
 use Rattle.text.specs.declared.separators.Separators.{Separators}
-use Rattle.text.proofs.Bools.{both, first-of, second-of, and-assoc, and-true}
-use Rattle.text.proofs.Everys.{every-at}
+use Rattle.text.proofs.Bools.{both}
+use Rattle.text.proofs.Everys.{every-at, every-of}
 use Rattle.text.proofs.Pieces.{every-pieces}
 use Rattle.elements.specs.Checks.{each, Keeps}
 use Rattle.elements.specs.Rules.{dataPiece, byteChecks}
@@ -25,21 +25,6 @@ use Rattle.gate.proofs.reading.Laws.{keeps-at}
 pub keeps-of : (number a n : ℕ) (test : ℕ → Bool) → ((k : ℕ) → a ≤ k → k < a + n → T (test k)) → Keeps (each number a n test)
 keeps-of number a zero test f = tt
 keeps-of number a (suc n) test f = (f a (omega arith) (omega arith), keeps-of number (suc a) n test (λ k l u. f k (omega arith) (omega arith)))
-
--- a test passes at every one of a list if it does at each place
-pub every-of : {A : Type 0} (f : A → Bool) (l : List A) (d : A) → ((k : ℕ) → k < length l → T (f (getD l k d))) → T (every f l)
-every-of f [] d h = tt
-every-of f (x ∷ l) d h = both (f x) (every f l) (h 0 (omega arith)) (every-of f l d (λ k u. h (suc k) (omega arith)))
-
--- a test that passes at every one passes at one in the middle of the list
-pub every-middle : {A : Type 0} (f : A → Bool) (xs : List A) (y : A) (ys : List A) → T (every f (xs ++ y ∷ ys)) → T (f y)
-every-middle f [] y ys t = first-of (f y) (every f ys) t
-every-middle f (x ∷ xs) y ys t = every-middle f xs y ys (second-of (f x) (every f (xs ++ y ∷ ys)) t)
-
--- one more at the end
-pub every-snoc : {A : Type 0} (f : A → Bool) (xs : List A) (y : A) → every f (xs ++ (y ∷ [])) ≡ every f xs && f y
-every-snoc f [] y = and-true (f y)
-every-snoc f (x ∷ xs) y = ap (λ (t : Bool). f x && t) (every-snoc f xs y) ∙ sym (and-assoc (f x) (every f xs) (f y))
 
 -- bytes with a property pass a test that each byte with it does
 pub all-every : (P : ℕ → Type 0) (f : ℕ → Bool) (s : Bytes) → ((b : ℕ) → P b → T (f b)) → All P s → T (every f s)

@@ -16,11 +16,11 @@ use Rattle.text.specs.Bytes.{Bytes, every}
 use Rattle.text.specs.Pieces.{before, pieces}
 use Rattle.text.specs.internal.Search.{Free}
 use Rattle.text.specs.View.{present, elementCount}
-use Rattle.text.proofs.Everys.{every-at}
+use Rattle.text.proofs.Everys.{every-at, every-of, every-snoc}
 use Rattle.text.proofs.Bools.{both, first-of, second-of, or-left, or-right, or-false, and-true}
 use Rattle.elements.specs.Checks.{each, Keeps}
 use Rattle.elements.specs.Rules.{lastFilled, endsWell, endChecks}
-use Rattle.reading.proofs.cut.Bytes.{keeps-of, every-of, every-snoc}
+use Rattle.reading.proofs.cut.Bytes.{keeps-of}
 use Rattle.gate.proofs.reading.Laws.{keeps-at}
 use Rattle.elements.proofs.PresentPieces.{some as filled, present-pieces}
 

@@ -17,6 +17,7 @@ use Rattle.text.specs.internal.Search.{Free, FirstAt}
 use Rattle.text.specs.Lookup.{pieceSpan}
 use Rattle.text.specs.declared.separators.Separators.{Separators}
 use Rattle.text.proofs.Bools.{both, first-of, second-of, apart}
+use Rattle.text.proofs.Everys.{every-middle}
 use Rattle.text.proofs.Pieces.{pieces-free, pieces-closed}
 use Rattle.text.proofs.View.{free-append}
 use Rattle.reading.specs.internal.Cutting.{layoutOf, BadSegment, CutAs, GoodSegment, Cuts, Stops}
@@ -25,7 +26,7 @@ use Rattle.reading.specs.declared.cutting.Next.{Next}
 use Rattle.reading.specs.declared.cutting.Next.the-variants.{Open, Bad, Segment}
 use Rattle.reading.proofs.cut.SpecialBytes.{belongs, Permitted, refused}
 use Rattle.reading.proofs.cut.Queue.{All, left-none, used-up}
-use Rattle.reading.proofs.cut.Bytes.{every-middle, all-every, data-kept, data-told}
+use Rattle.reading.proofs.cut.Bytes.{all-every, data-kept, data-told}
 use Rattle.reading.proofs.cut.Ends.{Ended, ends-kept, ends-told}
 use Rattle.reading.proofs.cut.Walk.{all-append, Walk, data-good, good-free, place, next, inside, piece}
 use Rattle.reading.proofs.cut.Walk.{piece-place, piece-whole, piece-free, piece-good, piece-alone, piece-well, next-ready, byte-there}
