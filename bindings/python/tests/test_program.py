@@ -1,0 +1,141 @@
+"""python3 -m stormhlaw: what it writes, and its status."""
+
+import os
+import subprocess
+import sys
+import tempfile
+import unittest
+from pathlib import Path
+
+from tests.reports import HERE, LEVELS, SEGMENTS, W1, joined, with_items, with_segment
+
+REPORT = joined(W1)
+# The listing by the README: counts, then a line for each segment, then one for each level.
+LISTING = (
+    "842 segments 7 levels 2 bytes 78\n"
+    + "".join(f"{number} {start} {length} {row}\n" for number, (start, length, row) in enumerate(SEGMENTS, 1))
+    + "".join(f"level {number} {level.segment} {level.parent} {level.depth} {text}\n" for number, level, text in zip((1, 2), LEVELS, ("RP", "I")))
+)
+REFUSED_AT_4 = "refused 14 segment 4 byte 43 element 2\n"
+TRANSACTION = "the gate reads one transaction, from its ST to the end of its SE"
+SEPARATORS = "its separators are not the standard * : ~ that this program reads; a caller of the library can name others"
+TOO_LONG = "longer than the 65,536 bytes that this program reads; the library reads 1,048,576"
+NO_ROOM = "more than the 1,000 segments or 200 levels that this program has room for; a caller of the library can lend more"
+LOST = "stormhlaw: standard output: cannot be written\n"
+
+
+def run(*words, stdin=b"", **options):
+    """The status, standard output and standard error of the program."""
+    command = [sys.executable, "-m", "stormhlaw", *words]
+    options = {"stdout": subprocess.PIPE, "stderr": subprocess.PIPE, "input": stdin, **options}
+    done = subprocess.run(command, cwd=HERE, **options)
+    return done.returncode, done.stdout, done.stderr
+
+
+def shell(redirections, *words):
+    """The same, with redirections as a shell writes them."""
+    command = f'exec "$0" -m stormhlaw "$@" {redirections}'
+    done = subprocess.run(["sh", "-c", command, sys.executable, *words], cwd=HERE, stdin=subprocess.DEVNULL, capture_output=True)
+    return done.returncode, done.stdout, done.stderr
+
+
+class Program(unittest.TestCase):
+    def setUp(self):
+        folder = tempfile.TemporaryDirectory()
+        self.addCleanup(folder.cleanup)
+        self.folder = Path(folder.name)
+
+    def file(self, name, data):
+        (self.folder / name).write_bytes(data)
+        return str(self.folder / name)
+
+    def gives(self, found, status, output="", errors=""):
+        self.assertEqual(found, (status, output.encode(), errors.encode()))
+
+    def test_standard_input(self):
+        self.gives(run(stdin=REPORT), 0, LISTING)
+        self.gives(run("-", stdin=REPORT), 0, LISTING)
+        self.gives(run("--", stdin=REPORT), 0, LISTING)
+        self.gives(run(stdin=with_segment(4, "HL*2*1*F*0")), 1, REFUSED_AT_4)
+
+    def test_one_file(self):
+        self.gives(run(self.file("report", REPORT)), 0, LISTING)
+        self.gives(run(self.file("report", with_segment(4, "HL*2*1*F*0"))), 1, REFUSED_AT_4)
+
+    def test_several_files(self):
+        good, bad = self.file("good", REPORT), self.file("bad", with_segment(4, "HL*2*1*F*0"))
+        missing = str(self.folder / "missing")
+        self.gives(run(good, "-", stdin=REPORT), 0, f"{good}: {LISTING}standard input: {LISTING}")
+        self.gives(run(bad, good), 1, f"{bad}: {REFUSED_AT_4}{good}: {LISTING}")
+        errors = f"stormhlaw: {missing}: No such file or directory\n"
+        self.gives(run(missing, bad, good), 2, f"{bad}: {REFUSED_AT_4}{good}: {LISTING}", errors)
+
+    def test_files_that_cannot_be_read(self):
+        self.gives(run(str(self.folder)), 2, "", f"stormhlaw: {self.folder}: Is a directory\n")
+        self.gives(run(""), 2, "", "stormhlaw: : No such file or directory\n")
+        self.gives(shell("<&-"), 2, "", "stormhlaw: standard input: Bad file descriptor\n")
+
+    def test_options(self):
+        report = self.file("report", REPORT)
+        self.gives(run("--version", report), 0, "stormhlaw 0.1.0\n")
+        for word in ("-x", "--helpme", "---"):
+            self.gives(run(report, word), 2, "", f"stormhlaw: no such option: {word}; try --help\n")
+        self.assertEqual(run("-h"), run("--help"))
+        status, usage, errors = run("-h")
+        self.assertEqual((status, usage.split(b"\n")[0], errors), (0, b"usage: stormhlaw [FILE..]", b""))
+
+    def test_names_after_the_options(self):
+        self.gives(run("--", "-x"), 2, "", "stormhlaw: -x: No such file or directory\n")
+
+    def test_names_that_are_no_text(self):
+        name = os.fsencode(self.file("a", REPORT)) + b"\xff\n"
+        os.rename(name[:-2], name)
+        self.assertEqual(run(name), (0, LISTING.encode(), b""))
+        self.assertEqual(run(name, name), (0, 2 * (name + b": " + LISTING.encode()), b""))
+        self.assertEqual(run(name + b"?"), (2, b"", b"stormhlaw: " + name + b"?: No such file or directory\n"))
+
+    def test_output_that_cannot_be_written(self):
+        good = self.file("good", REPORT)
+        self.gives(shell(">/dev/full", good), 2, "", LOST)
+        self.gives(shell(">&-", good), 2, "", LOST)
+        self.gives(shell(">/dev/full", "--help"), 2, "", LOST)
+        self.gives(shell("2>&-", good, "-"), 1, f"{good}: {LISTING}standard input: refused 3 segment 1 byte 0 element 0\n")
+
+
+class Hints(unittest.TestCase):
+    def hint(self, data, text, answer=None):
+        """What is said of the report on standard error; `answer` is what is said on standard output, if that is of interest."""
+        status, output, errors = run(stdin=data)
+        self.assertEqual(errors.decode(), f"stormhlaw: standard input: {text}\n" if text else "")
+        self.assertEqual(status, 0 if output.startswith(b"842") else 1)
+        if answer:
+            self.assertEqual(output.decode(), answer)
+
+    def test_beginnings(self):
+        self.hint(b"ISA*00*", f"a whole interchange (ISA): {TRANSACTION}")
+        self.hint(b"GS*NR*", f"a functional group (GS): {TRANSACTION}")
+        for mark in (b"\xef\xbb\xbf", b"\xff\xfe", b"\xfe\xff"):
+            self.hint(mark + REPORT, "a byte order mark comes first: a report begins with ST")
+        self.hint(REPORT[1:], None)
+
+    def test_separators(self):
+        for start in (b"ST|842", b"ST\n", b"ST~", b"ST*842|", b"ST*842~", b"ST*|", b"ST*842*0001|", b"ST*842*0001\n", b"ST**:"):
+            self.hint(start, SEPARATORS)
+        for start in (b"ST", b"STX|", b"ST*", b"ST*842", b"ST*842*", b"ST*842*0001", b"ST*842*0001~|", b"ST*842*0001*|", b"ST***|"):
+            self.hint(start, None)
+
+    def test_sizes(self):
+        self.hint(REPORT.ljust(65_536, b"\n"), None, LISTING)
+        self.hint(REPORT.ljust(65_537, b"\n"), TOO_LONG, "refused 2 segment 0 byte 0 element 0\n")
+        self.hint(b"ISA".ljust(65_537), f"a whole interchange (ISA): {TRANSACTION}", "refused 2 segment 0 byte 0 element 0\n")
+        self.hint(with_items(199), None)
+        self.hint(with_items(200), NO_ROOM)
+
+    def test_bytes_behind(self):
+        self.hint(REPORT + b"\r\n\n", None, LISTING)
+        self.hint(REPORT + b"\r\nGE", "4 bytes behind its SE were not looked at", LISTING)
+        self.hint(REPORT + b" ", "1 bytes behind its SE were not looked at", LISTING)
+
+
+if __name__ == "__main__":
+    unittest.main()
