@@ -86,7 +86,7 @@ def part_of(lent: Lent, start: int, length: int) -> bytes:
 
 def _is_still(view: memoryview) -> bool:
     """Whether the view shows bytes in a row that nobody can write to."""
-    return view.readonly and view.c_contiguous and is_a(view.obj, bytes)
+    return view.c_contiguous and is_a(view.obj, bytes)
 
 
 def _address(view: memoryview) -> int:

@@ -152,8 +152,8 @@ _segment: Callable[[Tuple[Any, ...]], Segment] = partial(tuple.__new__, Segment)
 
 
 def as_numbers(table: bytes) -> memoryview:
-    """The numbers in a table's bytes. A view of no bytes cannot be cast: no number of one stands for it."""
-    return memoryview(table).cast("Q") if table else memoryview(bytes(8)).cast("Q")[:0]
+    """The numbers in a table's bytes."""
+    return memoryview(table).cast("Q")
 
 
 def _restored(kind: Type[Records[Record]], table: bytes) -> Records[Record]:

@@ -138,6 +138,16 @@ class Lending(unittest.TestCase):
         read(view, level_room=5001)
         view.release()
 
+    def test_nothing_is_held_after_an_error(self):
+        area = mmap.mmap(-1, 2**31 + 1, prot=mmap.PROT_READ)
+        try:
+            with memoryview(area) as view:
+                element(view, 1)
+        except ValueError:
+            # The frames of the call still live.
+            area.close()
+        self.assertTrue(area.closed)
+
     def test_too_long(self):
         for make in (bytes, bytearray, memoryview, mapped, spread):
             with self.assertRaises(Refused) as caught:

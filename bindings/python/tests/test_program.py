@@ -128,8 +128,14 @@ class Hints(unittest.TestCase):
         self.hint(REPORT.ljust(65_536, b"\n"), None, LISTING)
         self.hint(REPORT.ljust(65_537, b"\n"), TOO_LONG, "refused 2 segment 0 byte 0 element 0\n")
         self.hint(b"ISA".ljust(65_537), f"a whole interchange (ISA): {TRANSACTION}", "refused 2 segment 0 byte 0 element 0\n")
-        self.hint(with_items(199), None)
-        self.hint(with_items(200), NO_ROOM)
+
+    def test_room(self):
+        def with_segments(count):
+            return joined(W1[:5] + (count - 6) * ["RC*4"] + [f"SE*{count}*0001"])
+
+        for fits, does_not in ((with_segments(1000), with_segments(1001)), (with_items(199), with_items(200))):
+            self.assertEqual(run(stdin=fits)[::2], (0, b""))
+            self.hint(does_not, NO_ROOM)
 
     def test_bytes_behind(self):
         self.hint(REPORT + b"\r\n\n", None, LISTING)
