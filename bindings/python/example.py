@@ -17,7 +17,8 @@ def listed(data: bytes) -> int:
     for number, level in enumerate(report.levels, 1):
         segment = report.segments[level.segment - 1]
         hl = data[segment.start : segment.start + segment.length]
-        print(f"level {number}: {stormhlaw.element(hl, 1).decode()} {level.code.name}, parent {level.parent}, depth {level.depth}")
+        name = stormhlaw.element(hl, 1).decode()
+        print(f"level {number}: {name} {level.code.name}, parent {level.parent}, depth {level.depth}")
     return 0
 
 

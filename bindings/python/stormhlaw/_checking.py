@@ -1,7 +1,7 @@
 """Checks of arguments. A message names the argument, says what is wanted and what came.
 
-Types are asked with issubclass(type(..)), which no object can answer for itself, and a value of a subclass is looked at by the methods of the
-type itself, so that what is checked is what the library gets.
+Types are asked with issubclass(type(..)), which no object can answer for itself, and a value of a subclass is looked
+at by the methods of the type itself, so that what is checked is what the library gets.
 """
 
 from __future__ import annotations

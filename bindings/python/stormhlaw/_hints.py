@@ -21,7 +21,8 @@ _BEGINNINGS = (
 
 _REASONS = {
     Reason.INPUT_TOO_LONG: "longer than the 65,536 bytes that this program reads; the library reads 1,048,576",
-    Reason.NO_ROOM: "more than the 1,000 segments or 200 levels that this program has room for; a caller of the library can lend more",
+    Reason.NO_ROOM: "more than the 1,000 segments or 200 levels that this program has room for; "
+    "a caller of the library can lend more",
 }
 
 

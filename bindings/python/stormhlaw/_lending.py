@@ -1,8 +1,8 @@
 """Memory that is lent to the library: bytes of the caller, and bytes that the library writes.
 
-No byte may change while the library reads it. Keeping the interpreter's lock is not enough for that: a thread that reads a file or a socket
-into a bytearray writes to it without the lock, and other processes write to shared memory. So what cannot change is lent as it is, and what
-can is copied first.
+No byte may change while the library reads it. Keeping the interpreter's lock is not enough for that: a thread that reads
+a file or a socket into a bytearray writes to it without the lock, and other processes write to shared memory. So what
+cannot change is lent as it is, and what can is copied first.
 """
 
 from __future__ import annotations
@@ -18,10 +18,9 @@ Data = Union[bytes, bytearray, memoryview]
 SMALL = 32_768
 """A view of fewer bytes is copied in less time than its address is found."""
 
-
 Lent = Tuple[Union[bytes, int], int, bytes]
-"""Where bytes start, how many there are, and the object that holds them, which must live as long as they are used. Bytes start where the object
-that holds them says, or at an address."""
+"""Where bytes start, how many there are, and the object that holds them, which must live as long as they are used. The
+start is that object itself, or an address in it."""
 
 
 class _Buffer(ctypes.Structure):
@@ -59,8 +58,8 @@ def unwritten(length: int) -> bytes:
 
 
 def lend(name: str, data: Any, too_long: Optional[bytes] = None) -> Lent:
-    """The bytes of `data`, which are those of a report or of a part of one. `too_long` may stand for more bytes than it has itself, where
-    only their number counts."""
+    """The bytes of the argument of that name. `too_long` may stand for as many bytes as it has, or more, that would have
+    to be copied, where only their number counts."""
     if is_a(data, bytes):
         return data, bytes.__len__(data), data
     if type(data) is not memoryview and not is_a(data, bytearray):
@@ -99,9 +98,10 @@ def _address(view: memoryview) -> int:
 
 
 def _copied(name: str, view: memoryview, too_long: Optional[bytes]) -> bytes:
-    """The bytes of the view, in the order of its items. A view that shows the same bytes again and again may have any size."""
+    """The bytes of the view, in the order of its items."""
     if too_long is not None and view.nbytes >= len(too_long):
         return too_long
+    # A view that shows the same bytes again and again may be larger than any memory.
     if view.nbytes > COUNT.most:
         raise ValueError(f"{name}: at most {COUNT.written} bytes wanted where they are copied, not {view.nbytes}")
     return view.tobytes()

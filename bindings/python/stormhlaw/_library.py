@@ -5,6 +5,7 @@ from __future__ import annotations
 import ctypes
 import os
 from pathlib import Path
+from typing import Any, List
 
 LONGEST = 1_048_576
 """The most bytes an input may have."""
@@ -18,7 +19,7 @@ Span = ctypes.c_uint64 * 2
 _BYTE, _SIZE, _NUMBER = ctypes.c_uint8, ctypes.c_size_t, ctypes.c_uint64
 # A pointer is given as a bytes object, an array of ctypes, or an address.
 _POINTER = ctypes.c_void_p
-_LENT = [_POINTER, _SIZE]
+_LENT: List[Any] = [_POINTER, _SIZE]
 
 
 def _path() -> str:

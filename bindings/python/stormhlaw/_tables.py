@@ -3,7 +3,7 @@
 from __future__ import annotations
 
 import sys
-from typing import Any, Optional, Sequence, Tuple
+from typing import List, Optional, Tuple
 
 from stormhlaw._checking import count
 from stormhlaw._lending import unwritten
@@ -26,9 +26,9 @@ _HL, _SE = 18, 79
 class Tables:
     """Tables for a reading of so many bytes, with room for so many records.
 
-    A segment that breaks no rule has five bytes or more with its terminator: a tag of two, a separator, a byte. So an input of n bytes
-    never has more than n // 5 segments to record, and no more levels: where there is room for that many, no segment lacks room, and more
-    changes no answer. A larger room is cut to that.
+    A segment that breaks no rule has five bytes or more with its terminator: a tag of two, a separator, a byte. So an
+    input of n bytes never has more than n // 5 segments to record, and no more levels: where there is room for that
+    many, no segment lacks room, and more changes no answer. A larger room is cut to that.
     """
 
     def __init__(self, length: int, segment_room: Optional[int], level_room: Optional[int]) -> None:
@@ -42,7 +42,7 @@ class Tables:
         """Both tables, each with how many numbers it holds, as the library takes them."""
         return self._segments, 3 * self.segment_room, self._levels, 4 * self.level_room
 
-    def told(self, answer: Sequence[Any]) -> Report:
+    def told(self, answer: List[int]) -> Report:
         """The report that the four numbers tell of, once the tables are filled; or its refusal, which is raised."""
         number, first, second, third = answer
         if number == 0:
@@ -51,8 +51,8 @@ class Tables:
         raise Refused(Refusal(Reason(number), first, second, third, *self._records(len(rows), rows.count(_HL))))
 
     def _rows_left(self, number: int, segment: int) -> bytes:
-        """The rows of the segments that a refusal leaves in the table: those before the segment that is refused, and all, up to the SE,
-        where only the rewriting was."""
+        """The rows of the segments that a refusal leaves in the table: those before the segment that is refused; where
+        only the rewriting is refused, all, up to the SE."""
         if number < Reason.DATA_EQUALS_SEPARATOR:
             return self._rows(max(segment - 1, 0))
         rows = self._rows(self.segment_room)

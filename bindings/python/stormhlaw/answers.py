@@ -40,7 +40,7 @@ class Reason(IntEnum):
     PARENT_UNKNOWN = 13
     # Element 3: no such code, or the level needs a parent. Element 2: it may not hang under that parent.
     LEVEL_NOT_PERMITTED = 14
-    # Element 2: the parent is marked 0. Element 4: the own mark does not fit. Element 0, at SE: a level marked 1 has no child.
+    # Element 2: the parent is marked 0. Element 4: the own mark does not fit. Element 0: a level marked 1 has no child.
     MARK_UNFIT = 15
     # Element 1: SE01 is not the number of segments. Element 2: SE02 is not ST02.
     CLOSING_WRONG = 16

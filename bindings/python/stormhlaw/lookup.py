@@ -10,7 +10,8 @@ from stormhlaw._library import Span, library
 
 
 def element(segment: Data, number: int, separator: bytes = b"*") -> bytes:
-    """An element of a segment, which is given without its terminator; 0 is the tag. A number past the last gives no bytes."""
+    """An element of a segment, which is given without its terminator. Number 0 is the tag, and a number past the last
+    gives no bytes."""
     return _part(library.stormhlaw_element, lend("segment", segment), number, separator)
 
 
@@ -24,4 +25,4 @@ def _part(find: Any, lent: Lent, number: int, separator: bytes) -> bytes:
     start, length, _ = lent
     place, byte, span = checked_number("number", number, PLACE), one_byte(separator, "separator"), Span()
     find(start, length, byte, place, span)
-    return part_of(lent, *span)
+    return part_of(lent, *span[:])

@@ -33,4 +33,4 @@ def read(
     three = numbers_of("separators", separators)
     tables, answer = Tables(size, segment_room, level_room), Answer()
     library.stormhlaw_read(start, size, *three, *tables.lent(), answer)
-    return tables.told(answer)
+    return tables.told(answer[:])

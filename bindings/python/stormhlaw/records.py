@@ -6,7 +6,21 @@ from abc import abstractmethod
 from enum import IntEnum
 from functools import partial
 from struct import Struct
-from typing import Any, Callable, ClassVar, Iterator, List, NamedTuple, Sequence, Tuple, Type, TypeVar, Union, overload
+from typing import (
+    Any,
+    Callable,
+    ClassVar,
+    Iterator,
+    List,
+    NamedTuple,
+    Sequence,
+    Tuple,
+    Type,
+    TypeVar,
+    Union,
+    cast,
+    overload,
+)
 
 
 class Code(IntEnum):
@@ -54,8 +68,8 @@ Record = TypeVar("Record")
 class Records(Sequence[Record]):
     """Records in a table of numbers. Each is made when it is asked for; `table` gives the numbers themselves.
 
-    A sequence like a list that cannot be written to: it has a length, an index from either end, slices, which are of the same kind, and
-    `in`. It equals a list, or another such sequence, of equal records.
+    A sequence like a list that cannot be written to: it has a length, an index from either end, slices, which are of
+    the same kind, and `in`. It equals a list, or another such sequence, of equal records.
     """
 
     __slots__ = ("_table",)
@@ -104,7 +118,7 @@ class Records(Sequence[Record]):
     def __eq__(self, other: object) -> bool:
         if not isinstance(other, (list, Records)):
             return NotImplemented
-        if type(other) is type(self):
+        if isinstance(other, Records) and type(other) is type(self):
             return bool(self._table == other._table)
         return len(self) == len(other) and all(mine == theirs for mine, theirs in zip(self, other))
 
@@ -148,7 +162,7 @@ class Levels(Records[Level]):
 _THREE, _FOUR = Struct("3Q"), Struct("4Q")
 _CODES: List[Code] = list(Code)
 # What Segment._make does, in a third less time for a whole table.
-_segment: Callable[[Tuple[Any, ...]], Segment] = partial(tuple.__new__, Segment)
+_segment = cast(Callable[[Tuple[int, ...]], Segment], partial(tuple.__new__, Segment))
 
 
 def as_numbers(table: bytes) -> memoryview:

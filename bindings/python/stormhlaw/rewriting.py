@@ -33,5 +33,5 @@ def rewrite(
     room = count("length", length, min(size, LONGEST))
     tables, answer, output = Tables(size, segment_room, level_room), Answer(), unwritten(room)
     library.stormhlaw_rewrite(start, size, *six, *tables.lent(), output, room, answer)
-    report = tables.told(answer)
+    report = tables.told(answer[:])
     return report, output[: report.bytes]

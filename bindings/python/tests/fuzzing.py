@@ -1,8 +1,8 @@
 """Calls of every public function with arguments of every kind. Run: python3 -m tests.fuzzing SEED COUNT.
 
-Each argument is known to fit or not. A call whose arguments all fit must answer as the library does when it is called without the package, with
-tables as large as was asked for; a lookup, as Python's split() does. Any other call must raise a TypeError or a ValueError that names an argument
-that does not fit.
+Each argument is known to fit or not. A call whose arguments all fit must answer as the library does when it is called
+without the package, with tables as large as was asked for; a lookup, as Python's split() does. Any other call must raise
+a TypeError or a ValueError that names an argument that does not fit.
 """
 
 import array
@@ -90,9 +90,10 @@ class Odd(metaclass=Nameless):
 
 
 OBJECTS = (
-    None, True, False, 1.5, float("nan"), float("inf"), 2j, Decimal(7), Fraction(7), "", "ST*842*0001~", "*", chr(298), "\udcff", [], [42],
-    (), (b"*", b":", b"~"), {}, {b"*"}, range(7), object(), bytes, Separators, Liar(), Odd(), Mock(spec=bytes), Mock(spec=Separators),
-    Mock(spec=int), array.array("B", b"ST*842"), (ctypes.c_char * 6)(), mmap.mmap(-1, 16), ctypes.c_void_p(8), lambda: b"", NotImplemented,
+    None, True, False, 1.5, float("nan"), float("inf"), 2j, Decimal(7), Fraction(7), "", "ST*842*0001~", "*", chr(298),
+    "\udcff", [], [42], (), (b"*", b":", b"~"), {}, {b"*"}, range(7), object(), bytes, Separators, Liar(), Odd(),
+    Mock(spec=bytes), Mock(spec=Separators), Mock(spec=int), array.array("B", b"ST*842"), (ctypes.c_char * 6)(),
+    mmap.mmap(-1, 16), ctypes.c_void_p(8), lambda: b"", NotImplemented,
 )  # fmt: skip
 
 NUMBERS = (0, 1, 2, 3, 5, 6, 7, 8, 16, 77, 78, 79, 255, 4096, 2**16, 2**20, 2**31 - 1, 2**31)
@@ -100,10 +101,10 @@ LARGE = (2**31 + 1, 2**32, 2**40, 2**62, 2**63 - 1, 2**63, 2**64 - 1)
 HUGE = (-1, -2, -(2**31), -(2**63), 2**64, 2**64 + 7, 2**65, 10**30, 10**5000, -(10**5000))
 
 REPORTS = [
-    joined(W1), joined(W1) + b"\r\nGE*1*1~", 2 * joined(W1), joined(W1[:4]), with_segment(4, "HL*2*1*F*0"), with_items(3), with_items(40),
-    with_segment(2, "BNR*11*N|7*20240301"), b"",
+    joined(W1), joined(W1) + b"\r\nGE*1*1~", 2 * joined(W1), joined(W1[:4]), with_segment(4, "HL*2*1*F*0"),
+    with_segment(2, "BNR*11*N|7*20240301"), with_items(3), with_items(40), b"",
 ]  # fmt: skip
-LARGE_REPORTS = [with_items(1500), joined(W1).ljust(stormhlaw.LONGEST, b"~"), joined(W1).ljust(stormhlaw.LONGEST + 1, b"~")]
+LARGE_REPORTS = [with_items(1500), *(joined(W1).ljust(stormhlaw.LONGEST + more, b"~") for more in (0, 1))]
 
 
 def any_object(chance):
@@ -121,13 +122,15 @@ def any_number(chance, most):
     return Given(value, int(number) if 0 <= number <= most else UNFIT)
 
 
+def any_place(chance):
+    """The number of an element or a component."""
+    return any_number(chance, 2**64 - 1)
+
+
 def any_count(chance):
-    return Given(None, None) if chance.random() < 0.5 else without_none(any_number(chance, 2**31))
-
-
-def without_none(given):
-    """None fits where a count is optional."""
-    return Given(None, None) if given.value is None else given
+    """A room or a length, which need not be given."""
+    given = any_number(chance, 2**31)
+    return Given(None, None) if given.value is None or chance.random() < 0.5 else given
 
 
 def any_bytes(chance):
@@ -192,8 +195,8 @@ def plain(kind):
 
 KINDS = (
     plain(bytes), plain(bytes), plain(bytearray), plain(memoryview), plain(LyingBytes), plain(LyingArray),
-    plain(lambda data: memoryview(bytearray(data)).toreadonly()), cast_view, shaped_view, stepped_view, array_view, ctypes_view, part_view,
-    mapped_view,
+    plain(lambda data: memoryview(bytearray(data)).toreadonly()), cast_view, shaped_view, stepped_view, array_view,
+    ctypes_view, part_view, mapped_view,
 )  # fmt: skip
 
 
@@ -242,11 +245,11 @@ def any_separators(chance):
 FUNCTIONS = {
     read: {"data": any_data, "separators": any_separators, "segment_room": any_count, "level_room": any_count},
     rewrite: {
-        "data": any_data, "new": any_separators, "separators": any_separators, "length": any_count, "segment_room": any_count,
-        "level_room": any_count,
+        "data": any_data, "new": any_separators, "separators": any_separators, "length": any_count,
+        "segment_room": any_count, "level_room": any_count,
     },
-    element: {"segment": any_data, "number": lambda chance: any_number(chance, 2**64 - 1), "separator": any_byte},
-    component: {"element_bytes": any_data, "number": lambda chance: any_number(chance, 2**64 - 1), "separator": any_byte},
+    element: {"segment": any_data, "number": any_place, "separator": any_byte},
+    component: {"element_bytes": any_data, "number": any_place, "separator": any_byte},
     Separators: {"element": any_byte, "component": any_byte, "terminator": any_byte},
 }  # fmt: skip
 

@@ -8,6 +8,7 @@ from stormhlaw import Separators, component, element, read, rewrite
 from tests.reports import W1, joined
 
 REPORT = joined(W1)
+NO_BYTES = ((chr(298), "str"), ("*", "str"), (42, "int"), (None, "None"), (bytearray(b"*"), "bytearray"))
 NEW = Separators(b"|", b"^", b"'")
 
 
@@ -65,24 +66,28 @@ class Arguments(unittest.TestCase):
 
     def test_separators_when_they_are_made(self):
         for field in ("element", "component", "terminator"):
-            for value, kind in ((chr(298), "str"), ("*", "str"), (42, "int"), (None, "None"), (bytearray(b"*"), "bytearray")):
+            for value, kind in NO_BYTES:
                 self.refused(TypeError, f"separators.{field}: bytes wanted, not {kind}", Separators, **{field: value})
             for value in (b"", b"**", b"\x00" * 70):
                 message = f"separators.{field}: one byte wanted, not {len(value)} bytes"
                 self.refused(ValueError, message, Separators, **{field: value})
 
     def test_separators_when_they_are_used(self):
-        for value, kind in ((None, "None"), ("*:~", "str"), (b"*:~", "bytes"), ((b"*", b":", b"~"), "tuple"), (Mock(spec=Separators), "Mock")):
+        kinds = (
+            (None, "None"), ("*:~", "str"), (b"*:~", "bytes"), ((b"*", b":", b"~"), "tuple"), (Mock(spec=Separators), "Mock"),
+        )  # fmt: skip
+        for value, kind in kinds:
             self.refused(TypeError, f"separators: Separators wanted, not {kind}", read, REPORT, value)
             self.refused(TypeError, f"separators: Separators wanted, not {kind}", rewrite, REPORT, NEW, value)
             self.refused(TypeError, f"new: Separators wanted, not {kind}", rewrite, REPORT, value)
         self.refused(TypeError, "separators.component: bytes wanted, not str", read, REPORT, tampered(":"))
-        self.refused(ValueError, "separators.component: one byte wanted, not 2 bytes", rewrite, REPORT, NEW, tampered(b"::"))
+        message = "separators.component: one byte wanted, not 2 bytes"
+        self.refused(ValueError, message, rewrite, REPORT, NEW, tampered(b"::"))
         self.refused(TypeError, "new.component: bytes wanted, not None", rewrite, REPORT, tampered(None))
 
     def test_separator(self):
         for call in (element, component):
-            for value, kind in ((chr(298), "str"), ("*", "str"), (42, "int"), (None, "None"), (bytearray(b"*"), "bytearray")):
+            for value, kind in NO_BYTES:
                 self.refused(TypeError, f"separator: bytes wanted, not {kind}", call, b"HL*1", 1, value)
             for value in (b"", b"**"):
                 self.refused(ValueError, f"separator: one byte wanted, not {len(value)} bytes", call, b"HL*1", 1, value)

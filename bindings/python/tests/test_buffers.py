@@ -65,11 +65,11 @@ KINDS = {
     "view backwards": lambda data: memoryview(data[::-1])[::-1],
     "view of a view": lambda data: memoryview(memoryview(data)),
     "two dimensions": lambda data: memoryview(data).cast("B", (len(data) // 2, 2)),
-    "two dimensions of an array": lambda data: memoryview(array.array("H", data)).cast("B").cast("H", (len(data) // 4, 2)),
+    "two dimensions of numbers": lambda data: memoryview(bytearray(data)).cast("H", (len(data) // 4, 2)),
     "view of a structure": lambda data: memoryview((Structure * (len(data) // 16)).from_buffer_copy(data)),
     "view of ctypes numbers": lambda data: memoryview((ctypes.c_uint32 * (len(data) // 4)).from_buffer_copy(data)),
     **{f"view of format {form}": lambda data, form=form: memoryview(data).cast(form) for form in "cbB?hHiIlLqQnNfdP"},
-    **{f"view of an array of {form}": lambda data, form=form: memoryview(array.array(form, data)) for form in "bBhHiIlLqQfd"},
+    **{f"array of {form}": lambda data, form=form: memoryview(array.array(form, data)) for form in "bBhHiIlLqQfd"},
 }
 
 
@@ -91,7 +91,8 @@ class Kinds(unittest.TestCase):
                 self.assertIs(type(component(make(PADDED), 1, b"!")), bytes)
 
     def test_empty(self):
-        for empty in (b"", bytearray(), memoryview(b""), memoryview(b"ab")[1:1], memoryview(array.array("Q")), memoryview(b"ab")[::2][:0]):
+        view = memoryview(b"ab")
+        for empty in (b"", bytearray(), memoryview(b""), view[1:1], view[::2][:0], memoryview(array.array("Q"))):
             with self.assertRaises(Refused) as caught:
                 read(empty)
             self.assertEqual(str(caught.exception), "refused 3 segment 1 byte 0 element 0")
@@ -111,7 +112,8 @@ class Lending(unittest.TestCase):
         held = bytes(7) + self.LARGE
         first, length, owner = lend("data", memoryview(held))
         self.assertIs(owner, held)
-        self.assertEqual(lend("data", memoryview(held)[7:].cast("B", (1, len(self.LARGE)))), (first + 7, length - 7, held))
+        part = memoryview(held)[7:].cast("B", (1, len(self.LARGE)))
+        self.assertEqual(lend("data", part), (first + 7, length - 7, held))
         self.assertEqual(ctypes.string_at(first, length), held)
 
     def test_what_can_change_is_copied(self):

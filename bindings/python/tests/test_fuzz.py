@@ -1,4 +1,7 @@
-"""Calls with arguments of every kind, here and in a process of their own, where a crash shows as a failure. STORMHLAW_FUZZ_CALLS is how many."""
+"""Calls with arguments of every kind, here and in a process of their own, where a crash shows as a failure.
+
+STORMHLAW_FUZZ_CALLS is how many.
+"""
 
 import os
 import subprocess

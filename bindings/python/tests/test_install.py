@@ -104,7 +104,8 @@ class Library(unittest.TestCase):
 
     def told(self, library):
         command = [sys.executable, "-c", "import stormhlaw; print(stormhlaw.read)"]
-        done = subprocess.run(command, cwd=HERE, env={**os.environ, "STORMHLAW_LIBRARY": library}, capture_output=True, text=True)
+        environment = {**os.environ, "STORMHLAW_LIBRARY": library}
+        done = subprocess.run(command, cwd=HERE, env=environment, capture_output=True, text=True)
         return done.returncode, done.stderr.splitlines()[-1:]
 
     def test_named(self):

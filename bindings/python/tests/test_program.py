@@ -7,20 +7,34 @@ import tempfile
 import unittest
 from pathlib import Path
 
-from tests.reports import HERE, LEVELS, SEGMENTS, W1, joined, with_items, with_segment
+from tests.reports import HERE, W1, joined, with_items, with_segment
 
 REPORT = joined(W1)
-# The listing by the README: counts, then a line for each segment, then one for each level.
-LISTING = (
-    "842 segments 7 levels 2 bytes 78\n"
-    + "".join(f"{number} {start} {length} {row}\n" for number, (start, length, row) in enumerate(SEGMENTS, 1))
-    + "".join(f"level {number} {level.segment} {level.parent} {level.depth} {text}\n" for number, level, text in zip((1, 2), LEVELS, ("RP", "I")))
-)
+# As the README says: the counts, then a line for each segment of W1, then one for each level.
+LISTING = """\
+842 segments 7 levels 2 bytes 78
+1 0 11 1
+2 12 19 2
+3 32 10 18
+4 43 10 18
+5 54 5 46
+6 60 7 64
+7 68 9 79
+level 1 3 0 1 RP
+level 2 4 1 2 I
+"""
 REFUSED_AT_4 = "refused 14 segment 4 byte 43 element 2\n"
 TRANSACTION = "the gate reads one transaction, from its ST to the end of its SE"
-SEPARATORS = "its separators are not the standard * : ~ that this program reads; a caller of the library can name others"
+SEPARATORS = (
+    "its separators are not the standard * : ~ that this program reads; a caller of the library can name others"
+)
 TOO_LONG = "longer than the 65,536 bytes that this program reads; the library reads 1,048,576"
-NO_ROOM = "more than the 1,000 segments or 200 levels that this program has room for; a caller of the library can lend more"
+NO_ROOM = (
+    "more than the 1,000 segments or 200 levels that this program has room for; "
+    "a caller of the library can lend more"
+)
+REFUSED_2 = "refused 2 segment 0 byte 0 element 0\n"
+REFUSED_3 = "refused 3 segment 1 byte 0 element 0\n"
 LOST = "stormhlaw: standard output: cannot be written\n"
 
 
@@ -34,8 +48,8 @@ def run(*words, stdin=b"", **options):
 
 def shell(redirections, *words):
     """The same, with redirections as a shell writes them."""
-    command = f'exec "$0" -m stormhlaw "$@" {redirections}'
-    done = subprocess.run(["sh", "-c", command, sys.executable, *words], cwd=HERE, stdin=subprocess.DEVNULL, capture_output=True)
+    command = ["sh", "-c", f'exec "$0" -m stormhlaw "$@" {redirections}', sys.executable, *words]
+    done = subprocess.run(command, cwd=HERE, stdin=subprocess.DEVNULL, capture_output=True)
     return done.returncode, done.stdout, done.stderr
 
 
@@ -99,12 +113,12 @@ class Program(unittest.TestCase):
         self.gives(shell(">/dev/full", good), 2, "", LOST)
         self.gives(shell(">&-", good), 2, "", LOST)
         self.gives(shell(">/dev/full", "--help"), 2, "", LOST)
-        self.gives(shell("2>&-", good, "-"), 1, f"{good}: {LISTING}standard input: refused 3 segment 1 byte 0 element 0\n")
+        self.gives(shell("2>&-", good, "-"), 1, f"{good}: {LISTING}standard input: {REFUSED_3}")
 
 
 class Hints(unittest.TestCase):
     def hint(self, data, text, answer=None):
-        """What is said of the report on standard error; `answer` is what is said on standard output, if that is of interest."""
+        """What is said of the report on standard error, and on standard output where that is given too."""
         status, output, errors = run(stdin=data)
         self.assertEqual(errors.decode(), f"stormhlaw: standard input: {text}\n" if text else "")
         self.assertEqual(status, 0 if output.startswith(b"842") else 1)
@@ -119,15 +133,17 @@ class Hints(unittest.TestCase):
         self.hint(REPORT[1:], None)
 
     def test_separators(self):
-        for start in (b"ST|842", b"ST\n", b"ST~", b"ST*842|", b"ST*842~", b"ST*|", b"ST*842*0001|", b"ST*842*0001\n", b"ST**:"):
+        others = b"ST|842", b"ST\n", b"ST~", b"ST*842|", b"ST*842~", b"ST*|", b"ST*842*1|", b"ST*842*0001\n", b"ST**:"
+        for start in others:
             self.hint(start, SEPARATORS)
-        for start in (b"ST", b"STX|", b"ST*", b"ST*842", b"ST*842*", b"ST*842*0001", b"ST*842*0001~|", b"ST*842*0001*|", b"ST***|"):
+        standard = b"ST", b"STX|", b"ST*", b"ST*842", b"ST*842*", b"ST*842*0001", b"ST*842*1~|", b"ST*842*1*|", b"ST***|"
+        for start in standard:
             self.hint(start, None)
 
     def test_sizes(self):
         self.hint(REPORT.ljust(65_536, b"\n"), None, LISTING)
-        self.hint(REPORT.ljust(65_537, b"\n"), TOO_LONG, "refused 2 segment 0 byte 0 element 0\n")
-        self.hint(b"ISA".ljust(65_537), f"a whole interchange (ISA): {TRANSACTION}", "refused 2 segment 0 byte 0 element 0\n")
+        self.hint(REPORT.ljust(65_537, b"\n"), TOO_LONG, REFUSED_2)
+        self.hint(b"ISA".ljust(65_537), f"a whole interchange (ISA): {TRANSACTION}", REFUSED_2)
 
     def test_room(self):
         def with_segments(count):

@@ -123,7 +123,8 @@ class Records(unittest.TestCase):
         self.assertEqual([row for _, _, row in read(REPORT)], [1, 2, 18, 18, 46, 64, 79])
 
     def test_records_are_fixed(self):
-        for record, field in ((Segment(0, 11, 1), "start"), (Level(3, 0, 1, Code.REPORT), "parent"), (read(REPORT), "bytes")):
+        records = ((Segment(0, 11, 1), "start"), (Level(3, 0, 1, Code.REPORT), "parent"), (read(REPORT), "bytes"))
+        for record, field in records:
             with self.assertRaises(AttributeError):
                 setattr(record, field, 1)
 

@@ -48,7 +48,8 @@ class Refusals(unittest.TestCase):
         holds_bar = REPORT.replace(b"NR7", b"N|7")
         self.left(self.refusal(rewrite, holds_bar, NEW), Reason.DATA_EQUALS_SEPARATOR, 7, 2)
         self.left(self.refusal(rewrite, holds_bar + REPORT, NEW), Reason.DATA_EQUALS_SEPARATOR, 7, 2)
-        self.left(self.refusal(rewrite, holds_bar, NEW, segment_room=7, level_room=2), Reason.DATA_EQUALS_SEPARATOR, 7, 2)
+        exact = self.refusal(rewrite, holds_bar, NEW, segment_room=7, level_room=2)
+        self.left(exact, Reason.DATA_EQUALS_SEPARATOR, 7, 2)
         for length in (0, 1, 77):
             self.left(self.refusal(rewrite, REPORT, NEW, length=length), Reason.OUTPUT_TOO_SHORT, 7, 2)
             self.left(self.refusal(rewrite, 9 * REPORT, NEW, length=length), Reason.OUTPUT_TOO_SHORT, 7, 2)
