@@ -51,7 +51,7 @@ def build_sdist(sdist_directory: str, config_settings: Any = None) -> str:
 
 
 def _library() -> Path:
-    """The shared library: where STORMHLAW_LIB_DIR says, or where `bindings/library` or `bindings/python/build` puts it."""
+    """The shared library: where STORMHLAW_LIB_DIR says, or where bindings/library or python/build puts it."""
     named = os.environ.get("STORMHLAW_LIB_DIR")
     folders = [Path(named)] if named else [HERE.parent.parent / "target" / "lib", PACKAGE]
     for folder in folders:

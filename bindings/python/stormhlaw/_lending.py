@@ -1,8 +1,8 @@
 """Memory that is lent to the library: bytes of the caller, and bytes that the library writes.
 
-No byte may change while the library reads it. Keeping the interpreter's lock is not enough for that: a thread that reads
-a file or a socket into a bytearray writes to it without the lock, and other processes write to shared memory. So what
-cannot change is lent as it is, and what can is copied first.
+No byte may change while the library reads it. Keeping the interpreter's lock is not enough for that: a thread that
+reads a file or a socket into a bytearray writes to it without the lock, and other processes write to shared memory. So
+what cannot change is lent as it is, and what can is copied first.
 """
 
 from __future__ import annotations
@@ -41,13 +41,14 @@ class _Buffer(ctypes.Structure):
     ]
 
 
-_get_buffer = ctypes.pythonapi.PyObject_GetBuffer
+# By index the functions are our own: what others declare of pythonapi's attributes changes nothing here.
+_get_buffer = ctypes.pythonapi["PyObject_GetBuffer"]
 _get_buffer.argtypes = [ctypes.py_object, ctypes.POINTER(_Buffer), ctypes.c_int]
 _get_buffer.restype = ctypes.c_int
-_release_buffer = ctypes.pythonapi.PyBuffer_Release
+_release_buffer = ctypes.pythonapi["PyBuffer_Release"]
 _release_buffer.argtypes = [ctypes.POINTER(_Buffer)]
 _release_buffer.restype = None
-_new_bytes = ctypes.pythonapi.PyBytes_FromStringAndSize
+_new_bytes = ctypes.pythonapi["PyBytes_FromStringAndSize"]
 _new_bytes.argtypes = [ctypes.c_void_p, ctypes.c_ssize_t]
 _new_bytes.restype = ctypes.py_object
 
@@ -58,8 +59,8 @@ def unwritten(length: int) -> bytes:
 
 
 def lend(name: str, data: Any, too_long: Optional[bytes] = None) -> Lent:
-    """The bytes of the argument of that name. `too_long` may stand for as many bytes as it has, or more, that would have
-    to be copied, where only their number counts."""
+    """The bytes of the argument of that name. `too_long` may stand for as many bytes as it has, or more, that would
+    have to be copied, where only their number counts."""
     if is_a(data, bytes):
         return data, bytes.__len__(data), data
     if type(data) is not memoryview and not is_a(data, bytearray):
@@ -77,10 +78,10 @@ def lend(name: str, data: Any, too_long: Optional[bytes] = None) -> Lent:
 
 def part_of(lent: Lent, start: int, length: int) -> bytes:
     """A copy of some of the bytes that are lent."""
-    address, _, owner = lent
-    if isinstance(address, int):
-        return ctypes.string_at(address + start, length)
-    return bytes.__getitem__(owner, slice(start, start + length))
+    first, _, owner = lent
+    if first is owner:
+        return bytes.__getitem__(owner, slice(start, start + length))
+    return ctypes.string_at(cast(int, first) + start, length)
 
 
 def _is_still(view: memoryview) -> bool:
@@ -92,9 +93,10 @@ def _address(view: memoryview) -> int:
     """Where the bytes of the view start. The object that holds them keeps them there."""
     buffer = _Buffer()
     _get_buffer(view, buffer, 0)
-    start: int = buffer.start
-    _release_buffer(buffer)
-    return start
+    try:
+        return cast(int, buffer.start)
+    finally:
+        _release_buffer(buffer)
 
 
 def _copied(name: str, view: memoryview, too_long: Optional[bytes]) -> bytes:

@@ -104,7 +104,7 @@ class Records(Sequence[Record]):
         try:
             chosen: Union[int, range] = range(len(self))[index]
         except IndexError:
-            raise IndexError(f"there are {len(self)} records, and none at {index}") from None
+            raise IndexError(f"index out of range: there are {len(self)} records") from None
         if isinstance(chosen, int):
             return next(self._records(self._numbers_of(chosen)))
         if chosen.step == 1:

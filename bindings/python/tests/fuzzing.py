@@ -1,8 +1,8 @@
 """Calls of every public function with arguments of every kind. Run: python3 -m tests.fuzzing SEED COUNT.
 
 Each argument is known to fit or not. A call whose arguments all fit must answer as the library does when it is called
-without the package, with tables as large as was asked for; a lookup, as Python's split() does. Any other call must raise
-a TypeError or a ValueError that names an argument that does not fit.
+without the package, with tables as large as was asked for; a lookup, as Python's split() does. Any other call must
+raise a TypeError or a ValueError that names an argument that does not fit.
 """
 
 import array
@@ -48,6 +48,11 @@ class Liar:
 
 
 class LyingBytes(bytes):
+    __class__ = int
+
+    def __add__(self, other):
+        return 1
+
     def __len__(self):
         return 1 << 62
 

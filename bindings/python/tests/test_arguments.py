@@ -73,10 +73,9 @@ class Arguments(unittest.TestCase):
                 self.refused(ValueError, message, Separators, **{field: value})
 
     def test_separators_when_they_are_used(self):
-        kinds = (
-            (None, "None"), ("*:~", "str"), (b"*:~", "bytes"), ((b"*", b":", b"~"), "tuple"), (Mock(spec=Separators), "Mock"),
-        )  # fmt: skip
-        for value, kind in kinds:
+        mock = Mock(spec=Separators)
+        three = (b"*", b":", b"~")
+        for value, kind in ((None, "None"), ("*:~", "str"), (b"*:~", "bytes"), (three, "tuple"), (mock, "Mock")):
             self.refused(TypeError, f"separators: Separators wanted, not {kind}", read, REPORT, value)
             self.refused(TypeError, f"separators: Separators wanted, not {kind}", rewrite, REPORT, NEW, value)
             self.refused(TypeError, f"new: Separators wanted, not {kind}", rewrite, REPORT, value)

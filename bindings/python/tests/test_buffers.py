@@ -17,7 +17,12 @@ PADDED = REPORT.ljust(96, b"~")
 
 
 class LyingBytes(bytes):
-    """Bytes that tell a false length and false bytes."""
+    """Bytes that tell a false type, a false length and false bytes."""
+
+    __class__ = int
+
+    def __add__(self, other):
+        return 1
 
     def __len__(self):
         return 1 << 40
@@ -121,6 +126,12 @@ class Lending(unittest.TestCase):
             start, length, _ = lend("data", make(self.LARGE))
             self.assertIs(type(start), bytes)
             self.assertEqual((start, length), (self.LARGE, len(self.LARGE)))
+
+    def test_what_others_declare_changes_nothing(self):
+        function = ctypes.pythonapi.PyBytes_FromStringAndSize
+        self.addCleanup(setattr, function, "argtypes", function.argtypes)
+        function.argtypes = [ctypes.c_double]
+        self.assertEqual(read(REPORT).bytes, 78)
 
     def test_large_views(self):
         self.assertGreater(len(self.LARGE), 2 * SMALL)

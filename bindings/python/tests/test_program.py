@@ -136,7 +136,7 @@ class Hints(unittest.TestCase):
         others = b"ST|842", b"ST\n", b"ST~", b"ST*842|", b"ST*842~", b"ST*|", b"ST*842*1|", b"ST*842*0001\n", b"ST**:"
         for start in others:
             self.hint(start, SEPARATORS)
-        standard = b"ST", b"STX|", b"ST*", b"ST*842", b"ST*842*", b"ST*842*0001", b"ST*842*1~|", b"ST*842*1*|", b"ST***|"
+        standard = b"ST", b"STX|", b"ST*", b"ST*842", b"ST*842*", b"ST*842*1", b"ST*842*1~|", b"ST*842*1*|", b"ST***|"
         for start in standard:
             self.hint(start, None)
 

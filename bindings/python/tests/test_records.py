@@ -34,10 +34,10 @@ class Sequences(unittest.TestCase):
 
     def test_indexes_that_are_none(self):
         for records, wanted in self.pairs:
-            for index in (len(wanted), -len(wanted) - 1, 1 << 80):
+            for index in (len(wanted), -len(wanted) - 1, 1 << 80, -1 << 20_000):
                 with self.assertRaises(IndexError) as caught:
                     records[index]
-                self.assertEqual(str(caught.exception), f"there are {len(wanted)} records, and none at {index}")
+                self.assertEqual(str(caught.exception), f"index out of range: there are {len(wanted)} records")
             for index in ("0", None, 0.0):
                 with self.assertRaises(TypeError):
                     records[index]
