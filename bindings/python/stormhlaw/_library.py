@@ -30,7 +30,8 @@ def _path() -> str:
     path = named or str(Path(__file__).with_name("libstormhlaw.so"))
     if not os.path.exists(path):
         raise ImportError(f"there is no {path}: run bindings/library and bindings/python/build")
-    return path
+    # A name without a folder would be looked for among the system's libraries.
+    return os.path.abspath(path)
 
 
 def _load(path: str) -> ctypes.CDLL:

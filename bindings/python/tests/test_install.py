@@ -103,13 +103,14 @@ class Library(unittest.TestCase):
     """Where the shared library is looked for."""
 
     def told(self, library):
-        command = [sys.executable, "-c", "import stormhlaw; print(stormhlaw.read)"]
-        environment = {**os.environ, "STORMHLAW_LIBRARY": library}
-        done = subprocess.run(command, cwd=HERE, env=environment, capture_output=True, text=True)
+        command = [sys.executable, "-c", "import stormhlaw"]
+        environment = {**os.environ, "STORMHLAW_LIBRARY": library, "PYTHONPATH": str(HERE)}
+        done = subprocess.run(command, cwd=HERE / "stormhlaw", env=environment, capture_output=True, text=True)
         return done.returncode, done.stderr.splitlines()[-1:]
 
     def test_named(self):
         self.assertEqual(self.told(str(HERE / "stormhlaw" / "libstormhlaw.so")), (0, []))
+        self.assertEqual(self.told("libstormhlaw.so"), (0, []))
 
     def test_missing(self):
         wanted = "ImportError: there is no /nowhere/lib.so, which STORMHLAW_LIBRARY names"
