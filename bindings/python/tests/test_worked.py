@@ -1,25 +1,10 @@
-"""The worked reports W1 to W12 of document 01, and the lookups. Run: python3 -m unittest -v in this directory."""
+"""The worked reports W1 to W12 of document 01, and the lookups."""
 
 import unittest
 
 import stormhlaw
-from stormhlaw import Code, Level, Reason, Refused, Segment, Separators, component, element, read, rewrite
-
-W1 = ["ST*842*0001", "BNR*11*NR7*20240301", "HL*1**RP*1", "HL*2*1*I*0", "NCD*1", "NCA**R1", "SE*7*0001"]
-SEGMENTS = [
-    Segment(0, 11, 1), Segment(12, 19, 2), Segment(32, 10, 18), Segment(43, 10, 18), Segment(54, 5, 46),
-    Segment(60, 7, 64), Segment(68, 9, 79),
-]  # fmt: skip
-LEVELS = [Level(3, 0, 1, Code.REPORT), Level(4, 1, 2, Code.ITEM)]
-
-
-def joined(segments):
-    return "".join(segment + "~" for segment in segments).encode()
-
-
-def with_segment(number, segment):
-    """W1 with another segment in place of one of its own, counted from 1."""
-    return joined(W1[: number - 1] + [segment] + W1[number:])
+from stormhlaw import Reason, Refused, Separators, component, element, read, rewrite
+from tests.reports import LEVELS, SEGMENTS, W1, joined, with_segment
 
 
 class Worked(unittest.TestCase):

@@ -1,0 +1,50 @@
+"""A reading gate for X12 842 nonconformance reports whose verdicts are proved.
+
+    import stormhlaw
+
+    try:
+        report = stormhlaw.read(data)
+    except stormhlaw.Refused as refused:
+        print(refused, refused.refusal.reason.name)
+    else:
+        for segment in report:
+            tag = stormhlaw.element(data[segment.start : segment.start + segment.length], 0)
+
+read() reads one transaction, ST to SE, and gives a Report: its segments, with their rows in the table of 79, and its
+levels, with their parents. A report that breaks a rule raises Refused, whose `refusal` names the rule, the segment, the
+byte and the element. rewrite() gives the transaction with other separators as well. element() and component() look up
+the parts of a segment.
+
+Every argument is checked before anything is called: a wrong type is a TypeError, an impossible value a ValueError, and
+the message names the argument. Any number of threads may call at once.
+
+`python3 -m stormhlaw [FILE..]` lists reports.
+"""
+
+from stormhlaw._library import LONGEST
+from stormhlaw._version import __version__
+from stormhlaw.answers import Reason, Refusal, Refused, Report
+from stormhlaw.lookup import component, element
+from stormhlaw.reading import read
+from stormhlaw.records import Code, Level, Levels, Segment, Segments
+from stormhlaw.rewriting import rewrite
+from stormhlaw.separators import Separators
+
+__all__ = [
+    "LONGEST",
+    "Code",
+    "Level",
+    "Levels",
+    "Reason",
+    "Refusal",
+    "Refused",
+    "Report",
+    "Segment",
+    "Segments",
+    "Separators",
+    "__version__",
+    "component",
+    "element",
+    "read",
+    "rewrite",
+]

@@ -1,0 +1,57 @@
+"""The C functions of include/stormhlaw.h. Nothing is checked here: whoever calls has done so."""
+
+from __future__ import annotations
+
+import ctypes
+import os
+from pathlib import Path
+from typing import Any, List
+
+LONGEST = 1_048_576
+"""The most bytes an input may have."""
+
+Answer = ctypes.c_uint64 * 4
+"""The four numbers of an answer."""
+
+Span = ctypes.c_uint64 * 2
+"""Where a part starts, and how many bytes it has."""
+
+_BYTE, _SIZE, _NUMBER = ctypes.c_uint8, ctypes.c_size_t, ctypes.c_uint64
+# A pointer is given as a bytes object, an array of ctypes, or an address.
+_POINTER = ctypes.c_void_p
+_LENT: List[Any] = [_POINTER, _SIZE]
+
+
+def _path() -> str:
+    """Where the shared library is: where STORMHLAW_LIBRARY says, else beside this file."""
+    named = os.environ.get("STORMHLAW_LIBRARY")
+    if named and not os.path.exists(named):
+        raise ImportError(f"there is no {named}, which STORMHLAW_LIBRARY names")
+    path = named or str(Path(__file__).with_name("libstormhlaw.so"))
+    if not os.path.exists(path):
+        raise ImportError(f"there is no {path}: run bindings/library and bindings/python/build")
+    # A name without a folder would be looked for among the system's libraries.
+    return os.path.abspath(path)
+
+
+def _load(path: str) -> ctypes.CDLL:
+    """The library with its functions declared. A call lets other threads run."""
+    library = ctypes.CDLL(path)
+    library.stormhlaw_read.argtypes = [*_LENT, *3 * [_BYTE], *_LENT, *_LENT, _POINTER]
+    library.stormhlaw_rewrite.argtypes = [*_LENT, *6 * [_BYTE], *_LENT, *_LENT, *_LENT, _POINTER]
+    library.stormhlaw_element.argtypes = [*_LENT, _BYTE, _NUMBER, _POINTER]
+    library.stormhlaw_component.argtypes = [*_LENT, _BYTE, _NUMBER, _POINTER]
+    for function in ("read", "rewrite", "element", "component"):
+        getattr(library, f"stormhlaw_{function}").restype = None
+    return library
+
+
+def _found() -> ctypes.CDLL:
+    path = _path()
+    try:
+        return _load(path)
+    except (OSError, AttributeError) as error:
+        raise ImportError(f"{path} cannot be used: {error}") from error
+
+
+library = _found()

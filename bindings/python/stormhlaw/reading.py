@@ -1,0 +1,36 @@
+"""Reading a report."""
+
+from __future__ import annotations
+
+from typing import Optional
+
+from stormhlaw._lending import Data, lend
+from stormhlaw._library import Answer, library
+from stormhlaw._tables import TOO_LONG, Tables
+from stormhlaw.answers import Report
+from stormhlaw.separators import STANDARD, Separators, numbers_of
+
+
+def read(
+    data: Data,
+    separators: Separators = STANDARD,
+    segment_room: Optional[int] = None,
+    level_room: Optional[int] = None,
+) -> Report:
+    """Reads one transaction, ST to SE, from the start of `data`, and gives its segments and levels, or raises Refused.
+
+    `data` is bytes, or a bytearray or memoryview, whose bytes are taken as they lie, whatever its format. Bytes, and
+    a memoryview of bytes without gaps, are read where they are, and other threads run meanwhile; what can be written
+    to is copied first.
+
+    `segment_room` and `level_room` are how many records there is room for; a report with more is refused with
+    Reason.NO_ROOM. Without `segment_room` there is always enough. Without `level_room` there is room for 4,096 levels:
+    where the levels' names come in no order, the time of a reading grows with the square of their number
+    (TIME-FORMULA), and the room bounds it. A caller who wants more levels says so: `level_room=LONGEST` is enough for
+    any report.
+    """
+    start, size, _owner = lend("data", data, TOO_LONG)
+    three = numbers_of("separators", separators)
+    tables, answer = Tables(size, segment_room, level_room), Answer()
+    library.stormhlaw_read(start, size, *three, *tables.lent(), answer)
+    return tables.told(answer[:])

@@ -1,0 +1,43 @@
+"""The three separators of a transaction."""
+
+from __future__ import annotations
+
+from dataclasses import dataclass
+from typing import Any, Tuple
+
+from stormhlaw._checking import is_a, kind_of, one_byte
+
+
+@dataclass(frozen=True)
+class Separators:
+    """The three separators of a transaction: each is one byte, given as bytes.
+
+    A set that is unfit can be made; read() and rewrite() refuse it with Reason.SEPARATORS_UNFIT. Fit are three
+    different bytes from 1 to 126 that are no letter, digit, space, `.` or `-`.
+    """
+
+    element: bytes = b"*"
+    component: bytes = b":"
+    terminator: bytes = b"~"
+
+    def __post_init__(self) -> None:
+        numbers_of("separators", self)
+
+    def numbers(self) -> Tuple[int, int, int]:
+        """The three bytes as numbers."""
+        return numbers_of("separators", self)
+
+
+def numbers_of(name: str, value: Any) -> Tuple[int, int, int]:
+    """The three separators as numbers. They are checked at each use: a frozen object can still be written to."""
+    if not is_a(value, Separators):
+        raise TypeError(f"{name}: Separators wanted, not {kind_of(value)}")
+    return (
+        one_byte(value.element, name, ".element"),
+        one_byte(value.component, name, ".component"),
+        one_byte(value.terminator, name, ".terminator"),
+    )
+
+
+STANDARD = Separators()
+"""`*`, `:` and `~`."""

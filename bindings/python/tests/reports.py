@@ -1,0 +1,30 @@
+"""The worked report W1 of document 01, what is known of it, and reports made from it."""
+
+from pathlib import Path
+
+from stormhlaw import Code, Level, Segment
+
+HERE = Path(__file__).resolve().parent.parent
+
+W1 = ["ST*842*0001", "BNR*11*NR7*20240301", "HL*1**RP*1", "HL*2*1*I*0", "NCD*1", "NCA**R1", "SE*7*0001"]
+SEGMENTS = [
+    Segment(0, 11, 1), Segment(12, 19, 2), Segment(32, 10, 18), Segment(43, 10, 18), Segment(54, 5, 46),
+    Segment(60, 7, 64), Segment(68, 9, 79),
+]  # fmt: skip
+LEVELS = [Level(3, 0, 1, Code.REPORT), Level(4, 1, 2, Code.ITEM)]
+
+
+def joined(segments):
+    return "".join(segment + "~" for segment in segments).encode()
+
+
+def with_segment(number, segment):
+    """W1 with another segment in place of one of its own, counted from 1."""
+    return joined(W1[: number - 1] + [segment] + W1[number:])
+
+
+def with_items(items):
+    """A report of one report level and so many items under it, with a fault each."""
+    faults = [segment for item in range(1, items + 1) for segment in (f"HL*{item}*R*I*0", "NCD*1")]
+    segments = W1[:2] + ["HL*R**RP*1"] + faults
+    return joined(segments + [f"SE*{len(segments) + 1}*0001"])

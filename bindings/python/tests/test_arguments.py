@@ -1,0 +1,138 @@
+"""Every argument that is refused at our edge, with the whole message."""
+
+import unittest
+from enum import IntEnum
+from unittest.mock import Mock
+
+from stormhlaw import Separators, component, element, read, rewrite
+from tests.reports import W1, joined
+
+REPORT = joined(W1)
+NO_BYTES = ((chr(298), "str"), ("*", "str"), (42, "int"), (None, "None"), (bytearray(b"*"), "bytearray"))
+NEW = Separators(b"|", b"^", b"'")
+
+
+class Unnamed(type):
+    """The type of types that tell a false name."""
+
+    @property
+    def __name__(cls):
+        raise RuntimeError("no name")
+
+
+class Odd(metaclass=Unnamed):
+    """An object that says that it is bytes."""
+
+    __class__ = bytes
+
+
+def released():
+    view = memoryview(REPORT)
+    view.release()
+    return view
+
+
+def tampered(value):
+    """Separators that were written to behind their back."""
+    separators = Separators()
+    object.__setattr__(separators, "component", value)
+    return separators
+
+
+class Arguments(unittest.TestCase):
+    def refused(self, kind, message, call, *arguments, **named):
+        with self.subTest(message), self.assertRaises(kind) as caught:
+            call(*arguments, **named)
+        self.assertEqual(str(caught.exception), message)
+        self.assertIs(type(caught.exception), kind)
+
+    def test_data(self):
+        calls = (
+            ("data", read, ()),
+            ("data", rewrite, (NEW,)),
+            ("segment", element, (1,)),
+            ("element_bytes", component, (1,)),
+        )
+        kinds = (
+            ("ST*842", "str"), (None, "None"), (7, "int"), (True, "bool"), (1.5, "float"), ([83, 84], "list"),
+            (Separators(), "Separators"), (bytes, "type"), (Mock(spec=bytes), "Mock"), (Odd(), "Odd"),
+        )  # fmt: skip
+        for name, call, others in calls:
+            for value, kind in kinds:
+                message = f"{name}: bytes, bytearray or memoryview wanted, not {kind}"
+                self.refused(TypeError, message, call, value, *others)
+            message = f"{name}: bytes, bytearray or memoryview wanted, not a released memoryview"
+            self.refused(ValueError, message, call, released(), *others)
+
+    def test_separators_when_they_are_made(self):
+        for field in ("element", "component", "terminator"):
+            for value, kind in NO_BYTES:
+                self.refused(TypeError, f"separators.{field}: bytes wanted, not {kind}", Separators, **{field: value})
+            for value in (b"", b"**", b"\x00" * 70):
+                message = f"separators.{field}: one byte wanted, not {len(value)} bytes"
+                self.refused(ValueError, message, Separators, **{field: value})
+
+    def test_separators_when_they_are_used(self):
+        mock = Mock(spec=Separators)
+        three = (b"*", b":", b"~")
+        for value, kind in ((None, "None"), ("*:~", "str"), (b"*:~", "bytes"), (three, "tuple"), (mock, "Mock")):
+            self.refused(TypeError, f"separators: Separators wanted, not {kind}", read, REPORT, value)
+            self.refused(TypeError, f"separators: Separators wanted, not {kind}", rewrite, REPORT, NEW, value)
+            self.refused(TypeError, f"new: Separators wanted, not {kind}", rewrite, REPORT, value)
+        self.refused(TypeError, "separators.component: bytes wanted, not str", read, REPORT, tampered(":"))
+        message = "separators.component: one byte wanted, not 2 bytes"
+        self.refused(ValueError, message, rewrite, REPORT, NEW, tampered(b"::"))
+        self.refused(TypeError, "new.component: bytes wanted, not None", rewrite, REPORT, tampered(None))
+
+    def test_separator(self):
+        for call in (element, component):
+            for value, kind in NO_BYTES:
+                self.refused(TypeError, f"separator: bytes wanted, not {kind}", call, b"HL*1", 1, value)
+            for value in (b"", b"**"):
+                self.refused(ValueError, f"separator: one byte wanted, not {len(value)} bytes", call, b"HL*1", 1, value)
+
+    def test_number(self):
+        for call in (element, component):
+            for value, kind in ((None, "None"), (True, "bool"), (1.0, "float"), ("1", "str"), (b"1", "bytes")):
+                self.refused(TypeError, f"number: a number wanted, not {kind}", call, b"HL*1", value)
+            for value in (-1, -(2**63), 2**64, 2**64 + 1):
+                message = f"number: a number from 0 to 2**64 - 1 wanted, not {value}"
+                self.refused(ValueError, message, call, b"HL*1", value)
+            for value in (1 << 20_000, -1 << 20_000):
+                message = "number: a number from 0 to 2**64 - 1 wanted, not one of 20001 bits"
+                self.refused(ValueError, message, call, b"HL*1", value)
+            self.assertEqual(call(b"HL*1", 2**64 - 1), b"")
+
+    def test_rooms_and_length(self):
+        names = {read: ("segment_room", "level_room"), rewrite: ("segment_room", "level_room", "length")}
+        for call, others in ((read, ()), (rewrite, (NEW,))):
+            for name in names[call]:
+                for value, kind in ((True, "bool"), (False, "bool"), (7.0, "float"), ("7", "str"), (b"", "bytes")):
+                    message = f"{name}: a number or None wanted, not {kind}"
+                    self.refused(TypeError, message, call, REPORT, *others, **{name: value})
+                for value in (-1, 2**31 + 1, 2**64 + 7, -(2**64)):
+                    message = f"{name}: a number from 0 to 2**31 wanted, not {value}"
+                    self.refused(ValueError, message, call, REPORT, *others, **{name: value})
+                call(REPORT, *others, **{name: 2**31})
+
+    def test_numbers_of_other_kinds_of_int(self):
+        class Number(IntEnum):
+            SEVEN = 7
+
+        class Lies(int):
+            def __index__(self):
+                return 1 << 80
+
+            __int__ = __index__
+
+            def __lt__(self, other):
+                return False
+
+        self.assertEqual(read(REPORT, segment_room=Number.SEVEN).bytes, 78)
+        self.assertEqual(read(REPORT, segment_room=Lies(7), level_room=Lies(2)).bytes, 78)
+        self.assertEqual(element(b"HL*1", Lies(1)), b"1")
+        self.refused(ValueError, "number: a number from 0 to 2**64 - 1 wanted, not -1", element, b"HL*1", Lies(-1))
+
+
+if __name__ == "__main__":
+    unittest.main()
