@@ -17,17 +17,17 @@ BYTES, SEGMENTS, LEVELS = 65_536, 1_000, 200
 ACCEPTED, REFUSED, FAILED = 0, 1, 2
 
 USAGE = """\
-usage: stormhlaw [FILE..]
+Usage: stormhlaw [FILE..]
 
-Reads each FILE, or standard input where FILE is - or there is none, as one X12 842 report, ST to SE, with the
-separators * : ~, and lists its segments and levels, or says why it is refused.
+Reads one X12 842 nonconformance report, ST to SE with the separators * : ~, from each FILE, and lists its segments and
+levels, or says in one line why it is refused. With no FILE, or where FILE is -, it reads standard input. Several files
+get one verdict each, with the name before it.
 
-  -h, --help  says this
-  --version   says which version this is
-  --          ends the options: what follows are files
+  -h, --help     says this
+      --version  says which version it is
 
-The status is 0 where every report is accepted, 1 where one is refused, 2 where one cannot be read or standard output
-not be written.
+Status: 0 every report is accepted, 1 one is refused, 2 one could not be read or a verdict not be written. What went
+wrong, and hints, go to standard error.
 """
 
 
@@ -84,12 +84,12 @@ def _list(name: str, named: bool) -> int:
 
 def _outcome(data: bytes) -> Outcome:
     if len(data) > BYTES:
-        hint = after_refusal(data, Reason.INPUT_TOO_LONG)
+        hint = after_refusal(data, Reason.INPUT_TOO_LONG, 0)
         return Outcome(REFUSED, "refused 2 segment 0 byte 0 element 0\n", hint)
     try:
         report = read(data, segment_room=SEGMENTS, level_room=LEVELS)
     except Refused as refused:
-        return Outcome(REFUSED, f"{refused}\n", after_refusal(data, refused.refusal.reason))
+        return Outcome(REFUSED, f"{refused}\n", after_refusal(data, refused.refusal.reason, refused.refusal.segment))
     return Outcome(ACCEPTED, "".join(_lines(report)), after_acceptance(data[report.bytes :]))
 
 

@@ -96,7 +96,7 @@ class Program(unittest.TestCase):
             self.gives(run(report, word), 2, "", f"stormhlaw: no such option: {word}; try --help\n")
         self.assertEqual(run("-h"), run("--help"))
         status, usage, errors = run("-h")
-        self.assertEqual((status, usage.split(b"\n")[0], errors), (0, b"usage: stormhlaw [FILE..]", b""))
+        self.assertEqual((status, usage.split(b"\n")[0], errors), (0, b"Usage: stormhlaw [FILE..]", b""))
 
     def test_names_after_the_options(self):
         self.gives(run("--", "-x"), 2, "", "stormhlaw: -x: No such file or directory\n")
@@ -133,10 +133,11 @@ class Hints(unittest.TestCase):
         self.hint(REPORT[1:], None)
 
     def test_separators(self):
-        others = b"ST|842", b"ST\n", b"ST~", b"ST*842|", b"ST*842~", b"ST*|", b"ST*842*1|", b"ST*842*0001\n", b"ST**:"
+        others = b"ST|842", b"ST\n", b"ST*842|", b"ST*|", b"ST*842*1|", b"ST*842*0001\n", b"ST:842:0001'", b"ST*8 4-2.|~"
         for start in others:
             self.hint(start, SEPARATORS)
-        standard = b"ST", b"STX|", b"ST*", b"ST*842", b"ST*842*", b"ST*842*1", b"ST*842*1~|", b"ST*842*1*|", b"ST***|"
+        late = REPORT.replace(b"NR7", b"N|7").replace(b"HL*2*1*I", b"HL*2*1*F").replace(b"0001~B", b"0/01~B")
+        standard = b"ST", b"ST*", b"ST*842", b"ST*842~", b"ST*842*1", b"ST*842*1~|", b"ST**:", b"ST\x00\x7f\xff~", late
         for start in standard:
             self.hint(start, None)
 
@@ -155,8 +156,8 @@ class Hints(unittest.TestCase):
 
     def test_bytes_behind(self):
         self.hint(REPORT + b"\r\n\n", None, LISTING)
-        self.hint(REPORT + b"\r\nGE", "4 bytes behind its SE were not looked at", LISTING)
-        self.hint(REPORT + b" ", "1 bytes behind its SE were not looked at", LISTING)
+        self.hint(REPORT + b"\r\nGE", "bytes behind its SE that were not looked at: 4", LISTING)
+        self.hint(REPORT + b" ", "bytes behind its SE that were not looked at: 1", LISTING)
 
 
 if __name__ == "__main__":

@@ -103,8 +103,8 @@ pub(crate) fn after_acceptance(report: &[u8], used: usize, name: &[u8]) {
     if used <= report.len() {
         word(b"stormhlaw: ");
         word(name);
-        word(b": ");
+        word(b": bytes behind its SE that were not looked at: ");
         printing::number(libc::STDERR_FILENO, (report.len() - used) as u64);
-        word(b" bytes behind its SE were not looked at\n");
+        word(b"\n");
     }
 }
