@@ -121,7 +121,15 @@ extern "C" {
 ** A report of n bytes has at most n / 5 segments, and fewer levels than that. Tables may be of any size; with too little room the
 ** answer is STORMHLAW_NO_ROOM.
 **
-** TIME-FORMULA
+** Time: 2 to 3 nanoseconds a byte, and, where the HL01 names do not count upwards or parents stand far before their children, some
+** 3 nanoseconds times the square of the number of levels; some 14 where the names are long and alike. On an Arm Neoverse N1:
+**
+**   1,000 levels    3 to 14 milliseconds
+**   4,096 levels    51 to 224 milliseconds
+**   20,000 levels   1.3 to 5.3 seconds
+**
+** The room that is lent bounds the number of levels, and with it the time: lend what you expect. STORMHLAW_LEVEL_ROOM is what the
+** example lends, and the other bindings where their caller names no room.
 */
 #define STORMHLAW_SEGMENT_NUMBERS 3
 #define STORMHLAW_LEVEL_NUMBERS 4

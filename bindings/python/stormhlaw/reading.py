@@ -24,10 +24,13 @@ def read(
     to is copied first.
 
     `segment_room` and `level_room` are how many records there is room for; a report with more is refused with
-    Reason.NO_ROOM. Without `segment_room` there is always enough. Without `level_room` there is room for 4,096 levels:
-    where the levels' names come in no order, the time of a reading grows with the square of their number
-    (TIME-FORMULA), and the room bounds it. A caller who wants more levels says so: `level_room=LONGEST` is enough for
-    any report.
+    Reason.NO_ROOM. Without `segment_room` there is always enough. Without `level_room` there is room for 4,096 levels,
+    and a caller who wants more says so: `level_room=LONGEST` is enough for any report.
+
+    A reading takes 2 to 3 nanoseconds a byte. Where the HL01 names do not count upwards, or parents stand far before
+    their children, it takes some 3 nanoseconds times the square of the number of levels more, and some 14 where the
+    names are long and alike: at 4,096 levels 51 to 224 milliseconds, at 20,000 1.3 to 5.3 seconds (Arm Neoverse N1).
+    The room bounds it.
     """
     start, size, _owner = lend("data", data, TOO_LONG)
     three = numbers_of("separators", separators)
