@@ -8,7 +8,7 @@ from __future__ import annotations
 
 from typing import Any, NamedTuple, Optional
 
-_name_of: Any = type.__dict__["__name__"].__get__
+_name_of: Any = vars(type)["__name__"].__get__
 
 
 class Bound(NamedTuple):
