@@ -121,8 +121,9 @@ extern "C" {
 ** A report of n bytes has at most n / 5 segments, and fewer levels than that. Tables may be of any size; with too little room the
 ** answer is STORMHLAW_NO_ROOM.
 **
-** Time: 2 to 3 nanoseconds a byte, and, where the HL01 names do not count upwards or parents stand far before their children, some
-** 3 nanoseconds times the square of the number of levels; some 14 where the names are long and alike. On an Arm Neoverse N1:
+** Time: 1 to 3 nanoseconds a byte of a large report; and, where the HL01 names do not count upwards or parents stand far before
+** their children, some 3 nanoseconds times the square of the number of levels, or some 14 where the names are long and alike. On
+** an Arm Neoverse N1:
 **
 **   1,000 levels    3 to 14 milliseconds
 **   4,096 levels    51 to 224 milliseconds

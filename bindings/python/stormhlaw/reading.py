@@ -27,7 +27,7 @@ def read(
     Reason.NO_ROOM. Without `segment_room` there is always enough. Without `level_room` there is room for 4,096 levels,
     and a caller who wants more says so: `level_room=LONGEST` is enough for any report.
 
-    A reading takes 2 to 3 nanoseconds a byte. Where the HL01 names do not count upwards, or parents stand far before
+    A large report takes 1 to 3 nanoseconds a byte. Where the HL01 names do not count upwards, or parents stand far before
     their children, it takes some 3 nanoseconds times the square of the number of levels more, and some 14 where the
     names are long and alike: at 4,096 levels 51 to 224 milliseconds, at 20,000 1.3 to 5.3 seconds (Arm Neoverse N1).
     The room bounds it.

@@ -21,7 +21,7 @@ const MOST: usize = LONGEST / SHORTEST_SEGMENT;
 /// A segment table and a level table, with the records of the last reading. They can be used again, for any input that
 /// has room in them.
 ///
-/// A reading takes 2 to 3 nanoseconds a byte. Where the HL01 names do not count upwards, or parents stand far before their
+/// A large report takes 1 to 3 nanoseconds a byte. Where the HL01 names do not count upwards, or parents stand far before their
 /// children, it takes some 3 nanoseconds times the square of the number of levels more, and some 14 where the names are
 /// long and alike: at 4,096 levels 51 to 224 milliseconds, at 20,000 1.3 to 5.3 seconds (Arm Neoverse N1). The room for
 /// levels bounds that number: a report with more is refused with [`Reason::NoRoom`](crate::Reason::NoRoom). This is why
