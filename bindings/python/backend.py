@@ -41,8 +41,7 @@ def build_wheel(wheel_directory: str, config_settings: Any = None, metadata_dire
 
 def build_editable(wheel_directory: str, config_settings: Any = None, metadata_directory: Any = None) -> str:
     """A wheel that leads to the package where it stands."""
-    if not (PACKAGE / LIBRARY).exists():
-        raise SystemExit(f"there is no {LIBRARY} beside the package: run bindings/python/build first")
+    _library()
     return _packed(wheel_directory, {"stormhlaw.pth": f"{HERE}\n".encode()})
 
 
@@ -51,13 +50,11 @@ def build_sdist(sdist_directory: str, config_settings: Any = None) -> str:
 
 
 def _library() -> Path:
-    """The shared library: where STORMHLAW_LIB_DIR says, or where bindings/library or python/build puts it."""
-    named = os.environ.get("STORMHLAW_LIB_DIR")
-    folders = [Path(named)] if named else [HERE.parent.parent / "target" / "lib", PACKAGE]
-    for folder in folders:
-        if (folder / LIBRARY).exists():
-            return folder / LIBRARY
-    raise SystemExit(f"there is no {folders[0] / LIBRARY}: run bindings/library first")
+    """The shared library: where STORMHLAW_LIB_DIR says, or where bindings/library writes it."""
+    folder = Path(os.environ.get("STORMHLAW_LIB_DIR") or HERE.parent.parent / "target" / "lib")
+    if not (folder / LIBRARY).exists():
+        raise SystemExit(f"there is no {folder / LIBRARY}: run bindings/library first")
+    return folder / LIBRARY
 
 
 def _packed(folder: str, contents: Dict[str, bytes]) -> str:

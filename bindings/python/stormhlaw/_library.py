@@ -10,6 +10,9 @@ from typing import Any, List
 LONGEST = 1_048_576
 """The most bytes an input may have."""
 
+NAME = "libstormhlaw.so"
+"""The shared library's file."""
+
 Answer = ctypes.c_uint64 * 4
 """The four numbers of an answer."""
 
@@ -23,15 +26,20 @@ _LENT: List[Any] = [_POINTER, _SIZE]
 
 
 def _path() -> str:
-    """Where the shared library is: where STORMHLAW_LIBRARY says, else beside this file."""
+    """Where the shared library is: where STORMHLAW_LIBRARY says, else beside this file, or, in the repository, where
+    bindings/library writes it."""
     named = os.environ.get("STORMHLAW_LIBRARY")
-    if named and not os.path.exists(named):
-        raise ImportError(f"there is no {named}, which STORMHLAW_LIBRARY names")
-    path = named or str(Path(__file__).with_name("libstormhlaw.so"))
-    if not os.path.exists(path):
-        raise ImportError(f"there is no {path}: run bindings/library and bindings/python/build")
-    # A name without a folder would be looked for among the system's libraries.
-    return os.path.abspath(path)
+    if named:
+        if not os.path.exists(named):
+            raise ImportError(f"there is no {named}, which STORMHLAW_LIBRARY names")
+        # A name without a folder would be looked for among the system's libraries.
+        return os.path.abspath(named)
+    here = Path(__file__).resolve().parent
+    in_repository = (here.parent / "pyproject.toml").exists()
+    path = (here.parents[2] / "target" / "lib" if in_repository else here) / NAME
+    if not path.exists():
+        raise ImportError(f"there is no {path}{': run bindings/library first' if in_repository else ''}")
+    return str(path)
 
 
 def _load(path: str) -> ctypes.CDLL:

@@ -4,6 +4,7 @@ import base64
 import csv
 import hashlib
 import os
+import shutil
 import subprocess
 import sys
 import tempfile
@@ -13,6 +14,9 @@ from pathlib import Path
 
 import backend
 from tests.reports import HERE, W1, joined
+
+# Where bindings/library writes the shared library.
+BUILT = HERE.parent.parent / "target" / "lib"
 
 # What an installed package is asked: where it is, whether it reads, whether it checks.
 ASKED = f"""
@@ -102,19 +106,33 @@ class Installed(unittest.TestCase):
 class Library(unittest.TestCase):
     """Where the shared library is looked for."""
 
-    def told(self, library):
+    def told(self, library, cwd=HERE):
         command = [sys.executable, "-c", "import stormhlaw"]
         environment = {**os.environ, "STORMHLAW_LIBRARY": library, "PYTHONPATH": str(HERE)}
-        done = subprocess.run(command, cwd=HERE / "stormhlaw", env=environment, capture_output=True, text=True)
+        done = subprocess.run(command, cwd=cwd, env=environment, capture_output=True, text=True)
         return done.returncode, done.stderr.splitlines()[-1:]
 
     def test_named(self):
-        self.assertEqual(self.told(str(HERE / "stormhlaw" / "libstormhlaw.so")), (0, []))
-        self.assertEqual(self.told("libstormhlaw.so"), (0, []))
+        self.assertEqual(self.told(str(BUILT / "libstormhlaw.so")), (0, []))
+        self.assertEqual(self.told("libstormhlaw.so", cwd=BUILT), (0, []))
 
     def test_missing(self):
         wanted = "ImportError: there is no /nowhere/lib.so, which STORMHLAW_LIBRARY names"
         self.assertEqual(self.told("/nowhere/lib.so"), (1, [wanted]))
+
+    def test_nowhere(self):
+        """A copy of the package without the library, outside the repository and in one that has not built it."""
+        with tempfile.TemporaryDirectory() as folder:
+            bindings = Path(folder).resolve() / "bindings" / "python"
+            shutil.copytree(HERE / "stormhlaw", bindings / "stormhlaw")
+            command = [sys.executable, "-c", "import stormhlaw"]
+            for wanted in (
+                f"ImportError: there is no {bindings}/stormhlaw/libstormhlaw.so",
+                f"ImportError: there is no {Path(folder).resolve()}/target/lib/libstormhlaw.so: run bindings/library first",
+            ):
+                done = subprocess.run(command, cwd=bindings, capture_output=True, text=True)
+                self.assertEqual((done.returncode, done.stderr.splitlines()[-1]), (1, wanted))
+                (bindings / "pyproject.toml").touch()
 
     def test_no_library(self):
         status, errors = self.told(str(HERE / "pyproject.toml"))
