@@ -2,8 +2,12 @@
 use crate::printing;
 
 // What is left once the input has filled a buffer or ended: 1 where there is a byte more, 0 where there is none, -1 where reading fails.
-// `io::read_full` answers with fewer bytes where a read fails, and so does not tell that from the end.
+// `io::read_full` answers with fewer bytes where a read fails, and so does not tell that from the end. A terminal is not asked again: it
+// would wait for a second end.
 pub(crate) fn beyond(descriptor: i32) -> isize {
+    if libc::isatty(descriptor) == 1 {
+        return 0;
+    }
     let mut more = [0u8; 1];
     libc::read(descriptor, &mut more)
 }
