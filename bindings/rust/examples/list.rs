@@ -5,32 +5,39 @@
 #![forbid(unsafe_code)]
 
 use std::borrow::Cow;
-use std::error::Error;
 use std::process::ExitCode;
 use stormhlaw::{element, Level, Segment, Separators, Tables};
 
 fn main() -> ExitCode {
-    match list() {
-        Ok(()) => ExitCode::SUCCESS,
+    let path = match std::env::args_os().nth(1) {
+        Some(path) => path,
+        None => {
+            eprintln!("list REPORT");
+            return ExitCode::from(2);
+        }
+    };
+    match std::fs::read(&path) {
+        Ok(report) => list(&report),
         Err(error) => {
-            eprintln!("{error}");
-            ExitCode::FAILURE
+            eprintln!("{}: {error}", path.to_string_lossy());
+            ExitCode::from(2)
         }
     }
 }
 
-/// A line for each level: its HL01, what it is, its depth and its parent.
-fn list() -> Result<(), Box<dyn Error>> {
-    let path = std::env::args().nth(1).ok_or("list REPORT")?;
-    let report = std::fs::read(&path).map_err(|error| format!("{path}: {error}"))?;
-    let mut tables = Tables::for_input(&report);
-    tables.read(&report, Separators::STANDARD)?;
+/// A line for each level: its HL01, what it is, its depth and its parent; or the refusal.
+fn list(report: &[u8]) -> ExitCode {
+    let mut tables = Tables::for_input(report);
+    if let Err(refusal) = tables.read(report, Separators::STANDARD) {
+        println!("{refusal}: {:?}", refusal.reason);
+        return ExitCode::FAILURE;
+    }
     for level in tables.levels() {
-        if let (Some(name), Some(code)) = (name(level, tables.segments(), &report), level.code()) {
+        if let (Some(name), Some(code)) = (name(level, tables.segments(), report), level.code()) {
             println!("{name}: {code:?}, depth {}, parent {}", level.depth, level.parent);
         }
     }
-    Ok(())
+    ExitCode::SUCCESS
 }
 
 /// The text of a level's HL01.
