@@ -2,35 +2,20 @@
 -- Assumes nothing.
 use Prim.Native.Nat.{ℕ, _+_, _≤_, _<_}
 use mathlib.Core.Path.{_≡_, refl, sym, ap, _∙_}
-use mathlib.Core.Bool.{Bool, true, false, cond}
-use mathlib.Core.List.{List, [], _∷_, _++_, map, map-id, map-map}
+use mathlib.Core.Bool.{cond}
+use mathlib.Core.List.{[], _∷_, _++_, map, map-map}
 use native.Mathlib.Omega.{arith}
 use native.Mathlib.Numerals.{add-one}
 use lib.Dec.{eqb}
 use lib.ListN.{length, drop, getD, set, drop-of-length-le, length-append, length-map}
 use lib.Seq.{drop-cons}
 use Rattle.text.specs.Bytes.{Bytes}
-use Rattle.text.specs.Pieces.{before, pieces, joined}
+use Rattle.text.specs.Pieces.{pieces, joined}
 use Rattle.text.specs.View.{viewOf, written}
 use Rattle.text.specs.declared.separators.Separators.{Separators}
-use Rattle.text.proofs.Pieces.{pieces-some}
+use Rattle.text.proofs.Pieces.{rejoined, exchanged}
 use Rattle.rewriting.specs.internal.Output.{putAt, byteAgain}
 use Rattle.rewriting.proofs.OutputSoFar.{SoFar, put-byte, so-far-none, so-far-room, so-far-length, so-far-all, so-far-more}
-
--- bytes that are cut at one separator and joined with another: the one becomes the other, and every other byte is changed as f changes a piece
-module _ (old new : ℕ) (f : Bytes → Bytes) (g : ℕ → ℕ) (none : f [] ≡ []) (more : (b : ℕ) (p : Bytes) → f (b ∷ p) ≡ g b ∷ f p) where
-  byte-before : (t : Bool) (b : ℕ) (ps : List Bytes) → 0 < length ps
-      → joined new (map f (before t b ps)) ≡ cond t new (g b) ∷ joined new (map f ps)
-  byte-before t b [] l = absurd (omega arith)
-  byte-before true b (p ∷ ps) l = rw none
-  byte-before false b (p ∷ []) l = more b p
-  byte-before false b (p ∷ (q ∷ ps)) l = rw (more b p)
-
-  byte-by-byte : (s : Bytes) → joined new (map f (pieces old s)) ≡ map (λ (b : ℕ). cond (eqb b old) new (g b)) s
-  byte-by-byte [] = none
-  byte-by-byte (b ∷ s) =
-      byte-before (eqb b old) b (pieces old s) (pieces-some old s)
-      ∙ ap (λ (l : Bytes). cond (eqb b old) new (g b) ∷ l) (byte-by-byte s)
 
 module _ (old new : Separators) where
   -- what a byte of a piece becomes
@@ -38,15 +23,13 @@ module _ (old new : Separators) where
   componentAgain b = cond (eqb b (old .component)) (new .component) b
 
   piece-again : (piece : Bytes) → joined (new .component) (pieces (old .component) piece) ≡ map componentAgain piece
-  piece-again piece =
-      ap (joined (new .component)) (sym (map-id (pieces (old .component) piece)))
-      ∙ byte-by-byte (old .component) (new .component) (λ p. p) (λ b. b) refl (λ b p. refl) piece
+  piece-again piece = exchanged (old .component) (new .component) piece
 
   -- a segment written again is each of its bytes written again
   segment-again : (segment : Bytes) → written new (viewOf old segment) ≡ map (byteAgain old new) segment
   segment-again segment =
       ap (joined (new .element)) (map-map (joined (new .component)) (pieces (old .component)) (pieces (old .element) segment))
-      ∙ byte-by-byte (old .element) (new .element) (λ p. joined (new .component) (pieces (old .component) p)) componentAgain refl
+      ∙ rejoined (old .element) (new .element) (λ p. joined (new .component) (pieces (old .component) p)) componentAgain refl
       (λ b p. piece-again (b ∷ p) ∙ ap (λ (l : Bytes). componentAgain b ∷ l) (sym (piece-again p))) segment
 
   -- and as long as it was

@@ -1,9 +1,9 @@
--- The laws of pieces: joining gives the bytes back, no piece holds the separator, and pieces without it are cut again as they were.
+-- The laws of pieces: joining gives the bytes back, with another separator those with it in place of the old, no piece holds the separator, and pieces without it are cut again as they were.
 -- Assumes nothing.
 use Prim.Native.Nat.{ℕ, suc, _<_}
-use mathlib.Core.Path.{_≡_, refl, ap, _∙_}
-use mathlib.Core.Bool.{Bool, true, false, _&&_, _||_}
-use mathlib.Core.List.{List, [], _∷_, _++_, append-assoc}
+use mathlib.Core.Path.{_≡_, refl, sym, ap, _∙_}
+use mathlib.Core.Bool.{Bool, true, false, cond, _&&_, _||_}
+use mathlib.Core.List.{List, [], _∷_, _++_, map, map-id, append-assoc}
 use native.Mathlib.Omega.{arith}
 use lib.Dec.{eqb}
 use lib.ListN.{length, getD}
@@ -28,17 +28,35 @@ pub pieces-some : (sep : ℕ) (s : Bytes) → 0 < length (pieces sep s)
 pieces-some sep [] = omega arith
 pieces-some sep (b ∷ s) = before-some (eqb b sep) b (pieces sep s)
 
--- joining gives the bytes back
-joined-before : (sep b : ℕ) (t : Bool) (ps : List Bytes) → eqb b sep ≡ t → 0 < length ps → joined sep (before t b ps) ≡ b ∷ joined sep ps
-joined-before sep b t [] e h = absurd (omega arith)
-joined-before sep b true (p ∷ ps) e h = rw (eqb-true b sep e)
-joined-before sep b false (p ∷ []) e h = refl
-joined-before sep b false (p ∷ (q ∷ ps)) e h = refl
+-- bytes that are cut at one separator and joined with another: the one becomes the other, and every other byte is changed as f changes a piece
+module _ (old new : ℕ) (f : Bytes → Bytes) (g : ℕ → ℕ) (none : f [] ≡ []) (more : (b : ℕ) (p : Bytes) → f (b ∷ p) ≡ g b ∷ f p) where
+  rejoined-before : (t : Bool) (b : ℕ) (ps : List Bytes) → 0 < length ps
+      → joined new (map f (before t b ps)) ≡ cond t new (g b) ∷ joined new (map f ps)
+  rejoined-before t b [] l = absurd (omega arith)
+  rejoined-before true b (p ∷ ps) l = rw none
+  rejoined-before false b (p ∷ []) l = more b p
+  rejoined-before false b (p ∷ (q ∷ ps)) l = rw (more b p)
+
+  pub rejoined : (s : Bytes) → joined new (map f (pieces old s)) ≡ map (λ (b : ℕ). cond (eqb b old) new (g b)) s
+  rejoined [] = none
+  rejoined (b ∷ s) =
+      rejoined-before (eqb b old) b (pieces old s) (pieces-some old s) ∙ ap (λ (l : Bytes). cond (eqb b old) new (g b) ∷ l) (rejoined s)
+
+-- pieces as they are, joined with another separator
+pub exchanged : (old new : ℕ) (s : Bytes) → joined new (pieces old s) ≡ map (λ (b : ℕ). cond (eqb b old) new b) s
+exchanged old new s = ap (joined new) (sym (map-id (pieces old s))) ∙ rejoined old new (λ p. p) (λ b. b) refl (λ b p. refl) s
+
+-- and with the same: joining gives the bytes back
+same-byte : (sep b : ℕ) (t : Bool) → eqb b sep ≡ t → cond t sep b ≡ b
+same-byte sep b true e = sym (eqb-true b sep e)
+same-byte sep b false e = refl
+
+same-bytes : (sep : ℕ) (s : Bytes) → map (λ (b : ℕ). cond (eqb b sep) sep b) s ≡ s
+same-bytes sep [] = refl
+same-bytes sep (b ∷ s) = rw (same-byte sep b (eqb b sep) refl, same-bytes sep s)
 
 pub joined-pieces : (sep : ℕ) (s : Bytes) → joined sep (pieces sep s) ≡ s
-joined-pieces sep [] = refl
-joined-pieces sep (b ∷ s) =
-    joined-before sep b (eqb b sep) (pieces sep s) refl (pieces-some sep s) ∙ ap (λ (l : Bytes). b ∷ l) (joined-pieces sep s)
+joined-pieces sep s = exchanged sep sep s ∙ same-bytes sep s
 
 -- no piece holds the separator
 clean-before : (sep b : ℕ) (t : Bool) (ps : List Bytes) → eqb b sep ≡ t → Clean sep ps → Clean sep (before t b ps)
