@@ -8,11 +8,10 @@ use mathlib.Core.Bool.{Bool, true, false}
 use mathlib.Core.List.{List, [], _∷_, map}
 use lib.Dec.{T}
 use lib.ListN.{length, getD}
-use Rattle.text.specs.Bytes.{bytes}
+use Rattle.text.specs.Bytes.{bytes, valueOf}
 use Rattle.text.specs.View.{View, elementOf}
 use Rattle.rows.specs.Rows.{Word, list842}
 use Rattle.rows.specs.RowList.{tagOf}
-use Rattle.types.specs.Types.{valueOf}
 use Rattle.elements.specs.Checks.{Keeps}
 use Rattle.elements.specs.Rules.{byteChecks, endChecks, ruledChecks}
 use Rattle.levels.specs.Profile.{LevelProfile, codeOf, mayStandAlone, mayBeMarked, mayHang}

@@ -8,10 +8,9 @@ use mathlib.Core.Bool.{cond}
 use mathlib.Core.List.{List, [], _∷_, _++_}
 use lib.Dec.{T, ltb, eqb}
 use lib.ListN.{length}
-use Rattle.text.specs.Bytes.{same}
+use Rattle.text.specs.Bytes.{same, valueOf}
 use Rattle.text.specs.View.{View, elementOf}
 use Rattle.rows.specs.Following.{Fits}
-use Rattle.types.specs.Types.{valueOf}
 use Rattle.elements.specs.Checks.{Check, check, Keeps}
 use Rattle.elements.specs.Rules.{byteChecks, endChecks, ruledChecks}
 use Rattle.levels.specs.Levels.{claimOf, textOf}

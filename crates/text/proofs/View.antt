@@ -1,4 +1,5 @@
--- The laws of views: writing gives the segment back, no separator is left, and a view without separators is seen again as it was.
+-- The laws of segments that are cut at their separators: writing gives the segment back, no separator is left, and a view without separators is
+-- seen again as it was.
 -- Assumes nothing.
 use Prim.Native.Nat.{ℕ}
 use mathlib.Core.Path.{_≡_, refl, sym, ap, _∙_}
@@ -12,7 +13,7 @@ use Rattle.text.specs.Separators.{mayServe, fitSeparators, Fitted, isSep
 use Rattle.text.specs.Pieces.{before, pieces, joined}
 use Rattle.text.proofs.Pieces.{Clean, pieces-some, joined-pieces, pieces-clean, pieces-joined}
 use Rattle.text.specs.internal.Search.{Free}
-use Rattle.text.specs.View.{Piece, View, viewOf, written}
+use Rattle.text.specs.View.{Piece, View, plainView, written}
 use Rattle.text.specs.declared.separators.Separators.{Separators}
 use Rattle.text.proofs.Bools.{both, first-of, second-of, or-left, or-right, apart}
 
@@ -127,13 +128,13 @@ module _ (q : Separators) where
   joined-each [] = refl
   joined-each (p ∷ ps) = rw (joined-pieces (q .component) p, joined-each ps)
 
-  pub written-view : (segment : Bytes) → written q (viewOf q segment) ≡ segment
-  written-view segment = rw (joined-each (pieces (q .element) segment)) (joined-pieces (q .element) segment)
+  pub written-plain : (segment : Bytes) → written q (plainView q segment) ≡ segment
+  written-plain segment = rw (joined-each (pieces (q .element) segment)) (joined-pieces (q .element) segment)
 
   -- no separator is left in the view of a segment
-  pub view-unseparated : (segment : Bytes) → Free (q .terminator) segment → T (unseparated q (viewOf q segment))
-  view-unseparated segment f =
-      clean-unseparated q (viewOf q segment) (view-free (q .component) (q .element) (pieces (q .element) segment) (pieces-clean (q .element) segment))
+  pub plain-unseparated : (segment : Bytes) → Free (q .terminator) segment → T (unseparated q (plainView q segment))
+  plain-unseparated segment f =
+      clean-unseparated q (plainView q segment) (view-free (q .component) (q .element) (pieces (q .element) segment) (pieces-clean (q .element) segment))
       (view-components (q .component) (pieces (q .element) segment))
       (view-free (q .component) (q .terminator) (pieces (q .element) segment) (free-pieces (q .element) (q .terminator) segment f))
 
@@ -144,10 +145,10 @@ module _ (q : Separators) where
       both (ltb 0 (length (pieces (q .component) p))) (every (λ (p : Piece). ltb 0 (length p)) (map (pieces (q .component)) ps))
       (lt→ltb 0 (length (pieces (q .component) p)) (pieces-some (q .component) p)) (pieces-each ps)
 
-  pub view-well-formed : (segment : Bytes) → T (wellFormed (viewOf q segment))
-  view-well-formed segment =
-      both (ltb 0 (length (viewOf q segment))) (every (λ (p : Piece). ltb 0 (length p)) (viewOf q segment))
-      (lt→ltb 0 (length (viewOf q segment)) (rw (length-map (pieces (q .element) segment) (pieces (q .component))) (pieces-some (q .element) segment)))
+  pub plain-well-formed : (segment : Bytes) → T (wellFormed (plainView q segment))
+  plain-well-formed segment =
+      both (ltb 0 (length (plainView q segment))) (every (λ (p : Piece). ltb 0 (length p)) (plainView q segment))
+      (lt→ltb 0 (length (plainView q segment)) (rw (length-map (pieces (q .element) segment) (pieces (q .component))) (pieces-some (q .element) segment)))
       (pieces-each (pieces (q .element) segment))
 
 pub fitted : (q : Separators) → T (fitSeparators q) → Fitted q
@@ -184,8 +185,8 @@ module _ (q : Separators) (fit : Fitted q) where
       let here = ltb→lt 0 (length p) (first-of (ltb 0 (length p)) (every (λ (p : Piece). ltb 0 (length p)) v) w) in
       rw (pieces-joined (q .component) p here (f .0), seen-each v (second-of (ltb 0 (length p)) (every (λ (p : Piece). ltb 0 (length p)) v) w) (f .1))
 
-  pub view-written : (v : View) → T (wellFormed v) → T (unseparated q v) → viewOf q (written q v) ≡ v
-  view-written v w u =
+  pub plain-written : (v : View) → T (wellFormed v) → T (unseparated q v) → plainView q (written q v) ≡ v
+  plain-written v w u =
       let some = ltb→lt 0 (length v) (first-of (ltb 0 (length v)) (every (λ (p : Piece). ltb 0 (length p)) v) w) in
       let clean = joined-clean (q .element) (λ e. fit .element-component (sym e)) v (unseparated-clean q (q .element) (element-separates q) v u) in
       ap (map (pieces (q .component)))

@@ -1,6 +1,6 @@
 -- Bytes, quoted text as bytes, and the few tests on lists that every rule is written with.
 -- Assumes nothing.
-use Prim.Native.Nat.{ℕ, zero, suc, _+_}
+use Prim.Native.Nat.{ℕ, zero, suc, _+_, _-_, _*_}
 use Prim.Native.Char.{code}
 use Prim.Native.String.{String, len, charAt}
 use mathlib.Core.Bool.{Bool, true, false, _&&_, _||_}
@@ -48,3 +48,11 @@ same [] [] = true
 same [] (b ∷ t) = false
 same (a ∷ s) [] = false
 same (a ∷ s) (b ∷ t) = eqb a b && same s t
+
+-- the number that digits write
+abbrev pub valueFrom : ℕ → Bytes → ℕ
+valueFrom n [] = n
+valueFrom n (b ∷ s) = valueFrom (n * 10 + (b - byte "0")) s
+
+abbrev pub valueOf : Bytes → ℕ
+valueOf s = valueFrom 0 s

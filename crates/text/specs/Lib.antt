@@ -1,7 +1,9 @@
 pub mod Bytes
 pub mod Separators
 pub mod Pieces
+pub mod Bin
 pub mod View
 pub mod Lookup
 pub mod Cut
+pub mod BinCut
 pub mod internal

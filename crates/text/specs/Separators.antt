@@ -13,6 +13,10 @@ isDigit b = between (byte "0") (byte "9") b
 abbrev pub isCapital : ℕ → Bool
 isCapital b = between (byte "A") (byte "Z") b
 
+-- a capital or a digit
+abbrev pub isIdByte : ℕ → Bool
+isIdByte b = isCapital b || isDigit b
+
 abbrev pub isSmall : ℕ → Bool
 isSmall b = between (byte "a") (byte "z") b
 

@@ -1,4 +1,5 @@
 // The ground of a reading: the three separators, and the parts of a segment.
+pub mod bin;
 pub mod compare;
 pub mod lookup;
 pub mod separators;

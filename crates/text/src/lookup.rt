@@ -4,6 +4,8 @@ ghost use Prim.Native.Nat.{_+_, _≤_};
 ghost use lib.ListN.{length};
 ghost use Rattle.text.specs.Lookup.{pieceSpan, elementSpan, componentSpan, PartAt};
 ghost use Rattle.text.specs.internal.Search.{Finds};
+ghost use Rattle.text.specs.internal.BinSpan.{binSpan};
+use crate::bin;
 
 pub struct Span {
     pub start: usize,
@@ -58,10 +60,41 @@ pub(crate) fn piece_span(s: &[u8], separator: u8, n: usize) -> Span
     }
 }
 
+// Where an element of a whole BIN stands, whose BIN02 starts at `attached`.
+fn bin_span(segment: &[u8], attached: usize, number: usize) -> Span
+    requires { ⌜ 6 ≤ attached ⌝ }
+    requires { ⌜ attached ≤ length (now segment) ⌝ }
+    ensures { λ r. ⌜ r ≡ binSpan attached (length (now (segment .entry))) number ⌝ }
+{
+    if number == 0 {
+        return Span { start: 0, len: 3 };
+    }
+    if number == 1 {
+        return Span {
+            start: 4,
+            len: attached - 5,
+        };
+    }
+    if number == 2 {
+        return Span {
+            start: attached,
+            len: segment.len() - attached,
+        };
+    }
+    Span {
+        start: segment.len(),
+        len: 0,
+    }
+}
+
 // Where an element of the segment stands; 0 is the tag.
 pub fn element_span(segment: &[u8], separator: u8, number: usize) -> Span
     ensures { λ r. ⌜ r ≡ elementSpan separator (now (segment .entry)) number ⌝ }
 {
+    let attached = bin::attached_from(segment, separator);
+    if attached < segment.len() {
+        return bin_span(segment, attached, number);
+    }
     piece_span(segment, separator, number)
 }
 

@@ -1,6 +1,6 @@
 // The three separators of a transaction, the standard set, and which sets are fit.
 ghost use mathlib.Core.Path.{_≡_};
-ghost use Rattle.text.specs.Separators.{mayServe, fitSeparators, standard};
+ghost use Rattle.text.specs.Separators.{isDigit, mayServe, fitSeparators, standard};
 
 pub struct Separators {
     pub element: u8,
@@ -39,6 +39,13 @@ impl Separators {
             & (self.element != self.terminator)
             & (self.component != self.terminator)
     }
+}
+
+// A digit.
+pub fn is_digit(b: u8) -> bool
+    ensures { λ r. ⌜ r ≡ isDigit b ⌝ }
+{
+    (b'0' <= b) & (b <= b'9')
 }
 
 // A byte 1 to 126 that is no letter, digit, space, '.' or '-'.

@@ -11,12 +11,12 @@ use lib.Dec.{leb}
 use lib.ListN.{length, take, drop, getD, length-drop}
 use lib.Seq.{take-suc, take-length, getD-drop}
 use borrow.Author.Tests.{leb-true, le-leb, lt-leb}
-use Rattle.text.specs.Bytes.{Bytes}
+use Rattle.text.specs.Bytes.{Bytes, valueFrom, valueOf}
 use Rattle.text.specs.Separators.{isDigit}
 use Rattle.text.proofs.Bools.{passes as test-passes}
 use Rattle.text.proofs.Everys.{every-at}
 use Rattle.text.proofs.Tests.{and-first, and-second}
-use Rattle.types.specs.Types.{isNumber, valueFrom, valueOf, figures, numberOf}
+use Rattle.types.specs.Types.{isNumber, figures, numberOf}
 use Rattle.types.specs.internal.Parts.{Written}
 
 -- the number that digits write: one digit more, and how large it is

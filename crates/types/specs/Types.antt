@@ -5,7 +5,7 @@ use mathlib.Core.Bool.{Bool, true, not, cond, _&&_, _||_}
 use mathlib.Core.List.{List, [], _∷_}
 use lib.Dec.{leb, eqb}
 use lib.ListN.{length, take, drop, getD}
-use Rattle.text.specs.Bytes.{Bytes, byte, bytes, between, every, among, same}
+use Rattle.text.specs.Bytes.{Bytes, byte, bytes, between, every, among, same, valueOf}
 use Rattle.text.specs.Separators.{isDigit, isCapital}
 use Rattle.types.specs.declared.kind.Kind.{Kind}
 use Rattle.types.specs.declared.kind.Kind.the-variants.{AN, ID, Set842, N0, R, DT, TM}
@@ -17,14 +17,6 @@ isId s = every (λ (b : ℕ). isCapital b || isDigit b) s
 -- "N0, digits."
 abbrev pub isNumber : Bytes → Bool
 isNumber s = every isDigit s
-
--- the number that digits write
-abbrev pub valueFrom : ℕ → Bytes → ℕ
-valueFrom n [] = n
-valueFrom n (b ∷ s) = valueFrom (n * 10 + (b - byte "0")) s
-
-abbrev pub valueOf : Bytes → ℕ
-valueOf s = valueFrom 0 s
 
 -- the number that one to ten digits write; of any other value 0
 unfoldable pub numberOf : Bytes → ℕ

@@ -9,11 +9,10 @@ use native.Mathlib.Decide.{decLt}
 use borrow.Author.Tests.{eqb-true}
 use lib.Dec.{T, eqb, leb, le→leb}
 use lib.ListN.{length, length-append}
-use Rattle.text.specs.Bytes.{Bytes, every, same}
+use Rattle.text.specs.Bytes.{Bytes, every, same, valueOf}
 use Rattle.text.specs.Separators.{isDigit}
 use Rattle.text.proofs.Bools.{both, first-of, second-of}
 use Rattle.text.proofs.Everys.{every-append}
-use Rattle.types.specs.Types.{valueOf}
 use Rattle.types.proofs.Figures.{value-snoc}
 
 -- 1 where the test passes

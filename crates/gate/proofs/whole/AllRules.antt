@@ -6,11 +6,10 @@ use mathlib.Core.List.{List, [], _∷_}
 use native.Mathlib.Omega.{arith}
 use lib.Dec.{T, eqb→eq}
 use lib.ListN.{length}
-use Rattle.text.specs.Bytes.{Bytes}
+use Rattle.text.specs.Bytes.{Bytes, valueOf}
 use Rattle.text.specs.View.{View, elementOf}
 use Rattle.text.proofs.Bools.{equal-eqb}
 use Rattle.text.proofs.Sames.{same-equal, equal-same}
-use Rattle.types.specs.Types.{valueOf}
 use Rattle.elements.specs.Checks.{Keeps}
 use Rattle.elements.specs.Rules.{byteChecks, endChecks, ruledChecks}
 use Rattle.levels.specs.Levels.{textOf, levelsOf}

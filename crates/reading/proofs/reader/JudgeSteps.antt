@@ -9,7 +9,7 @@ use native.Mathlib.Nat.{add-sub-cancel-left}
 use lib.Dec.{T, eqb, eqb→eq}
 use lib.ListN.{length, take, getD, length-append, length-drop}
 use lib.Seq.{take-append-seam}
-use Rattle.text.specs.Bytes.{Bytes}
+use Rattle.text.specs.Bytes.{Bytes, valueOf}
 use Rattle.text.specs.Pieces.{pieces}
 use Rattle.text.specs.View.{View, viewOf, elementOf}
 use Rattle.text.specs.Cut.{Placed}
@@ -22,7 +22,7 @@ use Rattle.numbering.specs.RowAfter.{RowAfter}
 use Rattle.rows.specs.Rows.{Viable, list842}
 use Rattle.rows.specs.RowList.{tagOf, rowAt}
 use Rattle.rows.proofs.Viability.{viable-iff}
-use Rattle.types.specs.Types.{valueOf, numberOf}
+use Rattle.types.specs.Types.{numberOf}
 use Rattle.elements.specs.Checks.{Check, Keeps, firstBroken}
 use Rattle.elements.specs.Rules.{endChecks, ruledChecks}
 use Rattle.elements.specs.internal.Layouts.{layoutView, elementIn}

@@ -9,7 +9,7 @@ use lib.Dec.{T}
 use lib.ListN.{length, take, getD, length-append}
 use lib.Seq.{take-append-seam}
 use borrow.Author.Tests.{le-ltb}
-use Rattle.text.specs.Bytes.{Bytes, between, every}
+use Rattle.text.specs.Bytes.{Bytes, between, every, valueOf}
 use Rattle.text.specs.Separators.{isDigit}
 use Rattle.text.specs.View.{View, viewOf, present, elementOf}
 use Rattle.text.specs.Cut.{Cut, Whole, Placed}
@@ -21,7 +21,7 @@ use Rattle.rows.specs.Tags.{tag, tagNumber}
 use Rattle.rows.specs.Rows.{list842}
 use Rattle.rows.specs.RowList.{tagOf, rowAt}
 use Rattle.rows.proofs.Viability.{viable-iff}
-use Rattle.types.specs.Types.{valueOf, numberOf, fits}
+use Rattle.types.specs.Types.{numberOf, fits}
 use Rattle.elements.specs.Data.{value, rulesSE}
 use Rattle.elements.specs.Checks.{Keeps}
 use Rattle.elements.specs.Rules.{ruleOf, headed, fitsSimple, tooManyChecks, missingChecks, unfitChecks, noteChecks, checksBy, ruledChecks, presentAt}
