@@ -13,12 +13,12 @@ use borrow.Author.Tests.{eq-eqb, ne-eqb}
 use Rattle.text.specs.Bytes.{Bytes, every}
 use Rattle.text.specs.Separators.{printable}
 use Rattle.text.specs.Pieces.{before, pieces}
-use Rattle.text.specs.View.{Piece, viewOf, empty, elementOf}
+use Rattle.text.specs.View.{Piece, plainView, empty, elementOf}
 use Rattle.text.specs.declared.separators.Separators.{Separators}
 use Rattle.text.proofs.Bools.{and-assoc}
 use Rattle.text.proofs.Pieces.{pieces-some}
 use Rattle.elements.specs.Checks.{check, each, decide, firstBroken}
-use Rattle.elements.specs.Rules.{byteChecks}
+use Rattle.elements.specs.Rules.{dataChecks}
 use Rattle.elements.specs.declared.verdict.Verdict.{Verdict}
 use Rattle.elements.specs.declared.verdict.Verdict.the-variants.{Holds, Broken}
 use Rattle.elements.proofs.FirstBroken.{eachOf, each-of}
@@ -63,17 +63,17 @@ module _ (number : ℕ) (good : ℕ → Bool) (q : Separators) where
       tests-before (eqb b (q .element)) k b (pieces (q .element) s) (pieces-some (q .element) s) ∙ rw (tests-bad (suc k) s, tests-bad k s)
 
   -- the test of each piece of a view, byte by byte
-  pub each-bad : (s : Bytes) → firstBroken (each number 0 (length (viewOf q s)) (λ (k : ℕ). every (every good) (elementOf (viewOf q s) k)))
+  pub each-bad : (s : Bytes) → firstBroken (each number 0 (length (plainView q s)) (λ (k : ℕ). every (every good) (elementOf (plainView q s) k)))
       ≡ badFrom number good (q .element) (q .component) 0 s
   each-bad s =
       ap firstBroken
-      (each-of number 0 goodPiece empty (viewOf q s) (λ (k : ℕ). goodPiece (elementOf (viewOf q s) k))
-      (λ k l. let same : 0 + k ≡ k = omega arith in ap (λ (k : ℕ). goodPiece (elementOf (viewOf q s) k)) same))
+      (each-of number 0 goodPiece empty (plainView q s) (λ (k : ℕ). goodPiece (elementOf (plainView q s) k))
+      (λ k l. let same : 0 + k ≡ k = omega arith in ap (λ (k : ℕ). goodPiece (elementOf (plainView q s) k)) same))
       ∙ tests-bad 0 s
 
 -- answer 5
-pub bytes-bad : (q : Separators) (s : Bytes) → firstBroken (byteChecks (viewOf q s)) ≡ badFrom 5 printable (q .element) (q .component) 0 s
-unfolding byteChecks
+pub bytes-bad : (q : Separators) (s : Bytes) → firstBroken (dataChecks (plainView q s)) ≡ badFrom 5 printable (q .element) (q .component) 0 s
+unfolding dataChecks
 bytes-bad q s = each-bad 5 printable q s
 
 -- a pass that has come to i, behind k element separators

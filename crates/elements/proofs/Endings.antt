@@ -12,7 +12,7 @@ use lib.Seq.{drop-cons}
 use borrow.Author.Tests.{eq-eqb, ne-eqb}
 use Rattle.text.specs.Bytes.{Bytes}
 use Rattle.text.specs.Pieces.{before, pieces}
-use Rattle.text.specs.View.{View, viewOf, elementOf, elementCount}
+use Rattle.text.specs.View.{View, plainView, elementOf, elementCount}
 use Rattle.text.specs.declared.separators.Separators.{Separators}
 use Rattle.text.proofs.Pieces.{pieces-some}
 use Rattle.elements.specs.Checks.{Check, check, each, decide, firstBroken}
@@ -121,7 +121,7 @@ module _ (q : Separators) where
       (λ k h. let on : 1 + k ≡ suc k = omega arith in ap (elementOf v) on ∙ List·getD-map (pieces (q .component)) ps k []) (omega (arith, count))) in
       ap firstBroken (ap₂ (λ (t : Bool) (r : List Check). check 6 0 t ∷ r) (ap (leb 1) count ∙ some-length ps) rest)
 
-  pub ends-pass : (s : Bytes) → firstBroken (endChecks (viewOf q s)) ≡ endsFrom (q .element) (q .component) 0 true true s
+  pub ends-pass : (s : Bytes) → firstBroken (endChecks (plainView q s)) ≡ endsFrom (q .element) (q .component) 0 true true s
   ends-pass s =
       by-pieces (pieces (q .element) s) (pieces-some (q .element) s) ∙ endings-from (q .component) 0 (pieces (q .element) s)
       ∙ endings-pass 0 true true s

@@ -7,18 +7,23 @@ use lib.Dec.{leb, eqb}
 use lib.ListN.{length, getD}
 use Rattle.text.specs.Bytes.{every, any}
 use Rattle.text.specs.Separators.{printable}
-use Rattle.text.specs.View.{Piece, View, present, elementOf, elementCount}
+use Rattle.text.specs.View.{Piece, View, present, elementOf, elementCount, inspected}
 use Rattle.types.specs.Types.{fits}
 use Rattle.elements.specs.Data.{Value, Shape, Simple, Composite, Element, Note, Paired, Required, Conditional, Rules, ElementProfile, may}
 use Rattle.elements.specs.Checks.{Check, check, each}
 use Rattle.types.specs.declared.kind.Kind.the-variants.{AN}
 
--- 5, a byte that is neither data nor a separator; the tag is element 0. A view holds no separator, so its bytes are data exactly if they are printable
+-- 5, a byte that is neither data nor a separator; the tag is element 0. Where a view is looked into it holds no separator, so its bytes are data
+-- exactly if they are printable
 abbrev pub dataPiece : Piece → Bool
 dataPiece p = every (every printable) p
 
+unfoldable pub dataChecks : View → List Check
+dataChecks v = each 5 0 (length v) (λ (k : ℕ). dataPiece (elementOf v k))
+
+-- BIN02 is not looked into
 unfoldable pub byteChecks : View → List Check
-byteChecks v = each 5 0 (length v) (λ (k : ℕ). dataPiece (elementOf v k))
+byteChecks v = dataChecks (inspected v)
 
 -- the last component has a byte
 abbrev pub lastFilled : Piece → Bool

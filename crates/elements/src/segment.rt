@@ -1,14 +1,14 @@
-// The rules of any segment: its bytes, and how its elements end.
+// The rules of any segment that is cut at its separators, as all but a BIN are: its bytes, and how its elements end.
 ghost use mathlib.Core.Path.{_≡_};
-ghost use Rattle.text.specs.View.{viewOf};
+ghost use Rattle.text.specs.View.{plainView};
 ghost use Rattle.elements.specs.Checks.{firstBroken};
-ghost use Rattle.elements.specs.Rules.{byteChecks, endChecks};
+ghost use Rattle.elements.specs.Rules.{dataChecks, endChecks};
 use crate::verdict::Verdict;
 use text::separators::Separators;
 
 // Answer 5: the first element with a byte that is neither data nor a separator; the tag is 0.
 pub fn byte_verdict(segment: &[u8], separators: Separators) -> Verdict
-    ensures { λ r. ⌜ r ≡ firstBroken (byteChecks (viewOf separators (now (segment .entry)))) ⌝ }
+    ensures { λ r. ⌜ r ≡ firstBroken (dataChecks (plainView separators (now (segment .entry)))) ⌝ }
 {
     let element = separators.element;
     let component = separators.component;
@@ -28,7 +28,7 @@ pub fn byte_verdict(segment: &[u8], separators: Separators) -> Verdict
 
 // Answer 6: no element, or the first element that ends with an empty component, or an empty last element.
 pub fn end_verdict(segment: &[u8], separators: Separators) -> Verdict
-    ensures { λ r. ⌜ r ≡ firstBroken (endChecks (viewOf separators (now (segment .entry)))) ⌝ }
+    ensures { λ r. ⌜ r ≡ firstBroken (endChecks (plainView separators (now (segment .entry)))) ⌝ }
 {
     let element = separators.element;
     let component = separators.component;

@@ -9,13 +9,12 @@ use native.Mathlib.Omega.{arith}
 use native.Mathlib.Decide.{decLt}
 use lib.Dec.{T}
 use lib.ListN.{length, take, drop, getD, length-append}
-use lib.Seq.{take-at, drop-at, take-all, append-snoc}
 use borrow.Author.Tests.{not-true, ne-eqb, le-ltb}
 use Rattle.text.specs.Bytes.{Bytes, bytes, valueOf}
-use Rattle.text.specs.Pieces.{pieces}
+use Rattle.text.specs.Pieces.{pieces, joined}
 use Rattle.text.specs.Bin.{binMark, beginsBin, countIn, attachedIn, counts, isBin}
 use Rattle.text.specs.View.{elementsOf, binElements}
-use Rattle.text.specs.Lookup.{span, spanAmong, pieceSpan, elementSpan, attachedFrom, partOf}
+use Rattle.text.specs.Lookup.{span, spanAmong, pieceSpan, elementSpan, attachedFrom}
 use Rattle.text.specs.internal.Count.{countFrom}
 use Rattle.text.specs.internal.BinSpan.{binSpan}
 use Rattle.text.specs.declared.separators.Separators.{Separators}
@@ -24,10 +23,11 @@ use Rattle.text.specs.declared.bin.Counted.{Counted}
 use Rattle.text.specs.declared.bin.Counted.the-variants.{Told, Open, Broken}
 use Rattle.text.proofs.Bools.{passes, fails}
 use Rattle.text.proofs.Bins.{Counts, counts-told, counts-passes, bin-parts, begins-mark, marked-counts, count-made}
+use Rattle.text.proofs.Pieces.{joined-pieces}
 use Rattle.text.proofs.BinView.{elements-bin, elements-plain}
 use Rattle.text.proofs.CountedCut.{Digits}
 use Rattle.text.proofs.Counting.{Found, Finds, count-finds, count-found}
-use Rattle.text.proofs.Spans.{Lies, lies, lies-empty}
+use Rattle.text.proofs.Spans.{Lies, lies-among}
 
 module _ (e : ℕ) (g : Bytes) where
   -- of a whole BIN, and of any other segment
@@ -180,30 +180,15 @@ module _ (e : ℕ) (g : Bytes) where
   pub span-pieces : (n : ℕ) → length g ≤ attachedFrom e g → pieceSpan e g n ≡ elementSpan e g n
   span-pieces n l = span-plain n (plain-of l)
 
-  -- they lie within the segment, and hold the elements
-  bin-lies : isBin e g ≡ true → (n : ℕ) → Lies g (binSpan (length (countIn e g) + 5) (length g) n) (getD (binElements e g) n [])
-  bin-lies h zero = record { inside = omega (arith, bin-long h); holds = ap (take 3) (bin-parts e g (rw h tt) .whole) }
-  bin-lies h (suc zero) =
-      let b = bin-parts e g (rw h tt) in
-      let d = countIn e g in
-      let len : length d + 5 - 5 ≡ length d = omega arith in
-      record {
-        inside = omega (arith, bin-long h);
-        holds = ap (λ (x : Bytes). take (length d + 5 - 5) (drop 4 x)) (b .whole) ∙ rw len (take-at d (e ∷ attachedIn e g) (length d) refl);
-      }
-  bin-lies h (suc (suc zero)) = record {
-    inside = omega (arith, bin-long h);
-    holds = take-all (length g - (length (countIn e g) + 5)) (attachedIn e g) (omega (arith, bin-long h));
-  }
-  bin-lies h (suc (suc (suc n))) =
-      let m = suc (suc (suc n)) in
-      rw (ne-eqb m 0 (λ z. omega arith), ne-eqb m 1 (λ z. omega arith), ne-eqb m 2 (λ z. omega arith)) (lies-empty g [] refl)
+-- the elements are joined to the segment
+pub elements-joined : (e : ℕ) (g : Bytes) → joined e (elementsOf e g) ≡ g
+elements-joined e g = by (isBin e g) refl
+  where
+    by : (b : Bool) → isBin e g ≡ b → joined e (elementsOf e g) ≡ g
+    by true h = ap (joined e) (elements-bin e g h) ∙ sym (bin-parts e g (rw h tt) .whole)
+    by false h = ap (joined e) (elements-plain e g h) ∙ joined-pieces e g
 
-  pub lies-element : (n : ℕ) → Lies g (elementSpan e g n) (getD (elementsOf e g) n [])
-  lies-element n = by (isBin e g) refl
-    where
-      by : (b : Bool) → isBin e g ≡ b → Lies g (elementSpan e g n) (getD (elementsOf e g) n [])
-      by true h =
-          let l : attachedFrom e g < length g = omega (arith, attached-bin h, bin-long h, bin-parts e g (rw h tt) .counted .long) in
-          rw (← span-bin n l, attached-bin h, elements-bin e g h) (bin-lies h n)
-      by false h = rw (← span-plain n h, elements-plain e g h) (lies e g n)
+-- so they lie within it
+pub lies-element : (e : ℕ) (g : Bytes) (n : ℕ) → Lies g (elementSpan e g n) (getD (elementsOf e g) n [])
+unfolding elementSpan
+lies-element e g n = lies-among e (elementsOf e g) g (elements-joined e g) n

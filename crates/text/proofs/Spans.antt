@@ -13,7 +13,7 @@ use Rattle.text.specs.Bytes.{Bytes}
 use Rattle.text.specs.Pieces.{pieces, joined, closed}
 use Rattle.text.proofs.Pieces.{Clean, pieces-free, pieces-cut, pieces-closed, joined-pieces, closed-snoc, clean-snoc}
 use Rattle.text.specs.internal.Search.{Free, FirstAt}
-use Rattle.text.specs.Lookup.{span, pieceSpan, componentSpan, partOf}
+use Rattle.text.specs.Lookup.{span, spanAmong, pieceSpan, componentSpan, partOf}
 use Rattle.text.specs.declared.lookup.Span.{Span}
 
 pub record Begun (sep : ℕ) (s : Bytes) (k at : ℕ) : Type 0 where
@@ -117,29 +117,31 @@ pub record Lies (s : Bytes) (p : Span) (piece : Bytes) : Type 0 where
   pub inside : p .start + p .len ≤ length s
   pub holds : partOf s p ≡ piece
 
-lies-by : (sep : ℕ) (s : Bytes) (n : ℕ) → n < length (pieces sep s)
-    → Lies s (span (length (closed sep (take n (pieces sep s)))) (length (getD (pieces sep s) n []))) (getD (pieces sep s) n [])
-lies-by sep s n h =
-    let p = spot sep (pieces sep s) n h in
-    let front = closed sep (take n (pieces sep s)) in
-    let piece = getD (pieces sep s) n [] in
-    let w : s ≡ front ++ (piece ++ p .tail) = sym (joined-pieces sep s) ∙ p .whole in
-    record {
-      inside = omega (arith, simp length-append at (ap length w));
-      holds = ap (take (length piece)) (ap (drop (length front)) w ∙ drop-at front (piece ++ p .tail) (length front) refl) ∙ take-append-seam piece (p .tail);
-    }
+-- where pieces are joined to the bytes
+module _ (sep : ℕ) (ps : List Bytes) (s : Bytes) (whole : joined sep ps ≡ s) (n : ℕ) where
+  lies-there : n < length ps → Lies s (span (length (closed sep (take n ps))) (length (getD ps n []))) (getD ps n [])
+  lies-there h =
+      let p = spot sep ps n h in
+      let front = closed sep (take n ps) in
+      let piece = getD ps n [] in
+      let w : s ≡ front ++ (piece ++ p .tail) = sym whole ∙ p .whole in
+      record {
+        inside = omega (arith, simp length-append at (ap length w));
+        holds = ap (take (length piece)) (ap (drop (length front)) w ∙ drop-at front (piece ++ p .tail) (length front) refl) ∙ take-append-seam piece (p .tail);
+      }
 
--- the empty part at the end
-pub lies-empty : (s piece : Bytes) → piece ≡ [] → Lies s (span (length s) 0) piece
-lies-empty s piece e = record { inside = omega arith; holds = sym e }
+  -- past the last it is the empty part at the end
+  pub lies-among : Lies s (spanAmong sep ps (length s) n) (getD ps n [])
+  lies-among =
+      by-cases (decLt n (length ps))
+      (λ h. rw (lt-ltb n (length ps) h) (lies-there h))
+      (λ h.
+      let past : length ps ≤ n = omega arith in
+      rw (le-ltb n (length ps) past) (record { inside = omega arith; holds = sym (List·getD-eq-default ps [] past) }))
 
 pub lies : (sep : ℕ) (s : Bytes) (n : ℕ) → Lies s (pieceSpan sep s n) (getD (pieces sep s) n [])
-lies sep s n =
-    by-cases (decLt n (length (pieces sep s)))
-    (λ h. rw (span-there sep s n h) (lies-by sep s n h))
-    (λ h.
-    let past : length (pieces sep s) ≤ n = omega arith in
-    rw (span-beyond sep s n past) (lies-empty s (getD (pieces sep s) n []) (List·getD-eq-default (pieces sep s) [] past)))
+unfolding pieceSpan
+lies sep s n = lies-among sep (pieces sep s) s (joined-pieces sep s) n
 
 -- component n + 1 is the piece n; component 0 the empty part at the end
 pub component-none : (sep : ℕ) (s : Bytes) (n : ℕ) → n ≡ 0 → span (length s) 0 ≡ componentSpan sep s n

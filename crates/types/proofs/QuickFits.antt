@@ -12,7 +12,8 @@ use Rattle.text.specs.Bytes.{Bytes, between}
 use Rattle.text.proofs.Bools.{and-assoc, and-true, and-false}
 use Rattle.text.proofs.Tests.{and-first, and-second}
 use Rattle.types.specs.Types.{isNumber, figures, daysIn, isDate, isTime, isOf, sizeOf, fits}
-use Rattle.types.specs.internal.Quick.{isIdByte, isShortId, isEarlyDate, isShortTime, isSized, isQuick, fitsQuickly}
+use Rattle.text.specs.Separators.{isIdByte}
+use Rattle.types.specs.internal.Quick.{isShortId, isEarlyDate, isShortTime, isSized, isQuick, fitsQuickly}
 use Rattle.types.specs.declared.kind.Kind.{Kind}
 use Rattle.types.specs.declared.kind.Kind.the-variants.{AN, ID, Set842, N0, R, DT, TM}
 use Rattle.types.proofs.Reals.{digits-count, digits-real}

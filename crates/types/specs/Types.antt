@@ -6,13 +6,13 @@ use mathlib.Core.List.{List, [], _∷_}
 use lib.Dec.{leb, eqb}
 use lib.ListN.{length, take, drop, getD}
 use Rattle.text.specs.Bytes.{Bytes, byte, bytes, between, every, among, same, valueOf}
-use Rattle.text.specs.Separators.{isDigit, isCapital}
+use Rattle.text.specs.Separators.{isDigit, isIdByte}
 use Rattle.types.specs.declared.kind.Kind.{Kind}
 use Rattle.types.specs.declared.kind.Kind.the-variants.{AN, ID, Set842, N0, R, DT, TM}
 
 -- ID: capital letters and digits
 abbrev pub isId : Bytes → Bool
-isId s = every (λ (b : ℕ). isCapital b || isDigit b) s
+isId s = every isIdByte s
 
 -- "N0, digits."
 abbrev pub isNumber : Bytes → Bool

@@ -3,13 +3,7 @@ ghost use mathlib.Core.Path.{_≡_};
 ghost use Rattle.text.specs.Separators.{isDigit};
 ghost use Rattle.types.specs.Types.{isNumber, countOf, numberOf, figures};
 ghost use Rattle.types.specs.internal.Parts.{Written};
-
-// A digit.
-pub(crate) fn is_digit(b: u8) -> bool
-    ensures { λ r. ⌜ r ≡ isDigit b ⌝ }
-{
-    (b'0' <= b) & (b <= b'9')
-}
+use text::separators;
 
 // Digits alone.
 pub(crate) fn is_number(value: &[u8]) -> bool
@@ -17,7 +11,7 @@ pub(crate) fn is_number(value: &[u8]) -> bool
 {
     let mut i = 0;
     while i < value.len() {
-        if !is_digit(value[i]) {
+        if !separators::is_digit(value[i]) {
             return false;
         }
         i += 1;
@@ -32,7 +26,7 @@ pub(crate) fn digit_count(value: &[u8]) -> usize
     let mut n: usize = 0;
     let mut i = 0;
     while i < value.len() {
-        if is_digit(value[i]) {
+        if separators::is_digit(value[i]) {
             n += 1;
         }
         i += 1;

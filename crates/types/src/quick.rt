@@ -1,16 +1,18 @@
 // Quick tests of values: each admits the usual values of its type by a few comparisons, and no other value that does not fit.
 ghost use mathlib.Core.Path.{_≡_};
-ghost use Rattle.types.specs.internal.Quick.{isIdByte, isShortId, isEarlyDate, isShortTime, isSized, fitsQuickly};
+ghost use Rattle.text.specs.Separators.{isIdByte};
+ghost use Rattle.types.specs.internal.Quick.{isShortId, isEarlyDate, isShortTime, isSized, fitsQuickly};
 ghost use Rattle.types.specs.declared.kind.Kind.the-variants.{AN, ID, R, DT, TM};
 use crate::dates;
 use crate::digits;
 use crate::values;
+use text::separators;
 
 // A capital letter or a digit.
 fn is_id_byte(b: u8) -> bool
     ensures { λ r. ⌜ r ≡ isIdByte b ⌝ }
 {
-    values::is_capital(b) | digits::is_digit(b)
+    values::is_capital(b) | separators::is_digit(b)
 }
 
 // An ID of up to three bytes.

@@ -6,6 +6,7 @@ ghost use Rattle.types.specs.internal.Parts.{Unsigned};
 use crate::dates;
 use crate::digits;
 use crate::kind::Kind;
+use text::separators;
 
 // A capital letter.
 pub(crate) fn is_capital(b: u8) -> bool
@@ -21,7 +22,7 @@ pub(crate) fn is_id(value: &[u8]) -> bool
     let mut i = 0;
     while i < value.len() {
         let b = value[i];
-        if !(is_capital(b) | digits::is_digit(b)) {
+        if !(is_capital(b) | separators::is_digit(b)) {
             return false;
         }
         i += 1;
@@ -52,7 +53,7 @@ pub(crate) fn is_real(value: &[u8]) -> bool
         let b = value[i];
         if b == b'.' {
             points += 1;
-        } else if !digits::is_digit(b) {
+        } else if !separators::is_digit(b) {
             return false;
         }
         i += 1;

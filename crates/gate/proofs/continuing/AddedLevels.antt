@@ -10,7 +10,7 @@ use borrow.Author.Tests.{ne-eqb}
 use lib.Dec.{T, eqb, eqb→eq, leb, le→leb}
 use lib.ListN.{length, length-map}
 use Rattle.text.specs.Bytes.{Bytes, bytes, every, any, same}
-use Rattle.text.specs.Separators.{isDigit, isCapital, Fitted}
+use Rattle.text.specs.Separators.{isDigit, isCapital, Fitted, isIdByte}
 use Rattle.text.specs.View.{View}
 use Rattle.text.specs.declared.separators.Separators.{Separators}
 use Rattle.text.proofs.Bools.{first-of, second-of, or-left, or-right, or-cases, not-passes}
@@ -18,7 +18,6 @@ use Rattle.text.proofs.Sames.{same-equal}
 use Rattle.text.proofs.Everys.{every-weaker}
 use Rattle.rows.specs.Tags.{tagNumber}
 use Rattle.types.specs.Types.{isId}
-use Rattle.types.specs.internal.Quick.{isIdByte}
 use Rattle.elements.specs.Checks.{Keeps}
 use Rattle.levels.specs.Profile.{codeOf, mayStandAlone, mayBeMarked, mayHang}
 use Rattle.levels.specs.Levels.{claimOf, Level, called, levelAt, levelOf}

@@ -9,7 +9,7 @@ use native.Mathlib.Omega.{arith}
 use lib.Dec.{T, not-T, eqb, eqb→eq, leb, leb→le, le→leb}
 use lib.ListN.{length}
 use Rattle.text.specs.Bytes.{Bytes, bytes, between, every, among}
-use Rattle.text.specs.Separators.{isDigit, isCapital, isSmall, mayServe, isSeparator, printable, Fitted}
+use Rattle.text.specs.Separators.{isDigit, isCapital, isSmall, mayServe, isSeparator, printable, Fitted, isIdByte}
 use Rattle.text.specs.View.{View, empty, present, elementOf}
 use Rattle.text.specs.declared.separators.Separators.{Separators}
 use Rattle.text.proofs.Bools.{both, first-of, second-of, or-right, or-cases}
@@ -17,7 +17,6 @@ use Rattle.text.proofs.Everys.{every-weaker, every-anywhere}
 use Rattle.text.proofs.View.{unseparated, wellFormed}
 use Rattle.rows.specs.Tags.{tag, tagNumber}
 use Rattle.types.specs.Types.{isId, isNumber, fits}
-use Rattle.types.specs.internal.Quick.{isIdByte}
 use Rattle.elements.specs.Data.{Rules, rulesHL, rulesSE}
 use Rattle.elements.specs.Checks.{Check, each, Keeps}
 use Rattle.elements.specs.Rules.{dataPiece, byteChecks, endChecks, tooManyChecks, missingChecks, unfitChecks, noteChecks, checksBy, ruledChecks, presentAt}

@@ -10,9 +10,6 @@ use Rattle.types.specs.Types.{isId, isNumber, figures, isTime, isOf}
 use Rattle.types.specs.declared.kind.Kind.{Kind}
 use Rattle.types.specs.declared.kind.Kind.the-variants.{AN, ID, Set842, N0, R, DT, TM}
 
-abbrev pub isIdByte : ℕ → Bool
-isIdByte b = isCapital b || isDigit b
-
 -- an ID of up to three bytes
 unfoldable pub isShortId : Bytes → Bool
 isShortId s = leb (length s) 3 && isId s

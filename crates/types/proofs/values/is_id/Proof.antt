@@ -4,14 +4,14 @@ use Prim.Native.Nat.{ℕ, _-_}
 use mathlib.Core.Bool.{_||_}
 use lib.ListN.{length}
 use borrow.Author.Tests.{not-true, not-false}
-use Rattle.text.specs.Separators.{isDigit, isCapital}
+use Rattle.text.specs.Separators.{isIdByte}
 use Rattle.text.proofs.Tests.{Passing, passing-none, passing-more, every-fails, every-passes}
 use borrow.Author.Needs.{needs}
 use Rattle.types.proofs.values.is_id.Statement.{statement}
 use Rattle.types.proofs.values.is_id.Tie as tie
 
 abbrev Inv-loop : tie.InvT-loop
-Inv-loop value i₀ i = Passing (λ (b : ℕ). isCapital b || isDigit b) value i
+Inv-loop value i₀ i = Passing isIdByte value i
 
 abbrev μ-loop : tie.MeasureT-loop
 μ-loop value i₀ i = length value - i
