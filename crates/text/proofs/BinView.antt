@@ -9,13 +9,14 @@ use native.Mathlib.Omega.{arith}
 use lib.Dec.{T}
 use lib.ListN.{length, take, drop, getD, length-map}
 use lib.Seq.{take-all}
-use Rattle.text.specs.Bytes.{Bytes, bytes, same}
+use Rattle.text.specs.Bytes.{Bytes, bytes, every, same}
 use Rattle.text.specs.Separators.{Fitted}
 use Rattle.text.specs.Pieces.{pieces}
 use Rattle.text.specs.Bin.{binMark, beginsBin, countIn, attachedIn, isBin}
 use Rattle.text.specs.View.{Piece, View, plainView, viewOf, elementsOf, binElements, written, elementOf, namesBin, inspected}
 use Rattle.text.specs.declared.separators.Separators.{Separators}
 use Rattle.text.proofs.Bools.{passes}
+use Rattle.text.proofs.Everys.{every-take}
 use Rattle.text.proofs.Sames.{same-equal}
 use Rattle.text.proofs.Pieces.{pieces-some, pieces-free, pieces-cut}
 use Rattle.text.proofs.Bins.{bin-parts, mark-begins}
@@ -75,6 +76,15 @@ inspected-few v l = by (namesBin (elementOf v 0))
 pub inspected-bin : (v : View) → namesBin (elementOf v 0) ≡ true → inspected v ≡ take 2 v
 unfolding inspected
 inspected-bin v h = rw h
+
+-- a test that every piece passes
+pub inspected-every : (f : Piece → Bool) (v : View) → T (every f v) → T (every f (inspected v))
+unfolding inspected
+inspected-every f v h = by (namesBin (elementOf v 0))
+  where
+    by : (b : Bool) → T (every f (cond b (take 2 v) v))
+    by true = every-take f 2 v h
+    by false = h
 
 -- the pieces of bytes that begin like a BIN
 pub plain-marked : (q : Separators) → Fitted q → (y : Bytes)

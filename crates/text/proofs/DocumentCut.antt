@@ -1,9 +1,9 @@
 -- The cut of the documents has the two laws. In plain words, of bytes that do not begin like a BIN: a whole segment is what stands before the first
 -- terminator, and the only stop is 3, where there is none.
 -- Assumes nothing.
-use Prim.Native.Nat.{ℕ}
+use Prim.Native.Nat.{ℕ, _≤_}
 use mathlib.Core.Path.{_≡_, refl, sym, ap, subst, _∙_}
-use mathlib.Core.Logic.{_⊎_, inl}
+use mathlib.Core.Logic.{_⊎_, inl, inr}
 use mathlib.Core.Bool.{Bool, true, false, cond, _&&_}
 use mathlib.Core.List.{[], _∷_, _++_}
 use native.Mathlib.Omega.{arith}
@@ -71,6 +71,34 @@ module _ (q : Separators) where
   cut-says [] = (refl, refl, refl, refl, tt)
   cut-says (b ∷ s) = says-by b s (eqb b (q .terminator)) refl (cut-says s)
 
+  -- what begins like a BIN is cut by its count, which has the law
+  marked-law : (s : Bytes) → T (beginsBin (q .element) s) → CutLaw (q .terminator) (cutOf q) s (cutOf q s)
+  marked-law s h =
+      subst (λ (x : Bytes). CutLaw (q .terminator) (cutOf q) x (cutOf q x)) (sym (begins-mark (q .element) s h))
+      (rw (cut-marked (drop 4 s))
+      (law-behind (q .terminator) (cutOf q) (cutCounted q 0 0) (binMark (q .element)) cut-marked (drop 4 s) (cutCounted q 0 0 (drop 4 s)) (counted-law q 0 0 (drop 4 s))))
+
+  -- with any separators: a segment and its terminator stand there; a stop is numbered 3, or as a fault
+  abbrev pub Splits : Bytes → Cut → Type 0
+  Splits s (Whole segment more) = s ≡ segment ++ q .terminator ∷ more
+  Splits s (Stop number element upto more) = (3 ≤ number) × (number ≤ 16)
+
+  pub cut-splits : (s : Bytes) → Splits s (cutOf q s)
+  cut-splits s = by (beginsBin (q .element) s) refl
+    where
+      of-law : (c : Cut) → CutLaw (q .terminator) (cutOf q) s c → Splits s c
+      of-law (Whole segment more) w = w .0
+      of-law (Stop number element upto more) (inl z) = (omega arith, omega arith)
+      of-law (Stop number element upto more) (inr f) = (omega (arith, f .from-4), f .to-16)
+
+      of-says : (c : Cut) → Says s c → Splits s c
+      of-says (Whole segment more) w = w .0
+      of-says (Stop number element upto more) w = (omega (arith, w .0), omega (arith, w .0))
+
+      by : (b : Bool) → beginsBin (q .element) s ≡ b → Splits s (cutOf q s)
+      by true h = of-law (cutOf q s) (marked-law s (rw h tt))
+      by false h = rw (cut-plainly s h) (of-says (cutAtTerminator q s) (cut-says s))
+
 -- the mark holds no terminator, so it stands before one or not at all
 module _ (q : Separators) (fit : Fitted q) where
   pub mark-before : (g x y : Bytes) → T (beginsBin (q .element) (g ++ q .terminator ∷ x)) → T (beginsBin (q .element) (g ++ y))
@@ -114,12 +142,7 @@ module _ (q : Separators) (fit : Fitted q) where
 
   law-by : (s : Bytes) (begins : Bool) → beginsBin (q .element) s ≡ begins → CutLaw (q .terminator) (cutOf q) s (cutOf q s)
   law-by s false h = rw (cut-plainly q s h) (plain-law s (cutAtTerminator q s) h (cut-says q s))
-  law-by s true h =
-      let mark = binMark (q .element) in
-      let w = begins-mark (q .element) s (rw h tt) in
-      subst (λ (x : Bytes). CutLaw (q .terminator) (cutOf q) x (cutOf q x)) (sym w)
-      (rw (cut-marked q (drop 4 s))
-      (law-behind (q .terminator) (cutOf q) (cutCounted q 0 0) mark (cut-marked q) (drop 4 s) (cutCounted q 0 0 (drop 4 s)) (counted-law q 0 0 (drop 4 s))))
+  law-by s true h = marked-law q s (rw h tt)
 
   pub cut-law : (s : Bytes) → CutLaw (q .terminator) (cutOf q) s (cutOf q s)
   cut-law s = law-by s (beginsBin (q .element) s) refl

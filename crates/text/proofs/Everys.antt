@@ -8,7 +8,7 @@ use mathlib.Core.List.{List, [], _∷_, _++_}
 use native.Mathlib.Omega.{arith}
 use native.Mathlib.Decide.{decLt}
 use lib.Dec.{T}
-use lib.ListN.{length, getD, List·getD-eq-default}
+use lib.ListN.{length, take, getD, List·getD-eq-default}
 use Rattle.text.specs.Bytes.{every}
 use Rattle.text.proofs.Bools.{both, first-of, second-of, and-assoc, and-true}
 
@@ -46,6 +46,12 @@ module _ {A : Type 0} where
   -- one more at the end
   pub every-snoc : (f : A → Bool) (l : List A) (x : A) → every f (l ++ (x ∷ [])) ≡ every f l && f x
   every-snoc f l x = rw (every-both f l (x ∷ []), and-true (f x))
+
+  -- the first of them
+  pub every-take : (f : A → Bool) (k : ℕ) (l : List A) → T (every f l) → T (every f (take k l))
+  every-take f zero l h = tt
+  every-take f (suc k) [] h = tt
+  every-take f (suc k) (x ∷ l) h = both (f x) (every f (take k l)) (first-of (f x) (every f l) h) (every-take f k l (second-of (f x) (every f l) h))
 
   -- one in the middle
   pub every-middle : (f : A → Bool) (l : List A) (x : A) (m : List A) → T (every f (l ++ x ∷ m)) → T (f x)

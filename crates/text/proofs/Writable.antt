@@ -23,7 +23,7 @@ use Rattle.text.proofs.Everys.{every-weaker}
 use Rattle.text.proofs.Pieces.{pieces-some, joined-pieces}
 use Rattle.text.proofs.Bins.{Counts, counts-told, counts-passes, BinParts, bin-parts, begins-mark, mark-begins, bin-made, count-made, attached-made, bin-begins}
 use Rattle.text.proofs.View.{unseparated, wellFormed, plain-unseparated, plain-well-formed, plain-written, written-free, CleanView, clean-unseparated}
-use Rattle.text.proofs.BinView.{binView, view-bin, view-plain, names-bin, inspected-other, inspected-few, inspected-bin, plain-marked}
+use Rattle.text.proofs.BinView.{binView, view-bin, view-plain, names-bin, inspected-other, inspected-few, inspected-bin, inspected-every, plain-marked}
 use Rattle.text.proofs.Serving.{id-bytes-free, digit-id-byte}
 use Rattle.text.proofs.CountedCut.{Digits, counted-whole}
 use Rattle.text.proofs.DocumentCut.{cut-marked, cut-whole, mark-before}
@@ -201,22 +201,6 @@ module _ (q : Separators) (fit : Fitted q) where
           or-left (not (namesBin (pieces (q .component) t))) (countsPieces (pieces (q .component) d) (pieces (q .component) r)) (no-bin t d (r ∷ []) e)
       by (t ∷ (d ∷ (r ∷ (u ∷ ps)))) e = no-bin t d (r ∷ u ∷ ps) e
 
-  inspected-bare : (v : View) → T (unseparated q v) → T (unseparated q (inspected v))
-  unfolding inspected
-  inspected-bare v h = by (namesBin (elementOf v 0))
-    where
-      front : (k : ℕ) (v : View) → T (unseparated q v) → T (unseparated q (take k v))
-      front zero v h = tt
-      front (suc k) [] h = tt
-      front (suc k) (p ∷ v) h =
-          both (every (every (λ (b : ℕ). not (isSeparator q b))) p) (unseparated q (take k v))
-          (first-of (every (every (λ (b : ℕ). not (isSeparator q b))) p) (unseparated q v) h)
-          (front k v (second-of (every (every (λ (b : ℕ). not (isSeparator q b))) p) (unseparated q v) h))
-
-      by : (b : Bool) → T (unseparated q (cond b (take 2 v) v))
-      by true = front 2 v h
-      by false = h
-
   pub cut-writable : (s g m : Bytes) → cutOf q s ≡ Whole g m → Writable q (viewOf q g)
   cut-writable s g m e = by (cut-gives q fit s g m e)
     where
@@ -227,4 +211,4 @@ module _ (q : Separators) (fit : Fitted q) where
           (record { formed = tt; bare = bin-bare (countIn (q .element) g) (attachedIn (q .element) g) c; counted = rw (counts-passes _ _ c) tt })
       by (inr p) =
           rw (view-plain q g (p .no-bin))
-          (record { formed = plain-well-formed q g; bare = inspected-bare (plainView q g) (plain-unseparated q g (p .free)); counted = plain-counted g p })
+          (record { formed = plain-well-formed q g; bare = inspected-every (every (every (λ (b : ℕ). not (isSeparator q b)))) (plainView q g) (plain-unseparated q g (p .free)); counted = plain-counted g p })

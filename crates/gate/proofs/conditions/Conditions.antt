@@ -14,6 +14,7 @@ use Rattle.text.specs.Separators.{fitSeparators}
 use Rattle.text.specs.View.{View, viewOf}
 use Rattle.text.specs.Cut.{Placed}
 use Rattle.text.proofs.Bools.{passes}
+use Rattle.text.proofs.View.{fitted}
 use Rattle.gate.specs.Answers.{IsAccepted, Fault}
 use Rattle.gate.specs.Profile.{profileOf}
 use Rattle.gate.specs.Segments.{seen, onto}
@@ -86,7 +87,7 @@ pub refusal-final : (how : How) (s : Bytes) (before : Tables) (n k b e : ℕ) (a
 refusal-final how s before n k b e after f x more short u larger r′ after′ y =
     let p = fault-proper how s before n k b e after f x in
     only-answer how (upToSegment how s b ++ more) u (Refused n k b e) (p .read .kept) (p .read .numbers) (p .fit) short
-    (refusal-stands (profileOf how) how before u larger s n k b e (p .read .kept) (p .read .numbers) f (p .read .run) more) r′ after′ y
+    (refusal-stands (profileOf how) how (fitted (how .separators) (p .fit)) before u larger s n k b e (p .read .kept) (p .read .numbers) f (p .read .run) more) r′ after′ y
 
 -- an acceptance stands under more bytes within the limit and under more room
 pub acceptance-final : (how : How) (s : Bytes) (before : Tables) (a l b : ℕ) (after : Tables) → Reads how s before (Accepted a l b) after
@@ -94,14 +95,14 @@ pub acceptance-final : (how : How) (s : Bytes) (before : Tables) (a l b : ℕ) (
 acceptance-final how s before a l b after x more short u larger r′ after′ y =
     let p = accepted-proper how s before a l b after x in
     only-answer how (take b s ++ more) u (Accepted a l b) (p .read .kept) (p .read .numbers) (p .fit) short
-    (acceptance-stands (profileOf how) how before u larger s a l b (p .read .kept) (p .read .numbers) (p .read .run) more) r′ after′ y
+    (acceptance-stands (profileOf how) how (fitted (how .separators) (p .fit)) before u larger s a l b (p .read .kept) (p .read .numbers) (p .read .run) more) r′ after′ y
 
 -- the bytes up to a refused segment begin the input
 pub refusal-begins : (how : How) (s : Bytes) (before : Tables) (n k b e : ℕ) (after : Tables) → Fault n → Reads how s before (Refused n k b e) after
     → BeginsWith (upToSegment how s b) s
 refusal-begins how s before n k b e after f x =
     let p = fault-proper how s before n k b e after f x in
-    refusal-begun (profileOf how) how before before (record { segments = omega arith; levels = omega arith }) s n k b e (p .read .kept) (p .read .numbers) f (p .read .run)
+    refusal-begun (profileOf how) how (fitted (how .separators) (p .fit)) before before (record { segments = omega arith; levels = omega arith }) s n k b e (p .read .kept) (p .read .numbers) f (p .read .run)
 
 -- a refusal comes no sooner than it must: the segments before the fault can be continued to a transaction that meets every rule
 pub refusal-not-early : (how : How) (s : Bytes) (before : Tables) (n k b e : ℕ) (after : Tables) → Fault n → Reads how s before (Refused n k b e) after

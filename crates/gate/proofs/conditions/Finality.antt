@@ -9,6 +9,7 @@ use native.Mathlib.Omega.{arith}
 use lib.ListN.{length, take, drop, length-append}
 use lib.Seq.{take-at, drop-at}
 use Rattle.text.specs.Bytes.{Bytes}
+use Rattle.text.specs.Separators.{Fitted}
 use Rattle.text.specs.View.{View, viewOf}
 use Rattle.text.specs.Cut.{Cut, Whole, Placed}
 use Rattle.text.proofs.CutLaws.{Faulty, CutLaw, Front, leads-front}
@@ -28,9 +29,9 @@ pub room-larger : (profile : Profile) (t u : Tables) (h : List View) → Larger 
 room-larger profile t u h l r = record { segments-fit = omega (arith, r .segments-fit, l .segments); levels-fit = omega (arith, r .levels-fit, l .levels) }
 
 -- what was passed is passed again where the first byte of the rest stays, in larger tables
-module _ (profile : Profile) (how : How) (t u : Tables) (larger : Larger t u) where
+module _ (profile : Profile) (how : How) (fit : Fitted (how .separators)) (t u : Tables) (larger : Larger t u) where
   passed-again : (s : Bytes) (gs : List Placed) (rows : List ℕ) (end b : ℕ) (y z : Bytes) → Passed profile how t s gs rows end (b ∷ y)
-      → (f : Front (how .separators .terminator) (cutBy how) (skipBy how) (cut-law (how .separators)) (skip-law (how .separators)) 0 s gs end b y)
+      → (f : Front (how .separators .terminator) (cutBy how) (skipBy how) (cut-law (how .separators) fit) (skip-law (how .separators)) 0 s gs end b y)
       → Passed profile how u (f .front ++ b ∷ z) gs rows end (b ∷ z)
   passed-again s gs rows end b y z p f = record {
     leads = f .still b z (inl refl);
@@ -43,7 +44,7 @@ module _ (profile : Profile) (how : How) (t u : Tables) (larger : Larger t u) wh
 
   -- the whole part of a cut, and what it keeps
   whole-keeps : (rest g m : Bytes) → cutBy how rest ≡ Whole g m → CutLaw (how .separators .terminator) (cutBy how) rest (Whole g m)
-  whole-keeps rest g m e = subst (λ (c : Cut). CutLaw (how .separators .terminator) (cutBy how) rest c) e (cut-law (how .separators) rest)
+  whole-keeps rest g m e = subst (λ (c : Cut). CutLaw (how .separators .terminator) (cutBy how) rest c) e (cut-law (how .separators) fit rest)
 
   -- bytes whose rest begins with what was looked at, which is not empty
   record Looked (s : Bytes) (gs : List Placed) (rows : List ℕ) (end : ℕ) (x old : Bytes) : Type 0 where
@@ -57,7 +58,7 @@ module _ (profile : Profile) (how : How) (t u : Tables) (larger : Larger t u) wh
   looked s gs rows end [] old p l = absurd (omega arith)
   looked s gs rows end (b ∷ x) old p l =
       let f =
-      leads-front (how .separators .terminator) (cutBy how) (skipBy how) (cut-law (how .separators)) (skip-law (how .separators)) 0 s gs end b
+      leads-front (how .separators .terminator) (cutBy how) (skipBy how) (cut-law (how .separators) fit) (skip-law (how .separators)) 0 s gs end b
       (x ++ old) (p .leads) in
       record {
         front = f .front;
@@ -86,7 +87,7 @@ module _ (profile : Profile) (how : How) (t u : Tables) (larger : Larger t u) wh
   rests : (gs : List Placed) (rows : List ℕ) (end : ℕ) (rest : Bytes) (n e : ℕ) → Fault n → Fails profile how t gs rows end rest n e
       → Rests gs rows end rest n e
   rests gs rows end rest n e fault (inl x) =
-      stop (x .upto) (x .more) (subst (λ (c : Cut). CutLaw (how .separators .terminator) (cutBy how) rest c) (x .stops) (cut-law (how .separators) rest))
+      stop (x .upto) (x .more) (subst (λ (c : Cut). CutLaw (how .separators .terminator) (cutBy how) rest c) (x .stops) (cut-law (how .separators) fit rest))
     where
       stop : (upto old : Bytes) → (n ≡ 3) ⊎ Faulty (cutBy how) rest n e upto old → Rests gs rows end rest n e
       stop upto old (inl y) = absurd (omega (arith, y, fault .from))

@@ -16,7 +16,10 @@ use Rattle.rows.specs.RowList.{rowAt, maxOf}
 use Rattle.rows.proofs.NextRows.{nextOf, after, edges842}
 use Rattle.rows.proofs.RowStep.{stepOf}
 use Rattle.types.specs.Types.{isReal, daysIn, isDate, isTime, fits}
-use Rattle.elements.specs.Rules.{byteChecks, endChecks, ruledChecks}
+use Rattle.text.specs.Bin.{beginsBin, isBin}
+use Rattle.text.specs.View.{viewOf, inspected}
+use Rattle.text.specs.Cut.{cutAttached, cutOf}
+use Rattle.elements.specs.Rules.{dataChecks, byteChecks, endChecks, ruledChecks}
 use Rattle.levels.specs.Profile.{codeOf, mayStandAlone, mayBeMarked, mayHang}
 use Rattle.levels.specs.Rules.{filled}
 use Rattle.gate.specs.Profile.{nonconformance}
@@ -158,7 +161,7 @@ AllComputed [] = Unit {0}
 AllComputed (c ∷ cs) = Computed c × T (leb (length (bytes (c .report))) limit) × AllComputed cs
 
 computed : AllComputed cases
-unfolding compute says stepOf tagIn tagNumber nextOf after edges842 list842 maxOf rowAt byteChecks endChecks tagChecks ruledChecks hlChecks seChecks levelsIn fits isReal isDate isTime daysIn codeOf mayStandAlone mayBeMarked mayHang filled
+unfolding compute says stepOf tagIn tagNumber nextOf after edges842 list842 maxOf rowAt beginsBin isBin viewOf inspected cutAttached cutOf byteChecks dataChecks endChecks tagChecks ruledChecks hlChecks seChecks levelsIn fits isReal isDate isTime daysIn codeOf mayStandAlone mayBeMarked mayHang filled
 computed = (
   (refl, refl, refl),
   tt,

@@ -8,18 +8,21 @@ use mathlib.Core.List.{List, [], _∷_, _++_, map}
 use native.Mathlib.Omega.{arith}
 use lib.Dec.{T, not-T, eqb, eqb→eq, leb, leb→le, le→leb}
 use lib.ListN.{length}
-use Rattle.text.specs.Bytes.{Bytes, bytes, between, every, among}
-use Rattle.text.specs.Separators.{isDigit, isCapital, isSmall, mayServe, isSeparator, printable, Fitted, isIdByte}
-use Rattle.text.specs.View.{View, empty, present, elementOf}
+use Rattle.text.specs.Bytes.{Bytes, bytes, between, every}
+use Rattle.text.specs.Separators.{isDigit, isCapital, isIdByte, isSeparator, printable, Fitted}
+use Rattle.text.specs.View.{View, empty, present, elementOf, inspected}
 use Rattle.text.specs.declared.separators.Separators.{Separators}
 use Rattle.text.proofs.Bools.{both, first-of, second-of, or-right, or-cases}
 use Rattle.text.proofs.Everys.{every-weaker, every-anywhere}
 use Rattle.text.proofs.View.{unseparated, wellFormed}
+use Rattle.text.proofs.BinView.{inspected-every}
+use Rattle.text.proofs.Serving.{serves-apart}
+use Rattle.text.proofs.Writable.{wellCounted, writes}
 use Rattle.rows.specs.Tags.{tag, tagNumber}
 use Rattle.types.specs.Types.{isId, isNumber, fits}
 use Rattle.elements.specs.Data.{Rules, rulesHL, rulesSE}
 use Rattle.elements.specs.Checks.{Check, each, Keeps}
-use Rattle.elements.specs.Rules.{dataPiece, byteChecks, endChecks, tooManyChecks, missingChecks, unfitChecks, noteChecks, checksBy, ruledChecks, presentAt}
+use Rattle.elements.specs.Rules.{dataPiece, dataChecks, byteChecks, endChecks, tooManyChecks, missingChecks, unfitChecks, noteChecks, checksBy, ruledChecks, presentAt}
 use Rattle.types.specs.declared.kind.Kind.the-variants.{AN, ID, N0}
 use Rattle.levels.specs.Profile.{LevelProfile}
 use Rattle.levels.specs.Levels.{claimOf, Level}
@@ -67,29 +70,14 @@ id-byte-printable b p =
     (range-printable 48 57 b (omega arith) (omega arith))
     p
 
--- a byte that may serve is no capital and no digit: of capital, small, digit, other and range
-barred : (a b c d e : Bool) → T (e && not (a || b || c || d)) → T (a || c) → ⊥
-barred true b c d true s p = s
-barred false true true d true s p = s
-barred false false true d true s p = s
-barred false b false d true s p = p
-barred a b c d false s p = s
-
--- capitals and digits may not serve as separators
-serves-no-id-byte : (b x : ℕ) → T (isIdByte b) → T (mayServe x) → T (eqb b x) → ⊥
-unfolding mayServe
-serves-no-id-byte b x p s e =
-    let m : T (mayServe b) = rw (eqb→eq b x e) s in
-    barred (isCapital b) (isSmall b) (isDigit b) (among (bytes " .-") b) (between 1 126 b) m p
-
 -- capitals and digits are no separators that are fit
 id-byte-apart : (q : Separators) → Fitted q → (b : ℕ) → T (isIdByte b) → T (noSeparator q b)
 id-byte-apart q fit b p =
     not-T (isSeparator q b)
     (or-cases (eqb b (q .element) || eqb b (q .component)) (eqb b (q .terminator))
-    (or-cases (eqb b (q .element)) (eqb b (q .component)) (serves-no-id-byte b (q .element) p (fit .element-serves))
-    (serves-no-id-byte b (q .component) p (fit .component-serves)))
-    (serves-no-id-byte b (q .terminator) p (fit .terminator-serves)))
+    (or-cases (eqb b (q .element)) (eqb b (q .component)) (λ e. serves-apart b (q .element) p (fit .element-serves) (eqb→eq b (q .element) e))
+    (λ e. serves-apart b (q .component) p (fit .component-serves) (eqb→eq b (q .component) e)))
+    (λ e. serves-apart b (q .terminator) p (fit .terminator-serves) (eqb→eq b (q .terminator) e)))
 
 -- text of capitals and digits
 pub id-bytes-text : (q : Separators) → Fitted q → (least most : ℕ) (s : Bytes) → T (every isIdByte s) → least ≤ length s → length s ≤ most
@@ -108,10 +96,6 @@ line-every f (s ∷ texts) h =
     both (f s && true) (every (every f) (map (λ (s : Bytes). s ∷ []) texts)) (both (f s) true (first-of (f s) (every f texts) h) tt)
     (line-every f texts (second-of (f s) (every f texts) h))
 
--- a view that writes to bytes and is seen in them again
-abbrev pub writes : Separators → View → Bool
-writes q v = wellFormed v && unseparated q v
-
 -- a test at each element
 each-by : (number a n : ℕ) (test : ℕ → Bool) → ((k : ℕ) → T (test k)) → Keeps (each number a n test)
 each-by number a zero test f = tt
@@ -119,10 +103,11 @@ each-by number a (suc n) test f = (f a, each-by number (suc a) n test f)
 
 -- a line of printable texts keeps the rule of bytes
 line-bytes : (name : String) (texts : List Bytes) → T (every (every printable) (bytes name ∷ texts)) → Keeps (byteChecks (line name texts))
-unfolding byteChecks
+unfolding byteChecks dataChecks
 line-bytes name texts h =
-    each-by 5 0 (length (line name texts)) (λ (k : ℕ). dataPiece (elementOf (line name texts) k))
-    (every-anywhere dataPiece (line name texts) empty tt (line-every (every printable) (bytes name ∷ texts) h))
+    let v = inspected (line name texts) in
+    each-by 5 0 (length v) (λ (k : ℕ). dataPiece (elementOf v k))
+    (every-anywhere dataPiece v empty tt (inspected-every dataPiece (line name texts) (line-every (every printable) (bytes name ∷ texts) h)))
 
 -- an element of the line that is present ends with a byte
 ends-present : (s : Bytes) (last : Bool) → 1 ≤ length s → T (cond (present (s ∷ [])) (leb 1 (length s)) last)
@@ -179,6 +164,12 @@ all-two : {A : Type 0} (f : A → Bool) (x y : A) → T (f x) → T (f y) → T 
 all-two f x y a b = both (f x) (every f (y ∷ [])) a (both (f y) true b tt)
 
 module _ (q : Separators) (fit : Fitted q) where
+  -- a view that writes to bytes and is seen in them again
+  line-writes : (v : View) → T (wellFormed v) → T (unseparated q v) → T (wellCounted v) → T (writes q v)
+  line-writes v w u c =
+      both (wellFormed v && unseparated q (inspected v)) (wellCounted v)
+      (both (wellFormed v) (unseparated q (inspected v)) w (inspected-every (every (every (noSeparator q))) v u)) c
+
   -- a line holds no separator if its texts hold none
   line-free : (name : String) (texts : List Bytes) → T (every isIdByte (bytes name)) → T (every (every (noSeparator q)) texts)
       → T (unseparated q (line name texts))
@@ -190,14 +181,14 @@ module _ (q : Separators) (fit : Fitted q) where
   -- an HL with fit elements writes to bytes
   pub hl-writable : (id parent code : Bytes) → Text q 1 12 id → Text q 0 12 parent → Text q 1 2 code → T (writes q (hlView id parent code))
   hl-writable id parent code a b c =
-      both (wellFormed (hlView id parent code)) (unseparated q (hlView id parent code)) tt
-      (line-free "HL" (id ∷ parent ∷ code ∷ []) tt (all-three (every (noSeparator q)) id parent code (a .free) (b .free) (c .free)))
+      line-writes (hlView id parent code) tt
+      (line-free "HL" (id ∷ parent ∷ code ∷ []) tt (all-three (every (noSeparator q)) id parent code (a .free) (b .free) (c .free))) tt
 
   -- and so does an SE
   pub se-writable : (count control : Bytes) → Text q 1 10 count → Text q 4 9 control → T (writes q (seView count control))
   se-writable count control a b =
-      both (wellFormed (seView count control)) (unseparated q (seView count control)) tt
-      (line-free "SE" (count ∷ control ∷ []) tt (all-two (every (noSeparator q)) count control (a .free) (b .free)))
+      line-writes (seView count control) tt
+      (line-free "SE" (count ∷ control ∷ []) tt (all-two (every (noSeparator q)) count control (a .free) (b .free))) tt
 
 module _ (q : Separators) (h : List View) where
   -- an HL with fit elements keeps the rules that its levels keep
@@ -267,9 +258,9 @@ added : (name : String) (texts : List Bytes) → tagIn (line name texts) ≡ tag
     → T (every (λ (c : Check). c .holds) (endChecks (line name texts)))
     → T (every (λ (c : Check). c .holds) (ruledChecks (nonconformance .elements) (tagIn (line name texts)) (line name texts)))
     → isHL (line name texts) ≡ false → isSE (line name texts) ≡ false → T (wellFormed (line name texts))
-    → T (every (every isIdByte) (bytes name ∷ texts)) → Added name
+    → T (wellCounted (line name texts)) → T (every (every isIdByte) (bytes name ∷ texts)) → Added name
 unfolding hlChecks seChecks
-added name texts t a b c i j w p =
+added name texts t a b c i j w n p =
     let v = line name texts in
     record {
       texts = texts;
@@ -283,32 +274,33 @@ added name texts t a b c i j w p =
       };
       no-level = i;
       written = λ q fit.
-          both (wellFormed v) (unseparated q v) w
+          line-writes q fit v w
           (line-every (every (noSeparator q)) (bytes name ∷ texts)
-          (every-weaker (every isIdByte) (every (noSeparator q)) (λ s. every-weaker isIdByte (noSeparator q) (id-byte-apart q fit) s) (bytes name ∷ texts) p));
+          (every-weaker (every isIdByte) (every (noSeparator q)) (λ s. every-weaker isIdByte (noSeparator q) (id-byte-apart q fit) s) (bytes name ∷ texts) p))
+          n;
     }
 
 -- ST*842*0001
 pub added-st : Added "ST"
-unfolding tagIn tagNumber byteChecks endChecks ruledChecks fits
-added-st = added "ST" (bytes "842" ∷ bytes "0001" ∷ []) refl tt tt tt refl refl tt tt
+unfolding tagIn tagNumber inspected byteChecks dataChecks endChecks ruledChecks fits
+added-st = added "ST" (bytes "842" ∷ bytes "0001" ∷ []) refl tt tt tt refl refl tt tt tt
 
 -- BNR*1
 pub added-bnr : Added "BNR"
-unfolding tagIn tagNumber byteChecks endChecks ruledChecks fits
-added-bnr = added "BNR" (bytes "1" ∷ []) refl tt tt tt refl refl tt tt
+unfolding tagIn tagNumber inspected byteChecks dataChecks endChecks ruledChecks fits
+added-bnr = added "BNR" (bytes "1" ∷ []) refl tt tt tt refl refl tt tt tt
 
 -- LQ*1
 pub added-lq : Added "LQ"
-unfolding tagIn tagNumber byteChecks endChecks ruledChecks fits
-added-lq = added "LQ" (bytes "1" ∷ []) refl tt tt tt refl refl tt tt
+unfolding tagIn tagNumber inspected byteChecks dataChecks endChecks ruledChecks fits
+added-lq = added "LQ" (bytes "1" ∷ []) refl tt tt tt refl refl tt tt tt
 
 -- FA2*1
 pub added-fa2 : Added "FA2"
-unfolding tagIn tagNumber byteChecks endChecks ruledChecks fits
-added-fa2 = added "FA2" (bytes "1" ∷ []) refl tt tt tt refl refl tt tt
+unfolding tagIn tagNumber inspected byteChecks dataChecks endChecks ruledChecks fits
+added-fa2 = added "FA2" (bytes "1" ∷ []) refl tt tt tt refl refl tt tt tt
 
 -- BIN*1*A
 pub added-bin : Added "BIN"
-unfolding tagIn tagNumber byteChecks endChecks ruledChecks fits
-added-bin = added "BIN" (bytes "1" ∷ bytes "A" ∷ []) refl tt tt tt refl refl tt tt
+unfolding tagIn tagNumber inspected byteChecks dataChecks endChecks ruledChecks fits
+added-bin = added "BIN" (bytes "1" ∷ bytes "A" ∷ []) refl tt tt tt refl refl tt tt tt

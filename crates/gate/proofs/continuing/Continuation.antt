@@ -17,7 +17,7 @@ use Rattle.text.specs.declared.separators.Separators.{Separators}
 use Rattle.text.proofs.Bools.{both, first-of, second-of, or-left, or-right, apart}
 use Rattle.text.proofs.Sames.{same-self}
 use Rattle.text.proofs.Lists.{map-append}
-use Rattle.text.proofs.View.{unseparated, wellFormed}
+use Rattle.text.proofs.Writable.{writes, writes-writable}
 use Rattle.text.specs.Separators.{Fitted}
 use Rattle.rows.specs.Tags.{tag, tagNumber}
 use Rattle.rows.specs.Rows.{Word, Viable, list842}
@@ -35,9 +35,9 @@ use Rattle.gate.specs.Segments.{tagIn, isSE, onto, opening}
 use Rattle.gate.specs.Rules.{Kept, From}
 use Rattle.gate.proofs.reading.Laws.{from-append, MeetsFrom, opening-onto, onto-length}
 use Rattle.gate.proofs.continuing.FreshNames.{numeral}
-use Rattle.gate.proofs.continuing.AddedSegments.{levels, ruling, Text, line, id-bytes-text, writes, hlView, seView, hl-writable, se-writable, hl-kept, se-kept}
+use Rattle.gate.proofs.continuing.AddedSegments.{levels, ruling, Text, line, id-bytes-text, hlView, seView, hl-writable, se-writable, hl-kept, se-kept}
 use Rattle.gate.proofs.continuing.AddedSegments.{hl-tag, se-tag, Added, added-st}
-use Rattle.gate.proofs.continuing.LevelNames.{st-text, levels-hl, levels-other, Named, named-none, named-at, named-onto, served, served-filled}
+use Rattle.gate.proofs.continuing.LevelNames.{bare, st-text, levels-hl, levels-other, Named, named-none, named-at, named-onto, served, served-filled}
 use Rattle.gate.proofs.reading.RowOfSE.{tag-79, last-snoc}
 use Rattle.gate.proofs.continuing.PendingRows.{next-goes-on, st-small, hl-small, hl-after-hl, se-after-hl, st-first, max-hl, max-se, max-st}
 use Rattle.gate.proofs.continuing.PendingRows.{tag-st, hlNext, bridges, Pending, pending}
@@ -225,7 +225,7 @@ module _ (q : Separators) (fit : Fitted q) where
   start-ends =
       let v = line "ST" (added-st .texts) in
       let f : Fits [] (tag "ST") 1 = next-goes-on [] (tag "ST") 1 viable-nil st-small st-first (λ z. omega arith) (λ z. omega (arith, max-st, z)) in
-      let free = second-of (wellFormed v) (unseparated q v) (added-st .written q fit) in
+      let free = writes-writable q v (added-st .written q fit) .bare in
       let s : Stands q (v ∷ []) (1 ∷ []) = record {
         viable = f .viable;
         some = omega arith;
@@ -250,7 +250,7 @@ last-not-se (x ∷ w) h (v ∷ vs) r e f n =
 
 -- segments that keep their rules, without an SE, have an ending
 ends-onto : (q : Separators) → Fitted q → (vs : List View) (w : List ℕ) → Viable list842 w → map tagOf w ≡ map tagIn vs
-    → From (Kept nonconformance) [] vs → From (λ h v. T (not (isSE v))) [] vs → T (every (unseparated q) vs) → length vs ≤ 1048576 → Ending q (onto [] vs) w
+    → From (Kept nonconformance) [] vs → From (λ h v. T (not (isSE v))) [] vs → T (every (bare q) vs) → length vs ≤ 1048576 → Ending q (onto [] vs) w
 ends-onto q fit [] [] v e k o u few = start-ends q fit
 ends-onto q fit [] (r ∷ w) v e k o u few = absurd (nil≢cons (sym e))
 ends-onto q fit (x ∷ vs) [] v e k o u few = absurd (nil≢cons e)
@@ -259,7 +259,7 @@ ends-onto q fit (x ∷ vs) (r ∷ w) v e k o u few =
     let s : Stands q (onto [] (x ∷ vs)) (r ∷ w) = record {
       viable = v;
       some = omega (arith, onto-length (x ∷ []) vs);
-      control = rw (opening-onto x [] vs) (st-text q [] x (k .0) (first-of (unseparated q x) (every (unseparated q) vs) u) first);
+      control = rw (opening-onto x [] vs) (st-text q [] x (k .0) (first-of (bare q x) (every (bare q) vs) u) first);
       named = named-onto q [] (x ∷ vs) k u (named-none q);
     } in
     let low = viable-range (r ∷ w) v (lastOf r w) (last-among r w) .0 in
@@ -271,13 +271,13 @@ pub record Continued (q : Separators) (vs : List View) (w : List ℕ) : Type 0 w
   pub more : List View
   pub rows : List ℕ
   pub meets : MeetsFrom nonconformance (vs ++ more) (w ++ rows)
-  pub writable : T (every (λ (v : View). wellFormed v && unseparated q v) more)
+  pub writable : T (every (writes q) more)
   pub tagged : T (every (λ (v : View). ltb (tagIn v) 34) more)
   pub some : 0 < length more
 
 -- Condition 3: segments that keep their rules, of which none is an SE, can be continued to a transaction that meets every rule
 pub continued : (q : Separators) → Fitted q → (vs : List View) (w : List ℕ) → Viable list842 w → map tagOf w ≡ map tagIn vs
-    → From (Kept nonconformance) [] vs → From (λ h v. T (not (isSE v))) [] vs → T (every (unseparated q) vs) → length vs ≤ 1048576 → Continued q vs w
+    → From (Kept nonconformance) [] vs → From (λ h v. T (not (isSE v))) [] vs → T (every (bare q) vs) → length vs ≤ 1048576 → Continued q vs w
 continued q fit vs w v e k o u few =
     let i = ends-onto q fit vs w v e k o u few in
     record {

@@ -2,7 +2,7 @@
 -- that may be; and the text of ST02.
 -- Assumes nothing.
 use Prim.Native.Nat.{ℕ, suc, _+_, _≤_, _<_}
-use mathlib.Core.Path.{_≡_, refl, sym, ap, subst}
+use mathlib.Core.Path.{_≡_, refl, sym, ap, subst, _∙_}
 use mathlib.Core.Bool.{Bool, true, false, not, _&&_, _||_}
 use mathlib.Core.List.{List, [], _∷_, _++_}
 use native.Mathlib.Omega.{arith}
@@ -12,7 +12,7 @@ use lib.Dec.{T, eqb, eqb→eq, leb, leb→le}
 use lib.ListN.{length, List·getD-eq-default}
 use Rattle.text.specs.Bytes.{Bytes, bytes, between, every, any, same}
 use Rattle.text.specs.Separators.{printable}
-use Rattle.text.specs.View.{Piece, View, empty, present, elementOf}
+use Rattle.text.specs.View.{Piece, View, empty, present, elementOf, inspected}
 use Rattle.text.specs.declared.separators.Separators.{Separators}
 use Rattle.text.proofs.Bools.{both, first-of, second-of, passes, fails}
 use Rattle.text.proofs.Sames.{same-equal, same-self}
@@ -22,7 +22,7 @@ use Rattle.rows.specs.Tags.{tag}
 use Rattle.types.specs.Types.{fits}
 use Rattle.elements.specs.Data.{Rules, value, rulesST, rulesHL}
 use Rattle.elements.specs.Checks.{Keeps}
-use Rattle.elements.specs.Rules.{dataPiece, byteChecks, tooManyChecks, missingChecks, fitsSimple, unfitChecks, noteChecks, checksBy, presentAt}
+use Rattle.elements.specs.Rules.{dataPiece, dataChecks, byteChecks, tooManyChecks, missingChecks, fitsSimple, unfitChecks, noteChecks, checksBy, presentAt}
 use Rattle.types.specs.declared.kind.Kind.the-variants.{AN}
 use Rattle.levels.specs.Profile.{codeOf, mayBeMarked}
 use Rattle.levels.specs.Levels.{textOf, claimOf, Level, called, levelAt, levelOf}
@@ -32,12 +32,12 @@ use Rattle.gate.specs.Segments.{tagIn, isHL, onto, levelsIn}
 use Rattle.gate.specs.Rules.{hlChecks, Kept, From}
 use Rattle.gate.proofs.reading.Laws.{keeps-split, keeps-at}
 use Rattle.gate.proofs.continuing.AddedSegments.{levels, ruling, noSeparator, Text}
-use Rattle.gate.proofs.reading.ElementTexts.{hl-rules, st-rules}
+use Rattle.gate.proofs.reading.ElementTexts.{hl-rules, st-rules, hl-no-bin, st-no-bin, inspected-all}
 use Rattle.levels.proofs.LevelTests.{keeps-passes}
 
--- of a segment that keeps the rule of bytes every element is printable
-element-printed : (v : View) → Keeps (byteChecks v) → (k : ℕ) → T (dataPiece (elementOf v k))
-unfolding byteChecks
+-- of pieces that keep the rule of bytes every one is printable
+element-printed : (v : View) → Keeps (dataChecks v) → (k : ℕ) → T (dataPiece (elementOf v k))
+unfolding dataChecks
 element-printed v b k = go (decLt k (length v))
   where
     go : Dec (k < length v) → T (dataPiece (elementOf v k))
@@ -55,7 +55,7 @@ piece-sized least most ([] ∷ (c ∷ p)) t f = absurd f
 piece-sized least most ((b ∷ s) ∷ (c ∷ p)) t f = absurd f
 
 -- the text of an element that is mandatory text by its segment's rules
-element-text : (q : Separators) (least most : ℕ) (v : View) (k : ℕ) → Keeps (byteChecks v) → T (unseparated q v)
+element-text : (q : Separators) (least most : ℕ) (v : View) (k : ℕ) → Keeps (dataChecks v) → T (unseparated q v)
     → T (present (elementOf v k) && true) → T (not (present (elementOf v k)) || fitsSimple (value AN least most) (elementOf v k))
     → Text q least most (textOf (elementOf v k))
 element-text q least most v k b u t f =
@@ -79,18 +79,25 @@ ruled-parts rules v k =
     let b = keeps-split (many ++ missing) unfit a in
     (keeps-split many missing (b .0) .1, b .1)
 
-module _ (q : Separators) (h : List View) (v : View) (k : Kept nonconformance h v) (u : T (unseparated q v)) where
+module _ (q : Separators) (h : List View) (v : View) (k : Kept nonconformance h v) (u : T (unseparated q (inspected v))) where
+  -- the rule of bytes, of a segment that is no BIN
+  data-kept : inspected v ≡ v → Keeps (dataChecks v)
+  unfolding byteChecks
+  data-kept e = rw e at (k .bytes)
+
   -- HL01 can be written again
   pub hl-text : tagIn v ≡ tag "HL" → Text q 1 12 (textOf (elementOf v 1))
   hl-text e =
       let p = ruled-parts rulesHL v (rw (e, hl-rules) at (k .elements)) in
-      element-text q 1 12 v 1 (k .bytes) u (p .0 .0) (p .1 .0)
+      let all = inspected-all v (λ z. hl-no-bin (sym e ∙ z)) in
+      element-text q 1 12 v 1 (data-kept all) (rw all at u) (p .0 .0) (p .1 .0)
 
   -- and ST02
   pub st-text : tagIn v ≡ tag "ST" → Text q 4 9 (textOf (elementOf v 2))
   st-text e =
       let p = ruled-parts rulesST v (rw (e, st-rules) at (k .elements)) in
-      element-text q 4 9 v 2 (k .bytes) u (p .0 .1 .0) (p .1 .1 .0)
+      let all = inspected-all v (λ z. st-no-bin (sym e ∙ z)) in
+      element-text q 4 9 v 2 (data-kept all) (rw all at u) (p .0 .1 .0) (p .1 .1 .0)
 
 -- an HL makes one level more
 pub levels-hl : (h : List View) (v : View) → isHL v ≡ true
@@ -173,7 +180,7 @@ mark-admitted mark may h t =
     subst (λ (s : Bytes). T (eqb (length s) 0 || same s (bytes "0") || (same s (bytes "1") && may))) (same-equal mark (bytes "1") t) h
 
 -- one segment more that keeps its rules leaves the levels named
-named-more : (q : Separators) (h : List View) (v : View) → Kept nonconformance h v → T (unseparated q v) → (b : Bool) → isHL v ≡ b
+named-more : (q : Separators) (h : List View) (v : View) → Kept nonconformance h v → T (unseparated q (inspected v)) → (b : Bool) → isHL v ≡ b
     → Named q (levels h) → Named q (levels (v ∷ h))
 named-more q h v k u true e n =
     let p = keeps-passes ruling (levels h) (claimOf v) (hl-levels h v k e) in
@@ -187,13 +194,17 @@ named-more q h v k u true e n =
     )
 named-more q h v k u false e n = rw (levels-other h v e) n
 
+-- no separator stands where a view is looked into
+abbrev pub bare : Separators → View → Bool
+bare q v = unseparated q (inspected v)
+
 -- the levels of segments that keep their rules are named
-pub named-onto : (q : Separators) (h vs : List View) → From (Kept nonconformance) h vs → T (every (unseparated q) vs)
+pub named-onto : (q : Separators) (h vs : List View) → From (Kept nonconformance) h vs → T (every (bare q) vs)
     → Named q (levels h) → Named q (levels (onto h vs))
 named-onto q h [] f u n = n
 named-onto q h (v ∷ vs) f u n =
-    named-onto q (v ∷ h) vs (f .1) (second-of (unseparated q v) (every (unseparated q) vs) u)
-    (named-more q h v (f .0) (first-of (unseparated q v) (every (unseparated q) vs) u) (isHL v) refl n)
+    named-onto q (v ∷ h) vs (f .1) (second-of (bare q v) (every (bare q) vs) u)
+    (named-more q h v (f .0) (first-of (bare q v) (every (bare q) vs) u) (isHL v) refl n)
 
 -- level m has a child where it is marked 1
 abbrev pub served : List Level → ℕ → Level → Bool

@@ -18,10 +18,10 @@ use Rattle.text.specs.declared.separators.Separators.{Separators}
 use Rattle.text.proofs.Bools.{both, first-of, second-of}
 use Rattle.text.proofs.Lists.{map-append}
 use Rattle.text.proofs.Tables.{tab, tab-at}
-use Rattle.text.proofs.View.{unseparated, wellFormed, fitted}
+use Rattle.text.proofs.View.{fitted}
 use Rattle.text.proofs.CutLaws.{Faulty, CutLaw, Addable, AllAddable, ended, places, past, leads-front, leads-on}
 use Rattle.text.proofs.DocumentCut.{cut-law, skip-law}
-use Rattle.text.proofs.Writable.{Writable, cut-unseparated, writable-cut, writable-seen}
+use Rattle.text.proofs.Writable.{writes, writes-writable, cut-writable, writable-cut, writable-seen}
 use Rattle.rows.specs.Tags.{tags, tagNumber}
 use Rattle.rows.proofs.TagList.{tag-of-number}
 use Rattle.gate.specs.Answers.{Fault}
@@ -34,6 +34,7 @@ use Rattle.gate.specs.declared.answer.Answer.the-variants.{Refused}
 use Rattle.gate.specs.declared.how.How.{How}
 use Rattle.gate.proofs.reading.Once.{Fails, refused-fails, refused-segment, refused-byte}
 use Rattle.gate.proofs.whole.AllRules.{from-meets}
+use Rattle.gate.proofs.continuing.LevelNames.{bare}
 use Rattle.gate.proofs.continuing.Continuation.{Continued, continued}
 
 -- every tag begins with a capital letter
@@ -82,34 +83,27 @@ module _ (how : How) where
   abbrev q : Separators
   q = how .separators
 
-  leads-unseparated : (at : ℕ) (s : Bytes) (gs : List Placed) (end : ℕ) (rest : Bytes) → Leads (cutBy how) (skipBy how) at s gs end rest
-      → T (every (unseparated q) (seen how gs))
-  leads-unseparated at s [] end rest l = tt
-  leads-unseparated at s (g ∷ gs) end rest l =
-      both (unseparated q (viewOf q (g .segment))) (every (unseparated q) (seen how gs))
-      (cut-unseparated q s (g .segment) (l .0) (l .1))
-      (leads-unseparated (at + length (g .segment) + 1 + skipBy how (l .0)) (drop (skipBy how (l .0)) (l .0)) gs end rest (l .3))
-
   leads-few : (at : ℕ) (s : Bytes) (gs : List Placed) (end : ℕ) (rest : Bytes) → Leads (cutBy how) (skipBy how) at s gs end rest → at + length gs ≤ end
   leads-few at s [] end rest l = omega (arith, l .0)
   leads-few at s (g ∷ gs) end rest l =
       omega (arith, leads-few (at + length (g .segment) + 1 + skipBy how (l .0)) (drop (skipBy how (l .0)) (l .0)) gs end rest (l .3))
 
-  -- views without separators can be written
-  abbrev Writes : View → Bool
-  Writes v = wellFormed v && unseparated q v
-
-  writes-writable : (v : View) → T (Writes v) → Writable q v
-  writes-writable v w = record { formed = first-of (wellFormed v) (unseparated q v) w; bare = second-of (wellFormed v) (unseparated q v) w }
-
   module _ (fit : Fitted q) where
+    leads-bare : (at : ℕ) (s : Bytes) (gs : List Placed) (end : ℕ) (rest : Bytes) → Leads (cutBy how) (skipBy how) at s gs end rest
+        → T (every (bare q) (seen how gs))
+    leads-bare at s [] end rest l = tt
+    leads-bare at s (g ∷ gs) end rest l =
+        both (bare q (viewOf q (g .segment))) (every (bare q) (seen how gs))
+        (cut-writable q fit s (g .segment) (l .0) (l .1) .bare)
+        (leads-bare (at + length (g .segment) + 1 + skipBy how (l .0)) (drop (skipBy how (l .0)) (l .0)) gs end rest (l .3))
+
     abbrev AddableBy : Bytes → Type 0
-    AddableBy g = Addable (q .terminator) (cutBy how) (skipBy how) (cut-law q) (skip-law q) g
+    AddableBy g = Addable (q .terminator) (cutBy how) (skipBy how) (cut-law q fit) (skip-law q) g
 
     abbrev AllAddableBy : List Bytes → Type 0
-    AllAddableBy gs = AllAddable (q .terminator) (cutBy how) (skipBy how) (cut-law q) (skip-law q) gs
+    AllAddableBy gs = AllAddable (q .terminator) (cutBy how) (skipBy how) (cut-law q fit) (skip-law q) gs
 
-    added : (v : View) → T (Writes v) → tagIn v < 34 → AddableBy (written q v)
+    added : (v : View) → T (writes q v) → tagIn v < 34 → AddableBy (written q v)
     added v w h =
         let b = begins-written q v h in
         record {
@@ -117,25 +111,25 @@ module _ (how : How) where
           tail = b .tail;
           is = b .is;
           capital = b .capital;
-          cut-is = writable-cut q fit v (writes-writable v w);
+          cut-is = writable-cut q fit v (writes-writable q v w);
         }
 
-    all-added : (vs : List View) → T (every Writes vs) → T (every (λ (v : View). ltb (tagIn v) 34) vs) → AllAddableBy (map (written q) vs)
+    all-added : (vs : List View) → T (every (writes q) vs) → T (every (λ (v : View). ltb (tagIn v) 34) vs) → AllAddableBy (map (written q) vs)
     all-added [] w h = tt
     all-added (v ∷ vs) w h = (
-      added v (first-of (Writes v) (every Writes vs) w) (ltb→lt (tagIn v) 34 (first-of (ltb (tagIn v) 34) (every (λ (v : View). ltb (tagIn v) 34) vs) h)),
-      all-added vs (second-of (Writes v) (every Writes vs) w) (second-of (ltb (tagIn v) 34) (every (λ (v : View). ltb (tagIn v) 34) vs) h),
+      added v (first-of (writes q v) (every (writes q) vs) w) (ltb→lt (tagIn v) 34 (first-of (ltb (tagIn v) 34) (every (λ (v : View). ltb (tagIn v) 34) vs) h)),
+      all-added vs (second-of (writes q v) (every (writes q) vs) w) (second-of (ltb (tagIn v) 34) (every (λ (v : View). ltb (tagIn v) 34) vs) h),
     )
 
     -- they are seen again where they stand
     abbrev placed : ℕ → List Bytes → List Placed
-    placed at gs = places (q .terminator) (cutBy how) (skipBy how) (cut-law q) (skip-law q) at gs
+    placed at gs = places (q .terminator) (cutBy how) (skipBy how) (cut-law q fit) (skip-law q) at gs
 
-    seen-placed : (at : ℕ) (vs : List View) → T (every Writes vs) → seen how (placed at (map (written q) vs)) ≡ vs
+    seen-placed : (at : ℕ) (vs : List View) → T (every (writes q) vs) → seen how (placed at (map (written q) vs)) ≡ vs
     seen-placed at [] w = refl
     seen-placed at (v ∷ vs) w =
-        let e = writable-seen q fit v (writes-writable v (first-of (Writes v) (every Writes vs) w)) in
-        let i = seen-placed (at + length (written q v) + 1) vs (second-of (Writes v) (every Writes vs) w) in
+        let e = writable-seen q fit v (writes-writable q v (first-of (writes q v) (every (writes q) vs) w)) in
+        let i = seen-placed (at + length (written q v) + 1) vs (second-of (writes q v) (every (writes q) vs) w) in
         λ k. e k ∷ i k
 
     -- the continuation of what was passed, with the first byte of the rest
@@ -143,13 +137,13 @@ module _ (how : How) where
         (short : length s ≤ limit) where
       abbrev Going : List View → Type 0
       Going vs = (front : Bytes) × (s ≡ front ++ b ∷ y) × (end ≡ 0 + length front)
-          × Leads (cutBy how) (skipBy how) 0 (front ++ ended (q .terminator) (cutBy how) (skipBy how) (cut-law q) (skip-law q) (map (written q) vs))
-          (gs ++ placed end (map (written q) vs)) (past (q .terminator) (cutBy how) (skipBy how) (cut-law q) (skip-law q) end (map (written q) vs)) []
+          × Leads (cutBy how) (skipBy how) 0 (front ++ ended (q .terminator) (cutBy how) (skipBy how) (cut-law q fit) (skip-law q) (map (written q) vs))
+          (gs ++ placed end (map (written q) vs)) (past (q .terminator) (cutBy how) (skipBy how) (cut-law q fit) (skip-law q) end (map (written q) vs)) []
 
       going : (vs : List View) → 0 < length vs → AllAddableBy (map (written q) vs) → Going vs
       going [] l a = absurd (omega arith)
       going (v ∷ vs) l a =
-          leads-on (q .terminator) (cutBy how) (skipBy how) (cut-law q) (skip-law q) 0 s gs end b y (p .leads) (written q v) (map (written q) vs) a
+          leads-on (q .terminator) (cutBy how) (skipBy how) (cut-law q fit) (skip-law q) 0 s gs end b y (p .leads) (written q v) (map (written q) vs) a
 
       goes-on : (k : ℕ) → length gs + 1 ≡ k → Continued q (seen how gs) rows → Continues how s k end
       goes-on k n c =
@@ -165,10 +159,10 @@ module _ (how : How) where
             passed = gs;
             number = n;
             leads = rw d (p .leads);
-            more = ended (q .terminator) (cutBy how) (skipBy how) (cut-law q) (skip-law q) (map (written q) (c .more));
+            more = ended (q .terminator) (cutBy how) (skipBy how) (cut-law q fit) (skip-law q) (map (written q) (c .more));
             added = added;
             rows = rows ++ c .rows;
-            end = past (q .terminator) (cutBy how) (skipBy how) (cut-law q) (skip-law q) end (map (written q) (c .more));
+            end = past (q .terminator) (cutBy how) (skipBy how) (cut-law q fit) (skip-law q) end (map (written q) (c .more));
             whole = rw f (g .3);
             meets = rw all (from-meets nonconformance (seen how gs ++ c .more) (rows ++ c .rows) (c .meets));
           }
@@ -176,13 +170,13 @@ module _ (how : How) where
       -- so few segments stand in so few bytes
       end-within : end ≤ length s
       end-within =
-          let f = leads-front (q .terminator) (cutBy how) (skipBy how) (cut-law q) (skip-law q) 0 s gs end b y (p .leads) in
+          let f = leads-front (q .terminator) (cutBy how) (skipBy how) (cut-law q fit) (skip-law q) 0 s gs end b y (p .leads) in
           omega (arith, f .end-is, ap length (f .whole) ∙ length-append (f .front) (b ∷ y))
 
       pub continues : (k : ℕ) → length gs + 1 ≡ k → Continues how s k end
       continues k n =
           goes-on k n
-          (continued q fit (seen how gs) rows (p .viable) (p .tags) (p .kept) (p .ongoing) (leads-unseparated 0 s gs end (b ∷ y) (p .leads))
+          (continued q fit (seen how gs) rows (p .viable) (p .tags) (p .kept) (p .ongoing) (leads-bare 0 s gs end (b ∷ y) (p .leads))
           (rw (length-map gs (λ (g : Placed). viewOf (how .separators) (g .segment))) (omega (arith, leads-few 0 s gs end (b ∷ y) (p .leads), end-within, short))))
 
 -- a fault is found in bytes that there are
@@ -194,9 +188,9 @@ cut-behind : (g : Bytes) (t : ℕ) (m : Bytes) → (b : ℕ) × (y : Bytes) × (
 cut-behind [] t m = (t, m, refl)
 cut-behind (b ∷ g) t m = (b, g ++ t ∷ m, refl)
 
-fault-byte : (how : How) (t : Tables) (s : Bytes) (n k b e : ℕ) (kept : List Placed) (w : List ℕ) → Fault n
+fault-byte : (how : How) → Fitted (how .separators) → (t : Tables) (s : Bytes) (n k b e : ℕ) (kept : List Placed) (w : List ℕ) → Fault n
     → (r : Run nonconformance how t s (Refused n k b e) kept w) → (x : ℕ) × (y : Bytes) × (r .rest ≡ x ∷ y)
-fault-byte how t s n k b e kept w f r = by (refused-fails nonconformance how t (r .gs) (r .rows) (r .end) (r .rest) n k b e kept w (r .ends))
+fault-byte how fit t s n k b e kept w f r = by (refused-fails nonconformance how t (r .gs) (r .rows) (r .end) (r .rest) n k b e kept w (r .ends))
   where
     stopped : (u m : Bytes) → (n ≡ 3) ⊎ Faulty (cutBy how) (r .rest) n e u m → (x : ℕ) × (y : Bytes) × (r .rest ≡ x ∷ y)
     stopped u m (inl z) = absurd (omega (arith, z, f .from))
@@ -205,10 +199,10 @@ fault-byte how t s n k b e kept w f r = by (refused-fails nonconformance how t (
     by : Fails nonconformance how t (r .gs) (r .rows) (r .end) (r .rest) n e → (x : ℕ) × (y : Bytes) × (r .rest ≡ x ∷ y)
     by (inl x) =
         stopped (x .upto) (x .more)
-        (subst (λ (c : Cut). CutLaw (how .separators .terminator) (cutBy how) (r .rest) c) (x .stops) (cut-law (how .separators) (r .rest)))
+        (subst (λ (c : Cut). CutLaw (how .separators .terminator) (cutBy how) (r .rest) c) (x .stops) (cut-law (how .separators) fit (r .rest)))
     by (inr (inl x)) =
         let z : CutLaw (how .separators .terminator) (cutBy how) (r .rest) (Whole (x .segment) (x .more)) =
-        subst (λ (c : Cut). CutLaw (how .separators .terminator) (cutBy how) (r .rest) c) (x .next) (cut-law (how .separators) (r .rest)) in
+        subst (λ (c : Cut). CutLaw (how .separators .terminator) (cutBy how) (r .rest) c) (x .next) (cut-law (how .separators) fit (r .rest)) in
         let i = cut-behind (x .segment) (how .separators .terminator) (x .more) in
         (i .0, i .1, z .0 ∙ i .2)
     by (inr (inr x)) = absurd (omega (arith, x .number-is, f .upto))
@@ -217,7 +211,7 @@ fault-byte how t s n k b e kept w f r = by (refused-fails nonconformance how t (
 pub fault-continues : (how : How) (t : Tables) (s : Bytes) (n k b e : ℕ) (kept : List Placed) (w : List ℕ) → T (fitSeparators (how .separators))
     → length s ≤ limit → Fault n → Run nonconformance how t s (Refused n k b e) kept w → Continues how s k b
 fault-continues how t s n k b e kept w fit short f r =
-    let x = fault-byte how t s n k b e kept w f r in
+    let x = fault-byte how (fitted (how .separators) fit) t s n k b e kept w f r in
     let p : Passed nonconformance how t s (r .gs) (r .rows) (r .end) (x .0 ∷ x .1) = rw (x .2) at (r .passed) in
     subst (λ (place : ℕ). Continues how s k place) (sym (refused-byte nonconformance how t (r .gs) (r .rows) (r .end) (r .rest) n k b e kept w (r .ends)))
     (continues how (fitted (how .separators) fit) t s (r .gs) (r .rows) (r .end) (x .0) (x .1) p short k

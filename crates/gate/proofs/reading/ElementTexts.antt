@@ -1,7 +1,7 @@
 -- What the reader reads off a segment's bytes is what the rules say of its view: the tag, and the text of an element of one component.
 -- Assumes nothing.
 use Prim.Native.Nat.{ℕ, suc, _+_, _≤_, _<_}
-use mathlib.Core.Path.{_≡_, refl, subst, _∙_}
+use mathlib.Core.Path.{_≡_, refl, sym, ap, subst, _∙_}
 use mathlib.Core.Logic.{by-cases}
 use mathlib.Core.Bool.{Bool, true, false, not, cond, _||_}
 use mathlib.Core.List.{List, [], _∷_, _++_}
@@ -9,15 +9,18 @@ use native.Mathlib.Omega.{arith}
 use native.Mathlib.Decide.{decLt}
 use lib.Dec.{T}
 use lib.ListN.{length, getD, List·getD-map}
-use Rattle.text.specs.Bytes.{Bytes, bytes, every, among, same, between}
-use Rattle.text.specs.Separators.{isDigit, isCapital, isSmall, mayServe, Fitted}
+use Rattle.text.specs.Bytes.{Bytes, every, same}
+use Rattle.text.specs.Separators.{isIdByte, mayServe, Fitted}
 use Rattle.text.specs.Pieces.{pieces, joined}
 use Rattle.text.specs.internal.Search.{Free}
-use Rattle.text.specs.View.{Piece, View, viewOf, present, elementOf}
+use Rattle.text.specs.Bin.{isBin}
+use Rattle.text.specs.View.{Piece, View, plainView, viewOf, elementsOf, present, elementOf, namesBin, inspected}
 use Rattle.text.specs.declared.separators.Separators.{Separators}
-use Rattle.text.proofs.Bools.{first-of, second-of}
+use Rattle.text.proofs.Bools.{first-of, second-of, passes, fails}
 use Rattle.text.proofs.Sames.{same-equal}
 use Rattle.text.proofs.Pieces.{joined-pieces, pieces-free}
+use Rattle.text.proofs.BinView.{view-bin, view-plain, elements-bin, elements-plain, names-bin, inspected-other}
+use Rattle.text.proofs.Serving.{id-bytes-free}
 use Rattle.rows.specs.Tags.{tag, tags, placeIn, tagNumber}
 use Rattle.elements.specs.Data.{Value, value, Simple, Rules, rulesHL, rulesSE, rulesST}
 use Rattle.types.specs.declared.kind.Kind.the-variants.{AN, ID, N0}
@@ -29,45 +32,40 @@ use Rattle.gate.specs.Segments.{pieceTag, tagIn}
 use Rattle.gate.proofs.reading.Laws.{keeps-split, keeps-at}
 
 -- an element of a view is the piece of the segment, cut at the component separator
-pub element-piece : (q : Separators) (g : Bytes) (k : ℕ) → elementOf (viewOf q g) k ≡ pieces (q .component) (getD (pieces (q .element) g) k [])
+pub element-piece : (q : Separators) (g : Bytes) (k : ℕ) → elementOf (plainView q g) k ≡ pieces (q .component) (getD (pieces (q .element) g) k [])
 element-piece q g k = List·getD-map (pieces (q .component)) (pieces (q .element) g) k []
 
--- a capital letter or a digit is no separator
-serves-no-id-byte : (c : ℕ) → T (mayServe c) → T (isCapital c || isDigit c) → ⊥
-unfolding mayServe
-serves-no-id-byte c m p = by (isCapital c) (isDigit c) (isSmall c) (among (bytes " .-") c) p (second-of (between 1 126 c) (not (isCapital c || isSmall c || isDigit c || among (bytes " .-") c)) m)
-  where
-    by : (a d s m : Bool) → T (a || d) → T (not (a || s || d || m)) → ⊥
-    by true d s m p n = n
-    by false true true m p n = n
-    by false true false m p n = n
-    by false false s m p n = p
+-- a whole BIN has that tag, so a segment with another is cut at its separators
+module _ (q : Separators) (g : Bytes) where
+  pub bin-tag : isBin (q .element) g ≡ true → tagIn (viewOf q g) ≡ tag "BIN"
+  unfolding tagIn
+  bin-tag h = ap (λ (v : View). pieceTag (elementOf v 0)) (view-bin q g h)
 
--- capitals and digits hold no separator
-id-bytes-free : (c : ℕ) → T (mayServe c) → (s : Bytes) → T (every (λ (b : ℕ). isCapital b || isDigit b) s) → Free c s
-id-bytes-free c m [] t = tt
-id-bytes-free c m (b ∷ s) t =
-    let p = first-of (isCapital b || isDigit b) (every (λ (b : ℕ). isCapital b || isDigit b) s) t in (
-      λ e. serves-no-id-byte c m (subst (λ (x : ℕ). T (isCapital x || isDigit x)) e p),
-      id-bytes-free c m s (second-of (isCapital b || isDigit b) (every (λ (b : ℕ). isCapital b || isDigit b) s) t),
-    )
+  pub other-tag : (tagIn (viewOf q g) ≡ tag "BIN" → ⊥) → isBin (q .element) g ≡ false
+  other-tag n = fails (isBin (q .element) g) (λ t. n (bin-tag (passes (isBin (q .element) g) t)))
+
+-- and every piece of it is looked into
+pub inspected-all : (v : View) → (tagIn v ≡ tag "BIN" → ⊥) → inspected v ≡ v
+unfolding tagIn
+inspected-all v n =
+    inspected-other v (fails (namesBin (elementOf v 0)) (λ t. n (ap pieceTag (names-bin (elementOf v 0) t))))
 
 -- every tag is of capitals and digits
 abbrev allIdBytes : List Bytes → Bool
-allIdBytes l = every (every (λ (b : ℕ). isCapital b || isDigit b)) l
+allIdBytes l = every (every isIdByte) l
 
 checked-id-bytes : T (allIdBytes tags)
 checked-id-bytes = tt
 
 -- bytes that are a tag hold no separator
-place-id-bytes : (ts : List Bytes) (s : Bytes) → T (allIdBytes ts) → placeIn ts s < length ts → T (every (λ (b : ℕ). isCapital b || isDigit b) s)
+place-id-bytes : (ts : List Bytes) (s : Bytes) → T (allIdBytes ts) → placeIn ts s < length ts → T (every isIdByte s)
 place-id-bytes [] s a h = absurd (omega arith)
-place-id-bytes (t ∷ ts) s a h = by (same t s) (same-equal t s) (place-id-bytes ts s (second-of (every (λ (b : ℕ). isCapital b || isDigit b) t) (allIdBytes ts) a)) h
+place-id-bytes (t ∷ ts) s a h = by (same t s) (same-equal t s) (place-id-bytes ts s (second-of (every isIdByte t) (allIdBytes ts) a)) h
   where
-    by : (b : Bool) → (T b → t ≡ s) → (placeIn ts s < length ts → T (every (λ (b : ℕ). isCapital b || isDigit b) s))
-        → cond b 0 (suc (placeIn ts s)) < suc (length ts) → T (every (λ (b : ℕ). isCapital b || isDigit b) s)
+    by : (b : Bool) → (T b → t ≡ s) → (placeIn ts s < length ts → T (every isIdByte s))
+        → cond b 0 (suc (placeIn ts s)) < suc (length ts) → T (every isIdByte s)
     by true e f h =
-        subst (λ (x : Bytes). T (every (λ (b : ℕ). isCapital b || isDigit b) x)) (e tt) (first-of (every (λ (b : ℕ). isCapital b || isDigit b) t) (allIdBytes ts) a)
+        subst (λ (x : Bytes). T (every isIdByte x)) (e tt) (first-of (every isIdByte t) (allIdBytes ts) a)
     by false e f h = f (omega arith)
 
 tag-free : (c : ℕ) → T (mayServe c) → (s : Bytes) → tagNumber s < 34 → Free c s
@@ -102,9 +100,15 @@ piece-tag c m s = by-cases (decLt (tagNumber s) 34) known unknown
     unknown : (tagNumber s < 34 → ⊥) → pieceTag (pieces c s) ≡ tagNumber s
     unknown n = one-piece (pieces c s) (joined-pieces c s) n ∙ omega (arith, tag-most s, n)
 
-pub tag-of-view : (q : Separators) → Fitted q → (g : Bytes) → tagIn (viewOf q g) ≡ tagNumber (getD (pieces (q .element) g) 0 [])
+pub tag-of-view : (q : Separators) → Fitted q → (g : Bytes) → tagIn (viewOf q g) ≡ tagNumber (getD (elementsOf (q .element) g) 0 [])
 unfolding tagIn
-tag-of-view q fit g = rw (element-piece q g 0) (piece-tag (q .component) (fit .component-serves) (getD (pieces (q .element) g) 0 []))
+tag-of-view q fit g = by (isBin (q .element) g) refl
+  where
+    by : (b : Bool) → isBin (q .element) g ≡ b → pieceTag (elementOf (viewOf q g) 0) ≡ tagNumber (getD (elementsOf (q .element) g) 0 [])
+    by true h = rw (view-bin q g h, elements-bin (q .element) g h)
+    by false h =
+        rw (view-plain q g h, elements-plain (q .element) g h, element-piece q g 0)
+        (piece-tag (q .component) (fit .component-serves) (getD (pieces (q .element) g) 0 []))
 
 -- an element that is absent, or fits as one value, has the piece's bytes as its text
 text-of-piece : (c : ℕ) (s : Bytes) (x : Value) → T (not (present (pieces c s)) || fitsSimple x (pieces c s)) → textOf (pieces c s) ≡ s
@@ -128,10 +132,10 @@ ruled-simple rules v x k l h e t =
 
 -- the text of such an element is the piece's bytes
 simple-text : (rules : Rules) (q : Separators) (g : Bytes) (x : Value) (k : ℕ) → 1 ≤ k → k ≤ length (rules .elements) → ruleOf rules k .shape ≡ Simple x
-    → Keeps (checksBy rules (viewOf q g)) → textOf (elementOf (viewOf q g) k) ≡ getD (pieces (q .element) g) k []
-simple-text rules q g x k l h e t =
-    let a = ruled-simple rules (viewOf q g) x k l h e t in
-    rw (element-piece q g k) (text-of-piece (q .component) (getD (pieces (q .element) g) k []) x (rw (element-piece q g k) at a))
+    → isBin (q .element) g ≡ false → Keeps (checksBy rules (viewOf q g)) → textOf (elementOf (viewOf q g) k) ≡ getD (pieces (q .element) g) k []
+simple-text rules q g x k l h e n t =
+    let a = rw (view-plain q g n, element-piece q g k) at (ruled-simple rules (viewOf q g) x k l h e t) in
+    rw (view-plain q g n, element-piece q g k) (text-of-piece (q .component) (getD (pieces (q .element) g) k []) x a)
 
 -- the rules of HL, SE and ST segments
 pub hl-rules : (v : View) → ruledChecks (nonconformance .elements) (tag "HL") v ≡ checksBy rulesHL v
@@ -146,6 +150,19 @@ pub st-rules : (v : View) → ruledChecks (nonconformance .elements) (tag "ST") 
 unfolding ruledChecks tagNumber
 st-rules v = refl
 
+-- none of the three is a BIN
+pub hl-no-bin : tag "HL" ≡ tag "BIN" → ⊥
+unfolding tagNumber
+hl-no-bin e = omega (arith, e)
+
+se-no-bin : tag "SE" ≡ tag "BIN" → ⊥
+unfolding tagNumber
+se-no-bin e = omega (arith, e)
+
+pub st-no-bin : tag "ST" ≡ tag "BIN" → ⊥
+unfolding tagNumber
+st-no-bin e = omega (arith, e)
+
 abbrev Ruled : View → Type 0
 Ruled v = Keeps (ruledChecks (nonconformance .elements) (tagIn v) v)
 
@@ -153,23 +170,32 @@ module _ (q : Separators) (g : Bytes) (ruled : Ruled (viewOf q g)) where
   abbrev pub pieceOf : ℕ → Bytes
   pieceOf k = getD (pieces (q .element) g) k []
 
+  plain-hl : tagIn (viewOf q g) ≡ tag "HL" → isBin (q .element) g ≡ false
+  plain-hl e = other-tag q g (λ z. hl-no-bin (sym e ∙ z))
+
+  plain-se : tagIn (viewOf q g) ≡ tag "SE" → isBin (q .element) g ≡ false
+  plain-se e = other-tag q g (λ z. se-no-bin (sym e ∙ z))
+
+  plain-st : tagIn (viewOf q g) ≡ tag "ST" → isBin (q .element) g ≡ false
+  plain-st e = other-tag q g (λ z. st-no-bin (sym e ∙ z))
+
   -- what an HL says stands in its pieces
   pub hl-claim : tagIn (viewOf q g) ≡ tag "HL" → claimOf (viewOf q g) ≡ record { id = pieceOf 1; parent = pieceOf 2; code = pieceOf 3; mark = pieceOf 4 }
   hl-claim e =
       let k : Keeps (checksBy rulesHL (viewOf q g)) = rw (e, hl-rules) at ruled in
-      let a = simple-text rulesHL q g (value AN 1 12) 1 (omega arith) (omega arith) refl k in
-      let b = simple-text rulesHL q g (value AN 1 12) 2 (omega arith) (omega arith) refl k in
-      let c = simple-text rulesHL q g (value ID 1 2) 3 (omega arith) (omega arith) refl k in
-      let d = simple-text rulesHL q g (value ID 1 1) 4 (omega arith) (omega arith) refl k in
+      let a = simple-text rulesHL q g (value AN 1 12) 1 (omega arith) (omega arith) refl (plain-hl e) k in
+      let b = simple-text rulesHL q g (value AN 1 12) 2 (omega arith) (omega arith) refl (plain-hl e) k in
+      let c = simple-text rulesHL q g (value ID 1 2) 3 (omega arith) (omega arith) refl (plain-hl e) k in
+      let d = simple-text rulesHL q g (value ID 1 1) 4 (omega arith) (omega arith) refl (plain-hl e) k in
       λ i. record { id = a i; parent = b i; code = c i; mark = d i }
 
   -- and what an SE says
   pub se-count : tagIn (viewOf q g) ≡ tag "SE" → textOf (elementOf (viewOf q g) 1) ≡ pieceOf 1
-  se-count e = simple-text rulesSE q g (value N0 1 10) 1 (omega arith) (omega arith) refl (rw (e, se-rules) at ruled)
+  se-count e = simple-text rulesSE q g (value N0 1 10) 1 (omega arith) (omega arith) refl (plain-se e) (rw (e, se-rules) at ruled)
 
   pub se-control : tagIn (viewOf q g) ≡ tag "SE" → textOf (elementOf (viewOf q g) 2) ≡ pieceOf 2
-  se-control e = simple-text rulesSE q g (value AN 4 9) 2 (omega arith) (omega arith) refl (rw (e, se-rules) at ruled)
+  se-control e = simple-text rulesSE q g (value AN 4 9) 2 (omega arith) (omega arith) refl (plain-se e) (rw (e, se-rules) at ruled)
 
   -- the control number of an ST
   pub st-control : tagIn (viewOf q g) ≡ tag "ST" → textOf (elementOf (viewOf q g) 2) ≡ pieceOf 2
-  st-control e = simple-text rulesST q g (value AN 4 9) 2 (omega arith) (omega arith) refl (rw (e, st-rules) at ruled)
+  st-control e = simple-text rulesST q g (value AN 4 9) 2 (omega arith) (omega arith) refl (plain-st e) (rw (e, st-rules) at ruled)

@@ -9,14 +9,13 @@ use native.Mathlib.Omega.{arith}
 use lib.Dec.{leb, eqb}
 use lib.ListN.{length}
 use Rattle.text.specs.Bytes.{Bytes, bytes, same}
-use Rattle.text.specs.View.{View, viewOf, present, elementOf, elementCount}
+use Rattle.text.specs.View.{View, viewOf, present, elementOf, elementCount, inspected}
 use Rattle.text.specs.Separators.{fitSeparators}
 use Rattle.text.specs.Cut.{Cut, Stop}
-use Rattle.text.proofs.CutLaws.{Faulty, CutLaw}
-use Rattle.text.proofs.DocumentCut.{cut-law}
+use Rattle.text.proofs.DocumentCut.{Splits, cut-splits}
 use Rattle.elements.specs.Data.{Note, Rules}
 use Rattle.elements.specs.Checks.{Check, each}
-use Rattle.elements.specs.Rules.{dataPiece, byteChecks, endsWell, endChecks, ruleOf, fewComponents, tooManyChecks, headed, missingChecks, fitsShape, unfitChecks, noteChecks, checksBy, checksAmong, ruledChecks, presentAt}
+use Rattle.elements.specs.Rules.{dataPiece, dataChecks, byteChecks, endsWell, endChecks, ruleOf, fewComponents, tooManyChecks, headed, missingChecks, fitsShape, unfitChecks, noteChecks, checksBy, checksAmong, ruledChecks, presentAt}
 use Rattle.levels.specs.Levels.{claimOf, Level, levelAt, parentOf}
 use Rattle.levels.specs.Rules.{levelChecks, absent, rootChecks, childChecks}
 use Rattle.gate.specs.Profile.{Profile, nonconformance}
@@ -78,10 +77,10 @@ among-numbered (x ∷ xs) tag v = by (eqb (x .0) tag) (among-numbered xs tag v)
 
 module _ (profile : Profile) (w : List ℕ) (h : List View) (v : View) where
   early-numbered : Faults (early v)
-  unfolding byteChecks tagChecks endChecks
+  unfolding byteChecks dataChecks tagChecks endChecks
   early-numbered =
       both (byteChecks v ++ tagChecks v) (endChecks v)
-      (both (byteChecks v) (tagChecks v) (all 5 0 (length v) (λ (k : ℕ). dataPiece (elementOf v k)) (fault 5 (omega arith) (omega arith))) (fault 4 (omega arith) (omega arith), tt))
+      (both (byteChecks v) (tagChecks v) (all 5 0 (length (inspected v)) (λ (k : ℕ). dataPiece (elementOf (inspected v) k)) (fault 5 (omega arith) (omega arith))) (fault 4 (omega arith) (omega arith), tt))
       (fault 6 (omega arith) (omega arith), all 6 1 (elementCount v) (endsWell v) (fault 6 (omega arith) (omega arith)))
 
   -- 14 and 15 of a level
@@ -134,11 +133,7 @@ module _ (profile : Profile) (w : List ℕ) (h : List View) (v : View) where
 
 -- a cut that finds no segment stops with 3, or blames a fault
 stop-listed : (how : How) (rest upto more : Bytes) (n e : ℕ) → cutBy how rest ≡ Stop n e upto more → (3 ≤ n) × (n ≤ 16)
-stop-listed how rest upto more n e q = by (subst (λ (c : Cut). CutLaw (how .separators .terminator) (cutBy how) rest c) q (cut-law (how .separators) rest))
-  where
-    by : (n ≡ 3) ⊎ Faulty (cutBy how) rest n e upto more → (3 ≤ n) × (n ≤ 16)
-    by (inl x) = (omega arith, omega arith)
-    by (inr x) = (omega (arith, x .from-4), x .to-16)
+stop-listed how rest upto more n e q = subst (λ (c : Cut). Splits (how .separators) rest c) q (cut-splits (how .separators) rest)
 
 read-listed : (how : How) (s : Bytes) (before : Tables) (r : Answer) (after : Tables) → Read nonconformance how s before r after → Listed r
 read-listed how s before (Accepted a l b) after x = tt

@@ -15,7 +15,7 @@ use Rattle.text.specs.Cut.{Cut, Whole, Stop, Placed}
 use Rattle.text.proofs.Bools.{both, first-of, second-of}
 use Rattle.text.proofs.Lists.{map-append}
 use Rattle.text.proofs.CutLaws.{CutLaw}
-use Rattle.text.proofs.DocumentCut.{cut-law}
+use Rattle.text.proofs.DocumentCut.{Splits, cut-splits}
 use Rattle.rows.specs.Rows.{Viable, list842}
 use Rattle.rows.specs.Following.{Fits, OneFits, lastOf, twice}
 use Rattle.rows.proofs.Viability.{viable-nil}
@@ -234,10 +234,10 @@ module _ (profile : Profile) (how : How) (t : Tables) (s : Bytes) where
       let vw = viewOf (how .separators) g in
       let hs = onto [] (seen how gs) in
       let gm = gs ++ (record { at = end; segment = g } ∷ []) in
-      let k : CutLaw (how .separators .terminator) (cutBy how) rest (Whole g more) =
-      subst (λ (c : Cut). CutLaw (how .separators .terminator) (cutBy how) rest c) next (cut-law (how .separators) rest) in
+      let k : rest ≡ g ++ how .separators .terminator ∷ more =
+      subst (λ (c : Cut). Splits (how .separators) rest c) next (cut-splits (how .separators) rest) in
       let shorter : length (drop (skipBy how more) more) < fuel =
-      rw length-drop (omega (arith, ap length (k .0) ∙ length-append g (how .separators .terminator ∷ more))) in
+      rw length-drop (omega (arith, ap length k ∙ length-append g (how .separators .terminator ∷ more))) in
       chosen gs w end rest g more p next (says profile w hs vw) (hasRoom profile (segmentRoom t) (levelRoom t) (vw ∷ hs)) (isSE vw) _ (says-right profile w vw hs (p .viable)) refl refl
       (λ r e q.
       goes gm (w ++ (rowSaid (says profile w hs vw) ∷ [])) (vw ∷ hs) (end + length g + 1 + skipBy how more) (drop (skipBy how more) more)
