@@ -33,7 +33,7 @@ pub(crate) fn find_near(
 ) -> usize
     ensures { λ r. ⌜ r ≡ near (now (id .entry)) (tableLevels (now (s .entry)) separator (now (segments .entry)) (now (levels .entry)) count) ⌝ }
 {
-    let first = lookup::element_span(id, separator, 0);
+    let first = lookup::piece_span(id, separator, 0);
     if first.len < id.len() {
         return 0;
     }

@@ -76,7 +76,7 @@ pub(crate) fn find_level(
 ) -> usize
     ensures { λ r. ⌜ r ≡ called (now (id .entry)) (tableLevels (now (s .entry)) separator (now (segments .entry)) (now (levels .entry)) count) ⌝ }
 {
-    let first = lookup::element_span(id, separator, 0);
+    let first = lookup::piece_span(id, separator, 0);
     if first.len < id.len() {
         return 0;
     }

@@ -8,3 +8,4 @@ pub mod Ends
 pub mod Walk
 pub mod Exits
 pub mod Facts
+pub mod BinCuts

@@ -1,21 +1,28 @@
 // The next segment: where it ends, where its elements start, and what its bytes alone tell of it. The bytes are looked at once, 64 at a
-// time: the places of the separators, and of bytes that are no data, go into a lent queue, and a segment visits only those places.
+// time: the places of the separators, and of bytes that are no data, go into a lent queue, and a segment visits only those places. A BIN is not
+// searched for its terminator: its count says where that is due.
 ghost use mathlib.Core.Path.{_≡_};
 ghost use Prim.Native.Nat.{_+_, _≤_, _<_};
-ghost use lib.ListN.{length, set};
+ghost use lib.Dec.{T};
+ghost use lib.ListN.{length, drop, set};
 ghost use Rattle.reading.specs.internal.SpecialBytes.{isSpecialIn, SpecialTable, Fills};
 ghost use Rattle.reading.specs.internal.Queue.{bit, Indexed, Window, Ready};
-ghost use Rattle.reading.specs.internal.Cutting.{layoutOf, Cuts, Stops};
+ghost use Rattle.reading.specs.internal.Cutting.{layoutOf, Stops, CutsPlainly, CutsCounted, CutsBin, Cuts};
 ghost use Rattle.text.specs.Separators.{Fitted};
+ghost use Rattle.text.specs.Bin.{beginsBin};
 use elements::layout::Layout;
+use text::bin;
+use text::bin::Counted;
 use text::separators::Separators;
 
 // What the bytes hold next.
 pub(crate) enum Next {
-    // No terminator.
+    // No segment: the bytes end before its terminator.
     Open,
     // A terminator at this place, and before it a byte that is neither data nor separator.
     Bad(usize),
+    // A BIN that is broken: the element that is at fault.
+    Broken(usize),
     // A segment, by its layout, and what is left of the queue behind it.
     Segment(Layout, Left),
 }
@@ -152,10 +159,10 @@ fn layout_of(
     }
 }
 
-// The next segment from `at` on. `start` is where the last element so far starts, and `behind` the place behind the last component
+// The next segment from `at` on, up to its terminator. `start` is where the last element so far starts, and `behind` the place behind the last component
 // separator, or `at`. An element ends badly where its end is that place; the tag, element 0, may. The inner loop uses the
 // queue up, the outer one fills it anew.
-pub(crate) fn next_segment(
+fn next_plain(
     s: &[u8],
     specials: &[bool; 256],
     separators: Separators,
@@ -168,7 +175,7 @@ pub(crate) fn next_segment(
     requires { ⌜ Fitted separators ⌝ }
     requires { ⌜ Ready (now specials) (now s) at (now queue) (left .head) (left .tail) (left .seen) ⌝ }
     requires { ⌜ length (now starts) ≡ 33 ⌝ }
-    ensures { λ r. ⌜ Cuts separators (now (specials .entry)) (now (s .entry)) at (now (queue .exit)) (now (starts .exit)) r ⌝ }
+    ensures { λ r. ⌜ CutsPlainly separators (now (specials .entry)) (now (s .entry)) at (now (queue .exit)) (now (starts .exit)) r ⌝ }
 {
     let mut head = left.head;
     let mut tail = left.tail;
@@ -207,4 +214,84 @@ pub(crate) fn next_segment(
         head = 0;
         seen = to;
     }
+}
+
+// The BIN from `at` on whose BIN02 of so many bytes starts at `attached`. None of them is looked at; the index goes on behind them.
+fn next_counted(
+    s: &[u8],
+    terminator: u8,
+    at: usize,
+    number: usize,
+    attached: usize,
+    starts: &mut [usize; 33],
+) -> Next
+    requires { ⌜ length (now starts) ≡ 33 ⌝ }
+    requires { ⌜ at + 6 ≤ attached ⌝ }
+    requires { ⌜ attached ≤ length (now s) ⌝ }
+    ensures { λ r. ⌜ CutsCounted (now (s .entry)) terminator at number attached (now (starts .entry)) (now (starts .exit)) r ⌝ }
+{
+    if s.len() - attached <= number {
+        return Next::Open;
+    }
+    let end = attached + number;
+    if s[end] != terminator {
+        return Next::Broken(2);
+    }
+    starts[0] = at;
+    starts[1] = at + 4;
+    starts[2] = attached;
+    let layout = Layout {
+        at,
+        end,
+        count: 2,
+        single: false,
+        ended: true,
+    };
+    let seen = end + 1;
+    Next::Segment(
+        layout,
+        Left {
+            head: 0,
+            tail: 0,
+            seen,
+        },
+    )
+}
+
+// The next segment from `at` on, where it begins with `BIN` and the element separator: its count, and one jump over what it counts.
+fn next_bin(s: &[u8], separators: Separators, at: usize, starts: &mut [usize; 33]) -> Next
+    requires { ⌜ Fitted separators ⌝ }
+    requires { ⌜ T (beginsBin (separators .element) (drop at (now s))) ⌝ }
+    requires { ⌜ length (now starts) ≡ 33 ⌝ }
+    ensures { λ r. ⌜ CutsBin separators (now (s .entry)) at (now (starts .exit)) r ⌝ }
+{
+    match bin::count(s, at + 4, separators.element) {
+        Counted::Told(number, end) => {
+            next_counted(s, separators.terminator, at, number, end + 1, starts)
+        }
+        Counted::Open => Next::Open,
+        Counted::Broken => Next::Broken(1),
+    }
+}
+
+// The next segment from `at` on.
+pub(crate) fn next_segment(
+    s: &[u8],
+    specials: &[bool; 256],
+    separators: Separators,
+    at: usize,
+    left: Left,
+    queue: &mut [usize; 72],
+    starts: &mut [usize; 33],
+) -> Next
+    requires { ⌜ SpecialTable separators (now specials) ⌝ }
+    requires { ⌜ Fitted separators ⌝ }
+    requires { ⌜ Ready (now specials) (now s) at (now queue) (left .head) (left .tail) (left .seen) ⌝ }
+    requires { ⌜ length (now starts) ≡ 33 ⌝ }
+    ensures { λ r. ⌜ Cuts separators (now (specials .entry)) (now (s .entry)) at (now (queue .exit)) (now (starts .exit)) r ⌝ }
+{
+    if bin::begins(s, at, separators.element) {
+        return next_bin(s, separators, at, starts);
+    }
+    next_plain(s, specials, separators, at, left, queue, starts)
 }

@@ -1,6 +1,6 @@
 // Judging the next segment by the rules, in order.
 ghost use mathlib.Core.Path.{_≡_};
-ghost use Rattle.text.specs.View.{viewOf};
+ghost use Rattle.text.specs.View.{plainView};
 ghost use Rattle.rows.specs.Tags.{tagNumber};
 ghost use Rattle.rows.specs.NextTable.{NextTable};
 ghost use Rattle.elements.specs.Checks.{firstBroken};
@@ -134,7 +134,7 @@ fn judge_se(
 // Rule 6 broken, where the pass found it so: the answer with its element.
 fn bad_end(s: &[u8], how: How, layout: Layout) -> Judgement
     requires { ⌜ Inside (now s) layout ⌝ }
-    ensures { λ r. ⌜ r ≡ brokenBy (firstBroken (endChecks (viewOf (how .separators) (segmentOf (now (s .entry)) layout)))) ⌝ }
+    ensures { λ r. ⌜ r ≡ brokenBy (firstBroken (endChecks (plainView (how .separators) (segmentOf (now (s .entry)) layout)))) ⌝ }
 {
     let at = layout.at;
     let end = layout.end;

@@ -2,11 +2,11 @@
 ghost use mathlib.Core.Path.{_≡_};
 ghost use Prim.Native.Nat.{_+_, _≤_};
 ghost use lib.ListN.{length};
-ghost use Rattle.text.specs.View.{viewOf};
+ghost use Rattle.text.specs.View.{plainView};
 ghost use Rattle.text.specs.Separators.{Fitted};
 ghost use Rattle.rows.specs.NextTable.{NextTable};
 ghost use Rattle.elements.specs.Checks.{firstBroken};
-ghost use Rattle.elements.specs.Rules.{byteChecks};
+ghost use Rattle.elements.specs.Rules.{dataChecks};
 ghost use Rattle.reading.specs.internal.SpecialBytes.{SpecialTable};
 ghost use Rattle.gate.specs.Profile.{nonconformance};
 ghost use Rattle.gate.specs.declared.answer.Answer.the-variants.{Refused};
@@ -30,16 +30,16 @@ use rows::list::ENTRIES;
 // The longest input.
 pub const LIMIT: usize = 1048576;
 
-// A refusal that names no element, behind `count` segments.
-fn refused(number: usize, count: usize, at: usize) -> Answer
+// A refusal behind `count` segments.
+fn refused(number: usize, count: usize, at: usize, element: usize) -> Answer
     requires { ⌜ count ≤ 9000000000000000000 ⌝ }
-    ensures { λ r. ⌜ r ≡ Refused number (count + 1) at 0 ⌝ }
+    ensures { λ r. ⌜ r ≡ Refused number (count + 1) at element ⌝ }
 {
     Answer::Refused {
         number,
         segment: count + 1,
         byte: at,
-        element: 0,
+        element,
     }
 }
 
@@ -48,16 +48,11 @@ fn bad_bytes(s: &[u8], how: How, at: usize, end: usize, count: usize) -> Answer
     requires { ⌜ at ≤ end ⌝ }
     requires { ⌜ end ≤ length (now s) ⌝ }
     requires { ⌜ count ≤ 9000000000000000000 ⌝ }
-    ensures { λ r. ⌜ r ≡ refusedBy (firstBroken (byteChecks (viewOf (how .separators) (cutOut (now (s .entry)) at end)))) count at ⌝ }
+    ensures { λ r. ⌜ r ≡ refusedBy (firstBroken (dataChecks (plainView (how .separators) (cutOut (now (s .entry)) at end)))) count at ⌝ }
 {
     match segment::byte_verdict(&s[at..end], how.separators) {
-        Verdict::Broken(number, element) => Answer::Refused {
-            number,
-            segment: count + 1,
-            byte: at,
-            element,
-        },
-        Verdict::Holds => refused(5, count, at),
+        Verdict::Broken(number, element) => refused(number, count, at, element),
+        Verdict::Holds => refused(5, count, at, 0),
     }
 }
 
@@ -92,8 +87,9 @@ fn read_on(
             &mut queue,
             &mut starts,
         ) {
-            Next::Open => return refused(3, state.count, at),
+            Next::Open => return refused(3, state.count, at, 0),
             Next::Bad(end) => return bad_bytes(s, how, at, end, state.count),
+            Next::Broken(element) => return refused(10, state.count, at, element),
             Next::Segment(layout, behind) => {
                 let judgement = judging::judge(
                     s,

@@ -1,4 +1,5 @@
--- The layout of a segment in the bytes describes the segment's own view, up to element 31, and so the same verdict.
+-- The layout of a segment in the bytes describes the segment's own elements, up to element 31, and, where it is no BIN, its view and so the same
+-- verdict.
 -- Assumes nothing.
 use Prim.Native.Nat.{ℕ, zero, suc, _+_, _-_, _≤_, _<_}
 use mathlib.Core.Path.{_≡_, refl, sym, ap, ap₂, _∙_}
@@ -14,13 +15,15 @@ use lib.Seq.{take-all, take-suc, take-append-le, drop-append-le, drop-drop}
 use borrow.Author.Tests.{lt-ltb, le-ltb, lt-leb, le-leb}
 use Rattle.text.specs.Bytes.{Bytes}
 use Rattle.text.specs.Pieces.{pieces, joined, closed}
-use Rattle.text.proofs.Pieces.{Clean, pieces-some, joined-pieces, pieces-free, closed-snoc}
+use Rattle.text.proofs.Pieces.{Clean, pieces-free, closed-snoc}
 use Rattle.text.specs.internal.Search.{Free}
-use Rattle.text.specs.View.{View, viewOf, elementOf, elementCount}
-use Rattle.text.specs.Lookup.{pieceSpan}
+use Rattle.text.specs.Bin.{isBin}
+use Rattle.text.specs.View.{View, viewOf, elementsOf, elementOf, elementCount}
+use Rattle.text.specs.Lookup.{span, spanAmong, elementSpan}
 use Rattle.text.specs.declared.separators.Separators.{Separators}
 use Rattle.text.specs.declared.lookup.Span.{Span}
-use Rattle.text.proofs.Spans.{lies, span-there}
+use Rattle.text.proofs.BinView.{view-plain, elements-plain}
+use Rattle.text.proofs.BinSpans.{elements-joined, lies-element}
 use Rattle.text.proofs.View.{free-pieces}
 use Rattle.elements.specs.Checks.{firstBroken}
 use Rattle.elements.specs.Data.{nonconformance}
@@ -42,20 +45,26 @@ closed-joined sep (p ∷ []) l = simp length-append (omega arith)
 closed-joined sep (p ∷ (q ∷ ps)) l =
     omega (arith, length-append p (sep ∷ closed sep (q ∷ ps)), length-append p (sep ∷ joined sep (q ∷ ps)), closed-joined sep (q ∷ ps) (omega arith))
 
-module _ (sep : ℕ) (s : Bytes) (n : ℕ) (h : n < length (pieces sep s)) where
-  -- the next piece starts behind the separator; the last ends at the end
-  next-start : suc n < length (pieces sep s) → pieceSpan sep s (suc n) .start ≡ pieceSpan sep s n .start + pieceSpan sep s n .len + 1
-  next-start u = rw (span-there sep s n h, span-there sep s (suc n) u) (start-more sep (pieces sep s) n h)
+module _ (sep : ℕ) (ps : List Bytes) (end n : ℕ) (h : n < length ps) where
+  abbrev spanOf : ℕ → Span
+  spanOf k = spanAmong sep ps end k
 
-  last-end : suc n ≡ length (pieces sep s) → pieceSpan sep s n .start + pieceSpan sep s n .len ≡ length s
-  last-end e =
-      rw (span-there sep s n h)
+  span-there : (k : ℕ) → k < length ps → spanOf k ≡ span (length (closed sep (take k ps))) (length (getD ps k []))
+  span-there k l = rw (lt-ltb k (length ps) l)
+
+  -- the next piece starts behind the separator; the last ends at the end
+  next-start : suc n < length ps → spanOf (suc n) .start ≡ spanOf n .start + spanOf n .len + 1
+  next-start u = rw (span-there n h, span-there (suc n) u) (start-more sep ps n h)
+
+  last-end : suc n ≡ length ps → length (joined sep ps) ≡ end → spanOf n .start + spanOf n .len ≡ end
+  last-end e w =
+      rw (span-there n h)
       (omega (
         arith,
-        start-more sep (pieces sep s) n h,
-        ap (λ (ps : List Bytes). length (closed sep ps)) (take-all (suc n) (pieces sep s) (omega arith)),
-        closed-joined sep (pieces sep s) (pieces-some sep s),
-        ap length (joined-pieces sep s),
+        start-more sep ps n h,
+        ap (λ (ps : List Bytes). length (closed sep ps)) (take-all (suc n) ps (omega arith)),
+        closed-joined sep ps (omega arith),
+        w,
       ))
 
 -- a part of a part
@@ -80,13 +89,13 @@ pub record LaidOut (q : Separators) (s segment : Bytes) (starts : List ℕ) (lay
   pub here : take (length segment) (drop (layout .at) s) ≡ segment
   pub ends : layout .end ≡ layout .at + length segment
   pub inside : layout .end ≤ length s
-  pub counted : suc (layout .count) ≡ length (pieces (q .element) segment)
-  pub started : (k : ℕ) → k ≤ layout .count → k ≤ 32 → getD starts k 0 ≡ layout .at + pieceSpan (q .element) segment k .start
+  pub counted : suc (layout .count) ≡ length (elementsOf (q .element) segment)
+  pub started : (k : ℕ) → k ≤ layout .count → k ≤ 32 → getD starts k 0 ≡ layout .at + elementSpan (q .element) segment k .start
   pub singly : layout .single ≡ true → Free (q .component) segment
 
 module _ {q : Separators} {s segment : Bytes} {starts : List ℕ} {layout : Layout} (laid : LaidOut q s segment starts layout) where
   abbrev ps : List Bytes
-  ps = pieces (q .element) segment
+  ps = elementsOf (q .element) segment
 
   abbrev view : View
   view = layoutView s starts layout (q .component)
@@ -97,22 +106,26 @@ module _ {q : Separators} {s segment : Bytes} {starts : List ℕ} {layout : Layo
     there = omega (arith, laid .counted)
 
     abbrev place : Span
-    place = pieceSpan (q .element) segment k
+    place = elementSpan (q .element) segment k
+
+    whole : length (joined (q .element) ps) ≡ length segment
+    whole = ap length (elements-joined (q .element) segment)
 
     stop : cond (ltb k (layout .count)) (getD starts (suc k) 0 - 1) (layout .end) ≡ layout .at + place .start + place .len
+    unfolding elementSpan
     stop =
         by-cases (decLt k (layout .count))
         (λ l.
         rw (lt-ltb k (layout .count) l)
         (omega
-        (arith, laid .started (suc k) l (omega arith), next-start (q .element) segment k there (omega (arith, laid .counted)))))
+        (arith, laid .started (suc k) l (omega arith), next-start (q .element) ps (length segment) k there (omega (arith, laid .counted)))))
         (λ l.
         rw (le-ltb k (layout .count) (omega arith))
-        (omega (arith, laid .ends, last-end (q .element) segment k there (omega (arith, laid .counted)))))
+        (omega (arith, laid .ends, last-end (q .element) ps (length segment) k there (omega (arith, laid .counted)) whole)))
 
     own-piece : pieceIn s starts layout k ≡ getD ps k []
     own-piece =
-        let lie = lies (q .element) segment k in
+        let lie = lies-element (q .element) segment k in
         let from = layout .at + place .start in
         let to = from + place .len in
         ap₂ (partBetween s) (laid .started k low (omega arith)) stop
@@ -121,43 +134,50 @@ module _ {q : Separators} {s segment : Bytes} {starts : List ℕ} {layout : Layo
         ∙ part-of-part s (layout .at) segment (place .start) (place .len) (laid .here) (lie .inside)
         ∙ lie .holds
 
-    own-pieces : componentsBy (layout .single) (q .component) (getD ps k []) ≡ pieces (q .component) (getD ps k [])
-    own-pieces = by-single (layout .single) (laid .singly)
-      where
-        by-single : (t : Bool) → (t ≡ true → Free (q .component) segment)
-            → componentsBy t (q .component) (getD ps k []) ≡ pieces (q .component) (getD ps k [])
-        by-single true f =
-            sym
-            (pieces-free (q .component) (getD ps k []) (clean-at (q .component) ps k (free-pieces (q .element) (q .component) segment (f refl))))
-        by-single false f = refl
-
-  own-element : (k : ℕ) → elementOf (viewOf q segment) k ≡ pieces (q .component) (getD ps k [])
-  own-element k = List·getD-map (pieces (q .component)) ps k []
-
-  -- the elements agree up to 31, and their numbers do
-  pub view-own : (k : ℕ) → k ≤ 31 → elementOf view k ≡ elementOf (viewOf q segment) k
-  view-own k high =
-      by-cases (decLt (layout .count) k)
-      (λ l.
-      view-at s starts layout (q .component) k ∙ at-past s starts layout (q .component) k l
-      ∙ sym (own-element k ∙ ap (pieces (q .component)) (List·getD-eq-default ps [] {n = k} (omega (arith, laid .counted)))))
-      (λ l.
-      let low : k ≤ (layout .count) = omega arith in
-      view-element s starts layout (q .component) k low ∙ ap (componentsBy (layout .single) (q .component)) (own-piece k low high)
-      ∙ own-pieces k low high ∙ sym (own-element k))
-
-  pub count-own : elementCount view ≡ elementCount (viewOf q segment)
-  count-own =
-      view-count s starts layout (q .component) ∙ omega (arith, laid .counted, length-map ps (pieces (q .component)))
-
-  -- so the verdict by the layout is that over the segment
-  pub ruled-own : (tag : ℕ) → firstBroken (ruledChecks nonconformance tag view) ≡ firstBroken (ruledChecks nonconformance tag (viewOf q segment))
-  ruled-own tag = ruled-agree view (viewOf q segment) count-own view-own tag
-
-  -- and the bytes of an element by the layout are the segment's piece
+  -- the bytes of an element by the layout are the segment's own
   pub text-own : (k : ℕ) → k ≤ 31 → elementIn s starts layout k ≡ getD ps k []
   unfolding elementIn
   text-own k high =
       by-cases (decLt (layout .count) k)
       (λ l. rw (lt-leb k (layout .count) l) (sym (List·getD-eq-default ps [] {n = k} (omega (arith, laid .counted)))))
       (λ l. let low : k ≤ (layout .count) = omega arith in rw (le-leb k (layout .count) low) (own-piece k low high))
+
+  -- where it is no BIN, its components are too
+  module _ (plain : isBin (q .element) segment ≡ false) where
+    pieces-are : ps ≡ pieces (q .element) segment
+    pieces-are = elements-plain (q .element) segment plain
+
+    own-pieces : (k : ℕ) → componentsBy (layout .single) (q .component) (getD ps k []) ≡ pieces (q .component) (getD ps k [])
+    own-pieces k = by-single (layout .single) (laid .singly)
+      where
+        by-single : (t : Bool) → (t ≡ true → Free (q .component) segment)
+            → componentsBy t (q .component) (getD ps k []) ≡ pieces (q .component) (getD ps k [])
+        by-single true f =
+            sym
+            (pieces-free (q .component) (getD ps k [])
+            (clean-at (q .component) ps k (rw pieces-are (free-pieces (q .element) (q .component) segment (f refl)))))
+        by-single false f = refl
+
+    own-element : (k : ℕ) → elementOf (viewOf q segment) k ≡ pieces (q .component) (getD ps k [])
+    own-element k = rw (view-plain q segment plain, pieces-are) (List·getD-map (pieces (q .component)) (pieces (q .element) segment) k [])
+
+    -- the elements agree up to 31, and their numbers do
+    pub view-own : (k : ℕ) → k ≤ 31 → elementOf view k ≡ elementOf (viewOf q segment) k
+    view-own k high =
+        by-cases (decLt (layout .count) k)
+        (λ l.
+        view-at s starts layout (q .component) k ∙ at-past s starts layout (q .component) k l
+        ∙ sym (own-element k ∙ ap (pieces (q .component)) (List·getD-eq-default ps [] {n = k} (omega (arith, laid .counted)))))
+        (λ l.
+        let low : k ≤ (layout .count) = omega arith in
+        view-element s starts layout (q .component) k low ∙ ap (componentsBy (layout .single) (q .component)) (own-piece k low high)
+        ∙ own-pieces k ∙ sym (own-element k))
+
+    pub count-own : elementCount view ≡ elementCount (viewOf q segment)
+    count-own =
+        view-count s starts layout (q .component)
+        ∙ rw (view-plain q segment plain) (omega (arith, laid .counted, ap length pieces-are, length-map (pieces (q .element) segment) (pieces (q .component))))
+
+    -- so the verdict by the layout is that over the segment
+    pub ruled-own : (tag : ℕ) → firstBroken (ruledChecks nonconformance tag view) ≡ firstBroken (ruledChecks nonconformance tag (viewOf q segment))
+    ruled-own tag = ruled-agree view (viewOf q segment) count-own view-own tag

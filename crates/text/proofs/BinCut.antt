@@ -163,6 +163,16 @@ module _ (q : Separators) where
         (by-count (drop 4 s) (cutCounted q 0 0 (drop 4 s)) refl (counted-tells q fit 0 0 (drop 4 s) tt)
         (rw (cut-marked q (drop 4 s)) at (cut-law q fit (binMark (q .element) ++ drop 4 s)))))
 
+    pub plainly : (g m : Bytes) → beginsBin (q .element) (g ++ q .terminator ∷ m) ≡ false → Free (q .terminator) g → Plainly g
+    plainly g m h f =
+        let begins : (x : Bytes) → beginsBin (q .element) (g ++ q .terminator ∷ x) ≡ false = λ x. plain-before q fit g m x h in
+        record {
+          free = f;
+          begins = begins;
+          no-bin = fails (isBin (q .element) g)
+              (λ b. subst (λ (b : Bool). T b) (sym (bin-begins (q .element) g (q .terminator ∷ []) b) ∙ begins []) tt);
+        }
+
     -- what is cut off is a whole BIN or such a segment
     pub cut-gives : (s g m : Bytes) → cutOf q s ≡ Whole g m → T (isBin (q .element) g) ⊎ Plainly g
     cut-gives s g m e = by (beginsBin (q .element) s) refl
@@ -171,12 +181,4 @@ module _ (q : Separators) where
         by true h = inl ((subst (λ (c : Cut). CutOfBin q s c) e (cut-of-bin s (rw h tt))) .0)
         by false h =
             let w : Says q s (Whole g m) = subst (λ (c : Cut). Says q s c) (sym (cut-plainly q s h) ∙ e) (cut-says q s) in
-            let begins : (x : Bytes) → beginsBin (q .element) (g ++ q .terminator ∷ x) ≡ false =
-            λ x. plain-before q fit g m x (ap (beginsBin (q .element)) (sym (w .0)) ∙ h) in
-            inr
-            (record {
-              free = w .1;
-              begins = begins;
-              no-bin = fails (isBin (q .element) g)
-                  (λ b. subst (λ (b : Bool). T b) (sym (bin-begins (q .element) g (q .terminator ∷ []) b) ∙ begins []) tt);
-            })
+            inr (plainly g m (ap (beginsBin (q .element)) (sym (w .0)) ∙ h) (w .1))

@@ -122,8 +122,16 @@ module _ (e : ℕ) (s : Bytes) (at : ℕ) (l : at + 4 ≤ length s) where
       let b : at + 2 ≡ suc (suc at) = omega arith in
       let c : at + 3 ≡ suc (suc (suc at)) = omega arith in
       let d : at + 4 ≡ suc (suc (suc (suc at))) = omega arith in
-      rw (a, b, c, d, drop-cons s at 0 (omega arith), drop-cons s (suc at) 0 (omega arith), drop-cons s (suc (suc at)) 0 (omega arith),
-      drop-cons s (suc (suc (suc at))) 0 (omega arith))
+      rw (
+        a,
+        b,
+        c,
+        d,
+        drop-cons s at 0 (omega arith),
+        drop-cons s (suc at) 0 (omega arith),
+        drop-cons s (suc (suc at)) 0 (omega arith),
+        drop-cons s (suc (suc (suc at))) 0 (omega arith),
+      )
 
   pub begins-other : (getD s at 0 ≡ byte "B" → ⊥) → false ≡ beginsBin e (drop at s)
   unfolding beginsBin

@@ -7,7 +7,7 @@ use mathlib.Core.Logic.{_⊎_, inl, inr}
 use mathlib.Core.Bool.{Bool, true, false, not, cond, _&&_, _||_}
 use mathlib.Core.List.{List, [], _∷_, _++_, map, append-assoc, append-nil}
 use native.Mathlib.Omega.{arith}
-use lib.Dec.{T, ltb, not-T}
+use lib.Dec.{T, ltb}
 use lib.ListN.{length, take, drop, length-map}
 use lib.Seq.{append-snoc}
 use Rattle.text.specs.Bytes.{Bytes, bytes, every, valueOf}
@@ -176,14 +176,16 @@ module _ (q : Separators) (fit : Fitted q) where
       clean : (x : ℕ) → T (mayServe x) → CleanView x ((bytes "BIN" ∷ []) ∷ (d ∷ []) ∷ [])
       clean x m = ((id-bytes-free x m (bytes "BIN") tt, tt), ((id-bytes-free x m d (every-weaker isDigit isIdByte digit-id-byte d (c .digits)), tt), tt))
 
-  -- a plain one: where its tag is BIN it has no element
-  plain-counted : (g : Bytes) → Plainly q g → T (wellCounted (plainView q g))
-  plain-counted g p = by (pieces (q .element) g) (joined-pieces (q .element) g)
+  -- a plain one has another tag, or nothing but a tag
+  plain-other : (g : Bytes) → Plainly q g → Other (plainView q g)
+  plain-other g p = by (pieces (q .element) g) (joined-pieces (q .element) g)
     where
-      -- the tag and an element would begin like a BIN
-      no-bin : (t d : Bytes) (ps : List Bytes) → joined (q .element) (t ∷ d ∷ ps) ≡ g → T (not (namesBin (pieces (q .component) t)))
-      no-bin t d ps e =
-          not-T (namesBin (pieces (q .component) t))
+      by : (ps : List Bytes) → joined (q .element) ps ≡ g → Other (map (pieces (q .component)) ps)
+      by [] e = inr (omega arith)
+      by (t ∷ []) e = inr (omega arith)
+      by (t ∷ (d ∷ ps)) e =
+          inl
+          (fails (namesBin (pieces (q .component) t))
           (λ h.
           let tag : t ≡ bytes "BIN" =
           sym (joined-pieces (q .component) t) ∙ ap (joined (q .component)) (names-bin (pieces (q .component) t) h) in
@@ -191,15 +193,21 @@ module _ (q : Separators) (fit : Fitted q) where
           sym e ∙ ap (λ (x : Bytes). x ++ q .element ∷ joined (q .element) (d ∷ ps)) tag in
           subst (λ (b : Bool). T b)
           (sym (ap (λ (x : Bytes). beginsBin (q .element) (x ++ q .terminator ∷ [])) marked
-          ∙ mark-begins (q .element) (joined (q .element) (d ∷ ps) ++ q .terminator ∷ [])) ∙ p .begins []) tt)
+          ∙ mark-begins (q .element) (joined (q .element) (d ∷ ps) ++ q .terminator ∷ [])) ∙ p .begins []) tt))
 
-      by : (ps : List Bytes) → joined (q .element) ps ≡ g → T (wellCounted (map (pieces (q .component)) ps))
-      by [] e = tt
-      by (t ∷ []) e = tt
-      by (t ∷ (d ∷ [])) e = no-bin t d [] e
-      by (t ∷ (d ∷ (r ∷ []))) e =
-          or-left (not (namesBin (pieces (q .component) t))) (countsPieces (pieces (q .component) d) (pieces (q .component) r)) (no-bin t d (r ∷ []) e)
-      by (t ∷ (d ∷ (r ∷ (u ∷ ps)))) e = no-bin t d (r ∷ u ∷ ps) e
+  other-counted : (v : View) → Other v → T (wellCounted v)
+  other-counted [] o = tt
+  other-counted (tag ∷ []) o = tt
+  other-counted (tag ∷ (d ∷ [])) (inl h) = rw h tt
+  other-counted (tag ∷ (d ∷ [])) (inr l) = absurd (omega arith)
+  other-counted (tag ∷ (d ∷ (p ∷ []))) (inl h) = rw h tt
+  other-counted (tag ∷ (d ∷ (p ∷ []))) (inr l) = absurd (omega arith)
+  other-counted (tag ∷ (d ∷ (p ∷ (r ∷ v)))) (inl h) = rw h tt
+  other-counted (tag ∷ (d ∷ (p ∷ (r ∷ v)))) (inr l) = absurd (omega arith)
+
+  -- so all of it is looked into
+  pub plain-inspected : (g : Bytes) → Plainly q g → inspected (plainView q g) ≡ plainView q g
+  plain-inspected g p = other-inspected (plainView q g) (plain-other g p)
 
   pub cut-writable : (s g m : Bytes) → cutOf q s ≡ Whole g m → Writable q (viewOf q g)
   cut-writable s g m e = by (cut-gives q fit s g m e)
@@ -211,4 +219,4 @@ module _ (q : Separators) (fit : Fitted q) where
           (record { formed = tt; bare = bin-bare (countIn (q .element) g) (attachedIn (q .element) g) c; counted = rw (counts-passes _ _ c) tt })
       by (inr p) =
           rw (view-plain q g (p .no-bin))
-          (record { formed = plain-well-formed q g; bare = inspected-every (every (every (λ (b : ℕ). not (isSeparator q b)))) (plainView q g) (plain-unseparated q g (p .free)); counted = plain-counted g p })
+          (record { formed = plain-well-formed q g; bare = rw (plain-inspected g p) (plain-unseparated q g (p .free)); counted = other-counted (plainView q g) (plain-other g p) })

@@ -33,7 +33,7 @@ pub(crate) fn find(s: &[u8], from: usize, byte: u8) -> Found
 }
 
 // Where piece number n stands, from 0; past the last, the empty part at the end.
-pub(crate) fn piece_span(s: &[u8], separator: u8, n: usize) -> Span
+pub fn piece_span(s: &[u8], separator: u8, n: usize) -> Span
     ensures { λ r. ⌜ r ≡ pieceSpan separator (now (s .entry)) n ⌝ }
 {
     let mut start: usize = 0;

@@ -155,7 +155,7 @@ pub hl-no-bin : tag "HL" ≡ tag "BIN" → ⊥
 unfolding tagNumber
 hl-no-bin e = omega (arith, e)
 
-se-no-bin : tag "SE" ≡ tag "BIN" → ⊥
+pub se-no-bin : tag "SE" ≡ tag "BIN" → ⊥
 unfolding tagNumber
 se-no-bin e = omega (arith, e)
 

@@ -10,13 +10,13 @@ use lib.ListN.{length}
 use Rattle.text.specs.Bytes.{Bytes, every}
 use Rattle.text.specs.Separators.{printable}
 use Rattle.text.specs.Pieces.{pieces}
-use Rattle.text.specs.View.{viewOf, empty, elementOf}
+use Rattle.text.specs.View.{plainView, empty, elementOf}
 use Rattle.text.specs.declared.separators.Separators.{Separators}
 use Rattle.text.proofs.Bools.{both}
 use Rattle.text.proofs.Everys.{every-at, every-of}
 use Rattle.text.proofs.Pieces.{every-pieces}
 use Rattle.elements.specs.Checks.{each, Keeps}
-use Rattle.elements.specs.Rules.{dataPiece, byteChecks}
+use Rattle.elements.specs.Rules.{dataPiece, dataChecks}
 use Rattle.reading.proofs.cut.SpecialBytes.{belongs}
 use Rattle.reading.proofs.cut.Queue.{All}
 use Rattle.gate.proofs.reading.Laws.{keeps-at}
@@ -37,22 +37,22 @@ data-pieces c [] = refl
 data-pieces c (p ∷ ps) = rw (every-pieces printable c p, data-pieces c ps)
 
 -- and in terms of the segment
-data-view : (q : Separators) (segment : Bytes) → every dataPiece (viewOf q segment) ≡ every (belongs q) segment
+data-view : (q : Separators) (segment : Bytes) → every dataPiece (plainView q segment) ≡ every (belongs q) segment
 data-view q segment =
     data-pieces (q .component) (pieces (q .element) segment)
     ∙ every-pieces (λ (b : ℕ). printable b || eqb b (q .component)) (q .element) segment
 
 -- rule 5, from the bytes to the view
-pub data-kept : (q : Separators) (segment : Bytes) → T (every (belongs q) segment) → Keeps (byteChecks (viewOf q segment))
-unfolding byteChecks
+pub data-kept : (q : Separators) (segment : Bytes) → T (every (belongs q) segment) → Keeps (dataChecks (plainView q segment))
+unfolding dataChecks
 data-kept q segment t =
-    keeps-of 5 0 (length (viewOf q segment)) (λ (k : ℕ). dataPiece (elementOf (viewOf q segment) k))
-    (λ k l u. every-at dataPiece (viewOf q segment) empty (rw (data-view q segment) t) k (omega arith))
+    keeps-of 5 0 (length (plainView q segment)) (λ (k : ℕ). dataPiece (elementOf (plainView q segment) k))
+    (λ k l u. every-at dataPiece (plainView q segment) empty (rw (data-view q segment) t) k (omega arith))
 
 -- and back
-pub data-told : (q : Separators) (segment : Bytes) → Keeps (byteChecks (viewOf q segment)) → T (every (belongs q) segment)
-unfolding byteChecks
+pub data-told : (q : Separators) (segment : Bytes) → Keeps (dataChecks (plainView q segment)) → T (every (belongs q) segment)
+unfolding dataChecks
 data-told q segment h =
     rw (← data-view q segment)
-    (every-of dataPiece (viewOf q segment) empty
-    (λ k u. keeps-at 5 0 (length (viewOf q segment)) (λ (k : ℕ). dataPiece (elementOf (viewOf q segment) k)) h k (omega arith) (omega arith)))
+    (every-of dataPiece (plainView q segment) empty
+    (λ k u. keeps-at 5 0 (length (plainView q segment)) (λ (k : ℕ). dataPiece (elementOf (plainView q segment) k)) h k (omega arith) (omega arith)))

@@ -1,4 +1,4 @@
--- The ways out of the walk of `next_segment`: at a terminator, at a bad byte, and where the bytes are used up.
+-- The ways out of the walk of `next_plain`: at a terminator, at a bad byte, and where the bytes are used up.
 -- Assumes nothing.
 use Prim.Native.Nat.{ℕ, suc, _+_, _≤_, _<_}
 use mathlib.Core.Path.{_≡_, refl, sym, ap, _∙_}
@@ -14,16 +14,18 @@ use borrow.Author.Tests.{eq-eqb, ne-eqb, lt-ltb}
 use Rattle.text.specs.Bytes.{Bytes}
 use Rattle.text.specs.Pieces.{pieces, closed}
 use Rattle.text.specs.internal.Search.{Free, FirstAt}
-use Rattle.text.specs.Lookup.{pieceSpan}
+use Rattle.text.specs.Lookup.{spanAmong}
+use Rattle.text.specs.View.{plainView}
 use Rattle.text.specs.declared.separators.Separators.{Separators}
 use Rattle.text.proofs.Bools.{both, first-of, second-of, apart}
 use Rattle.text.proofs.Everys.{every-middle}
 use Rattle.text.proofs.Pieces.{pieces-free, pieces-closed}
 use Rattle.text.proofs.View.{free-append}
-use Rattle.reading.specs.internal.Cutting.{layoutOf, BadSegment, CutAs, GoodSegment, Cuts, Stops}
+use Rattle.reading.specs.internal.Cutting.{layoutOf, LaidAs, PlainBad, PlainSegment, CutsPlainly, Stops}
+use Rattle.elements.specs.Rules.{dataChecks, endChecks}
 use Rattle.elements.proofs.PresentPieces.{some as filled}
 use Rattle.reading.specs.declared.cutting.Next.{Next}
-use Rattle.reading.specs.declared.cutting.Next.the-variants.{Open, Bad, Segment}
+use Rattle.reading.specs.declared.cutting.Next.the-variants.{Open, Bad, Broken, Segment}
 use Rattle.reading.proofs.cut.SpecialBytes.{belongs, Permitted, refused}
 use Rattle.reading.proofs.cut.Queue.{All, left-none, used-up}
 use Rattle.reading.proofs.cut.Bytes.{all-every, data-kept, data-told}
@@ -48,8 +50,7 @@ filled-by (b ∷ piece) place start e = ap not (ne-eqb place start (λ z. omega 
 
 -- where a piece starts, when the pieces are known
 span-start : (sep : ℕ) (s : Bytes) (ps : List Bytes) (k : ℕ) → pieces sep s ≡ ps → k < length ps
-    → pieceSpan sep s k .start ≡ length (closed sep (take k ps))
-unfolding pieceSpan
+    → spanAmong sep (pieces sep s) (length s) k .start ≡ length (closed sep (take k ps))
 span-start sep s ps k e h = rw (e, lt-ltb k (length ps) h)
 
 -- all four tests pass
@@ -94,7 +95,7 @@ module _ {q : Separators} {table : List Bool} {s : Bytes} {at : ℕ} {queue star
     passed-long = rw (length-append (closed (q .element) (w .gone)) final) (omega (arith, w .start-is, piece-place w some))
 
     -- the starts that are kept are those of the pieces
-    passed-begins : (k : ℕ) → k ≤ 32 → k ≤ count → getD starts k 0 ≡ at + pieceSpan (q .element) passed k .start
+    passed-begins : (k : ℕ) → k ≤ 32 → k ≤ count → getD starts k 0 ≡ at + spanAmong (q .element) (pieces (q .element) passed) (length passed) k .start
     passed-begins k l u =
         w .begins k l u
         ∙ ap (λ (n : ℕ). at + n)
@@ -132,10 +133,10 @@ module _ {q : Separators} {table : List Bool} {s : Bytes} {at : ℕ} {queue star
 
     -- the terminator: the bytes up to it are the segment, and this is its layout
     laid-out : getD s here 0 ≡ q .terminator
-        → CutAs q s starts (layoutOf at here count start behind ended) passed (drop (here + 1) s)
+        → LaidAs q s starts (layoutOf at here count start behind ended) passed (drop (here + 1) s) (pieces (q .element) passed)
+        (dataChecks (plainView q passed)) (endChecks (plainView q passed))
     laid-out e = record {
       whole = rw (← byte-there w some (q .terminator) e) passed-whole;
-      free = passed-free;
       place = passed-long;
       data-only = data-kept q passed (all-every (Permitted q) (belongs q) passed (λ b h. h .1) passed-good);
       elements = ap length passed-pieces ∙ simp length-append (omega (arith, w .count-is));
@@ -150,9 +151,9 @@ module _ {q : Separators} {table : List Bool} {s : Bytes} {at : ℕ} {queue star
 
     -- what is left of the queue serves the next cut
     pub at-end : getD s here 0 ≡ q .terminator
-        → GoodSegment q table s at queue starts (layoutOf at here count start behind ended)
+        → PlainSegment q table s at queue starts (layoutOf at here count start behind ended)
         (record { head = head + 1; tail = tail; seen = seen })
-    at-end e = record { segment = passed; more = drop (here + 1) s; at-is = refl; laid = laid-out e; ready = next-ready w some }
+    at-end e = record { segment = passed; more = drop (here + 1) s; at-is = refl; free = passed-free; laid = laid-out e; ready = next-ready w some }
 
     module _ (no-e : getD s here 0 ≡ q .element → ⊥) (no-c : getD s here 0 ≡ q .component → ⊥)
         (no-t : getD s here 0 ≡ q .terminator → ⊥) where
@@ -161,23 +162,26 @@ module _ {q : Separators} {table : List Bool} {s : Bytes} {at : ℕ} {queue star
       bad = refused q (getD s here 0) (rw (← w .right .tells (getD s here 0)) (next w some .special)) no-e no-c no-t
 
       -- a terminator follows the bad byte
-      spoilt : (end : ℕ) → FirstAt s here (q .terminator) end → BadSegment q s at end
+      spoilt : (end : ℕ) → FirstAt s here (q .terminator) end → PlainBad q s at end
       spoilt end m =
           let b = begun-with (m .gap) (getD s here 0) (q .terminator) (drop (suc here) s) (m .rest)
           (sym (drop-cons s here 0 (inside w some)) ∙ m .whole) no-t in
           record {
             segment = passed ++ m .gap;
             more = m .rest;
-            whole = passed-whole ∙ rw (m .whole, append-assoc passed);
             free = free-append (q .terminator) passed (m .gap) passed-free (m .free);
-            place = rw (length-append passed (m .gap)) (omega (arith, passed-long, m .place));
-            broken = λ h. bad (every-middle (belongs q) passed (getD s here 0) (b .back) (rw (b .is) at (data-told q (passed ++ m .gap) h)));
+            spoilt = record {
+              whole = passed-whole ∙ rw (m .whole, append-assoc passed);
+              place = rw (length-append passed (m .gap)) (omega (arith, passed-long, m .place));
+              broken = λ h. bad (every-middle (belongs q) passed (getD s here 0) (b .back) (rw (b .is) at (data-told q (passed ++ m .gap) h)));
+            };
           }
 
       -- a bad byte: the next terminator decides
-      pub at-bad : (r : Next) → Stops s here (q .terminator) r → Cuts q table s at queue starts r
+      pub at-bad : (r : Next) → Stops s here (q .terminator) r → CutsPlainly q table s at queue starts r
       at-bad Open f = rw passed-whole (free-append (q .terminator) passed (drop here s) passed-free f)
       at-bad (Bad end) m = spoilt end m
+      at-bad (Broken element) f = absurd f
       at-bad (Segment layout left) f = absurd f
 
   -- all bytes are seen, and the queue is used up

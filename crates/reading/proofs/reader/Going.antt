@@ -10,10 +10,10 @@ use native.Mathlib.Nat.{add-sub-cancel-left}
 use lib.ListN.{length, take, drop, length-append, length-drop}
 use lib.Seq.{take-append-seam}
 use Rattle.text.specs.Bytes.{Bytes}
-use Rattle.text.specs.View.{viewOf}
+use Rattle.text.specs.View.{plainView, viewOf}
 use Rattle.text.specs.Separators.{Fitted}
 use Rattle.elements.specs.Checks.{firstBroken}
-use Rattle.elements.specs.Rules.{byteChecks}
+use Rattle.elements.specs.Rules.{dataChecks, byteChecks}
 use Rattle.gate.specs.Profile.{profileOf}
 use Rattle.gate.specs.Segments.{seen, onto}
 use Rattle.levels.specs.Widths.{segmentWidth, levelWidth}
@@ -34,9 +34,9 @@ use Rattle.reading.specs.declared.settling.Step.{Step}
 use Rattle.reading.specs.declared.settling.Step.the-variants.{Done, Passed}
 use Rattle.reading.specs.declared.cutting.Left.{Left}
 use Rattle.reading.specs.declared.cutting.Next.{Next}
-use Rattle.reading.specs.declared.cutting.Next.the-variants.{Open, Bad, Segment}
+use Rattle.reading.specs.declared.cutting.Next.the-variants.{Open, Bad, Broken, Segment}
 use Rattle.reading.proofs.reader.RuleOrder.{bad-bytes}
-use Rattle.reading.proofs.cut.Facts.{ready-first, open-stops, bad-cut, laid-cut, end-inside}
+use Rattle.reading.proofs.cut.Facts.{ready-none, bytes-plain, plain-of, end-inside}
 use Rattle.finding.specs.internal.Knows.{knownNone}
 use Rattle.reading.proofs.reader.JudgeSteps.{verdict-cases}
 use Rattle.reading.proofs.reader.Standings.{standing-start, standing-refuses, segments-long, levels-long, history-long}
@@ -46,7 +46,7 @@ pub going-start : (how : How) (s : Bytes) (specials : List Bool) (before : Table
     → Going how s specials before (before .segments) (before .levels) queue starts 0 (record { head = 0; tail = 0; seen = 0 }) (record { count = 0; row = 0; again = false; known = knownNone })
 going-start how s specials before queue starts q r = record {
   stands = record { gs = []; rows = []; standing = standing-start how before s };
-  ready = ready-first specials s queue q;
+  ready = ready-none specials s 0 queue (omega arith) q;
   room = r;
 }
 
@@ -74,36 +74,44 @@ module _ {how : How} {s : Bytes} {before : Tables} {segments levels : List ℕ} 
   pub open-refuses : (next : Next) (queue starts : List ℕ) (specials : List Bool) → Cuts (how .separators) specials s at queue starts next → next ≡ Open
       → Read (profileOf how) how s before (Refused 3 (state .count + 1) at 0) (record { segments = segments; levels = levels })
   open-refuses next queue starts specials cuts is =
-      let free = subst (λ (n : Next). Cuts (how .separators) specials s at queue starts n) is cuts in
-      standing-refuses (stands .standing) 3 0 (inl (record { upto = drop at s; more = []; stops = open-stops (how .separators) s at free }))
+      let c = subst (λ (n : Next). Cuts (how .separators) specials s at queue starts n) is cuts in
+      standing-refuses (stands .standing) 3 0 (inl (record { upto = c .upto; more = c .more; stops = c .stops }))
+
+  -- 10, of a BIN
+  pub broken-refuses : (next : Next) (queue starts : List ℕ) (specials : List Bool) → Cuts (how .separators) specials s at queue starts next
+      → (element : ℕ) → next ≡ Broken element
+      → Read (profileOf how) how s before (Refused 10 (state .count + 1) at element) (record { segments = segments; levels = levels })
+  broken-refuses next queue starts specials cuts element is =
+      let c = subst (λ (n : Next). Cuts (how .separators) specials s at queue starts n) is cuts in
+      standing-refuses (stands .standing) 10 element (inl (record { upto = c .upto; more = c .more; stops = c .stops }))
 
   -- 5
   bad-place : {end : ℕ} (b : BadSegment (how .separators) s at end) → cutOut s at end ≡ b .segment
   bad-place {end} b =
-      let e : end - at ≡ length (b .segment) = ap (λ (x : ℕ). x - at) (b .place) ∙ add-sub-cancel-left at (length (b .segment)) in
-      rw e (ap (take (length (b .segment))) (b .whole) ∙ take-append-seam (b .segment) (how .separators .terminator ∷ b .more))
+      let e : end - at ≡ length (b .segment) = ap (λ (x : ℕ). x - at) (b .spoilt .place) ∙ add-sub-cancel-left at (length (b .segment)) in
+      rw e (ap (take (length (b .segment))) (b .spoilt .whole) ∙ take-append-seam (b .segment) (how .separators .terminator ∷ b .more))
 
   pub bad-within : (next : Next) (queue starts : List ℕ) (specials : List Bool) → Cuts (how .separators) specials s at queue starts next → (end : ℕ) → next ≡ Bad end
       → (at ≤ end) × (end ≤ length s)
   bad-within next queue starts specials cuts end is =
       let b = subst (λ (n : Next). Cuts (how .separators) specials s at queue starts n) is cuts in
-      (omega (arith, b .place), omega (arith, b .place, length-drop at s, ap length (b .whole) ∙ length-append (b .segment) (how .separators .terminator ∷ b .more)))
+      (omega (arith, b .spoilt .place), omega (arith, b .spoilt .place, length-drop at s, ap length (b .spoilt .whole) ∙ length-append (b .segment) (how .separators .terminator ∷ b .more)))
 
   pub bad-refuses : (next : Next) (queue starts : List ℕ) (specials : List Bool) → Cuts (how .separators) specials s at queue starts next → (end : ℕ) → next ≡ Bad end
-      → (r : Answer) → r ≡ refusedBy (firstBroken (byteChecks (viewOf (how .separators) (cutOut s at end)))) (state .count) at
+      → Fitted (how .separators) → (r : Answer) → r ≡ refusedBy (firstBroken (dataChecks (plainView (how .separators) (cutOut s at end)))) (state .count) at
       → Read (profileOf how) how s before r (record { segments = segments; levels = levels })
-  bad-refuses next queue starts specials cuts end is r says =
+  bad-refuses next queue starts specials cuts end is fit r says =
       let b = subst (λ (n : Next). Cuts (how .separators) specials s at queue starts n) is cuts in
       let v = viewOf (how .separators) (b .segment) in
-      rw (says, bad-place b)
+      rw (says, bad-place b, ← bytes-plain (how .separators) fit (b .segment) (plain-of (how .separators) fit (drop at s) (b .segment) (b .more) (b .cut) (b .plain)))
       (verdict-cases (firstBroken (byteChecks v))
-      (λ e. absurd (b .broken (keeps-holds (byteChecks v) .0 e)))
+      (λ e. absurd (b .spoilt .broken (keeps-holds (byteChecks v) .0 e)))
       (λ n k e.
       rw e
       (standing-refuses (stands .standing) n k (inr (inl (record {
         segment = b .segment;
         more = b .more;
-        next = bad-cut b;
+        next = b .cut;
         first = bad-bytes (profileOf how) (stands .rows) (onto [] (seen how (stands .gs))) v n k e;
       }))))))
 
@@ -115,18 +123,18 @@ cut-good {how} {s} {specials} {queue} {starts} {at} next cuts is = subst (λ (n 
 module _ {how : How} {s : Bytes} {specials : List Bool} {queue starts : List ℕ} {at : ℕ} {layout : Layout} {left : Left}
     (good : GoodSegment (how .separators) specials s at queue starts layout left) where
   pub good-forward : at ≤ layout .end
-  good-forward = omega (arith, good .laid .place, good .at-is)
+  good-forward = omega (arith, good .cut-as .laid .place, good .at-is)
 
   pub good-within : layout .end < length s
-  good-within = end-inside (good .laid)
+  good-within = end-inside (good .cut-as)
 
   pub good-inside : Inside s layout
-  good-inside = record { forward = omega (arith, good .laid .place); within = omega (arith, good-within) }
+  good-inside = record { forward = omega (arith, good .cut-as .laid .place); within = omega (arith, good-within) }
 
   module _ {before : Tables} {segments levels : List ℕ} {state : State} (stands : Stands how before s segments levels at state) where
     pub in-room : length s ≤ 1048576 → InRoom segments levels layout state
     in-room l = record {
-      forward = omega (arith, good .laid .place);
+      forward = omega (arith, good .cut-as .laid .place);
       short = omega (arith, good-within);
       segments-fit = segments-within stands;
       levels-fit = levels-within stands;
@@ -141,10 +149,10 @@ module _ {how : How} {s : Bytes} {specials : List Bool} {queue starts : List ℕ
           settles how before s (here .gs) (here .rows) (good .segment) (good .more) (record {
             fit = fit;
             standing = here .standing;
-            cut = laid-cut (good .laid);
-            whole = good .laid .whole;
-            place = good .laid .place;
-            right = judged before (here .gs) (here .rows) (good .segment) (good .more) fit (good .laid) (here .standing);
+            cut = good .cut-as .cut;
+            whole = good .cut-as .laid .whole;
+            place = good .cut-as .laid .place;
+            right = judged before (here .gs) (here .rows) (good .segment) (good .more) fit (good .cut-as) (here .standing);
           })
 
       -- the answer

@@ -2,7 +2,7 @@
 -- Assumes nothing.
 use Prim.Native.Nat.{ℕ, _+_, _≤_, _<_}
 use mathlib.Core.Path.{_≡_, refl, sym, ap, _∙_}
-use mathlib.Core.Bool.{not, _&&_, _||_}
+use mathlib.Core.Bool.{false, not, _&&_, _||_}
 use mathlib.Core.List.{List, [], _∷_, _++_}
 use native.Mathlib.Omega.{arith}
 use lib.Dec.{T}
@@ -10,9 +10,11 @@ use lib.ListN.{length, take, drop, getD, List·getD-eq-default}
 use lib.Seq.{take-append-seam}
 use Rattle.text.specs.Bytes.{Bytes}
 use Rattle.text.specs.Pieces.{pieces}
+use Rattle.text.specs.Bin.{isBin}
 use Rattle.text.specs.View.{View, viewOf, present, elementOf}
 use Rattle.text.specs.declared.separators.Separators.{Separators}
 use Rattle.text.proofs.Bools.{first-of}
+use Rattle.text.proofs.BinView.{view-plain, elements-plain}
 use Rattle.text.specs.Separators.{Fitted}
 use Rattle.rows.specs.Tags.{tag, tags, tagNumber}
 use Rattle.rows.proofs.TagList.{tag-of-number}
@@ -26,7 +28,7 @@ use Rattle.gate.specs.Profile.{nonconformance}
 use Rattle.gate.specs.Segments.{tagIn, onto, claims, levelsIn}
 use Rattle.gate.specs.Rules.{Kept, From}
 use Rattle.gate.proofs.reading.Laws.{keeps-split, keeps-at}
-use Rattle.gate.proofs.reading.ElementTexts.{element-piece, tag-of-view, hl-rules, hl-claim}
+use Rattle.gate.proofs.reading.ElementTexts.{element-piece, other-tag, hl-no-bin, tag-of-view, hl-rules, hl-claim}
 use Rattle.gate.proofs.whole.AllLevels.{Leveled, from-kept}
 use Rattle.finding.specs.internal.TablesHold.{HlBytes}
 
@@ -42,11 +44,11 @@ third-present v k =
     first-of (present (elementOf v 3)) (headed (ruleOf rulesHL 3 .shape) (elementOf v 3)) d
 
 -- so it has a tag and three elements at least
-four-pieces : (q : Separators) (g : Bytes) → T (present (elementOf (viewOf q g) 3)) → 3 < length (pieces (q .element) g)
-four-pieces q g t =
+four-pieces : (q : Separators) (g : Bytes) → isBin (q .element) g ≡ false → T (present (elementOf (viewOf q g) 3)) → 3 < length (pieces (q .element) g)
+four-pieces q g n t =
     let absent : length (pieces (q .element) g) ≤ 3 → ⊥ = λ l.
     let e : elementOf (viewOf q g) 3 ≡ [] ∷ [] =
-    element-piece q g 3 ∙ ap (pieces (q .component)) (List·getD-eq-default (pieces (q .element) g) [] {n = 3} l) in
+    ap (λ (v : View). elementOf v 3) (view-plain q g n) ∙ element-piece q g 3 ∙ ap (pieces (q .component)) (List·getD-eq-default (pieces (q .element) g) [] {n = 3} l) in
     rw e at t in
     omega (arith, absent)
 
@@ -72,10 +74,11 @@ pub hl-written : (q : Separators) → Fitted q → (s : Bytes) (at : ℕ) (g mor
 hl-written q fit s at g more w k e =
     let seg : take (length g) (drop at s) ≡ g = ap (take (length g)) w ∙ take-append-seam g (q .terminator ∷ more) in
     let rules : Keeps (checksBy rulesHL (viewOf q g)) = rw (e, hl-rules) at k in
-    let four = four-pieces q g (third-present (viewOf q g) rules) in
+    let n = other-tag q g (λ z. hl-no-bin (sym e ∙ z)) in
+    let four = four-pieces q g n (third-present (viewOf q g) rules) in
     let claim = hl-claim q g k e in
     record {
-      tag = rw seg (hl-tag-long (getD (pieces (q .element) g) 0 []) (sym (tag-of-view q fit g) ∙ e));
+      tag = rw seg (hl-tag-long (getD (pieces (q .element) g) 0 []) (ap (λ (ps : List Bytes). tagNumber (getD ps 0 [])) (sym (elements-plain (q .element) g n)) ∙ sym (tag-of-view q fit g) ∙ e));
       some = rw seg (omega arith);
       id-is = rw seg (sym (ap (λ (c : Claim). c .id) claim));
       mark-is = rw seg (sym (ap (λ (c : Claim). c .mark) claim));

@@ -11,9 +11,12 @@ use lib.ListN.{length, take, getD, length-append, length-drop}
 use lib.Seq.{take-append-seam}
 use Rattle.text.specs.Bytes.{Bytes, valueOf}
 use Rattle.text.specs.Pieces.{pieces}
-use Rattle.text.specs.View.{View, viewOf, elementOf}
+use Rattle.text.specs.Bin.{isBin}
+use Rattle.text.specs.View.{View, plainView, viewOf, elementsOf, elementOf}
+use Rattle.text.specs.Lookup.{elementSpan}
 use Rattle.text.specs.Cut.{Placed}
-use Rattle.text.proofs.Bools.{equal-eqb, passes, not-passes}
+use Rattle.text.proofs.Bools.{equal-eqb, passes, fails, not-passes}
+use Rattle.text.proofs.BinView.{view-plain, elements-plain}
 use Rattle.text.specs.Separators.{Fitted}
 use Rattle.rows.specs.Tags.{tag, tagNumber}
 use Rattle.rows.specs.NextTable.{NextTable}
@@ -34,7 +37,7 @@ use Rattle.levels.specs.Levels.{Claim, claimOf, textOf, levelOf}
 use Rattle.levels.proofs.LevelTests.{keeps-passes}
 use Rattle.finding.proofs.KnownLevels.{knows-after}
 use Rattle.levels.specs.Rules.{levelChecks}
-use Rattle.gate.specs.Profile.{profileOf}
+use Rattle.gate.specs.Profile.{nonconformance, profileOf}
 use Rattle.gate.specs.Segments.{tagIn, isHL, isSE, seen, onto, levelsIn}
 use Rattle.gate.specs.Rules.{closingChecks}
 use Rattle.gate.specs.Records.{Tables}
@@ -50,34 +53,50 @@ use Rattle.reading.specs.declared.judging.Judgement.the-variants.{Broken
 use Rattle.elements.specs.declared.layout.Layout.{Layout}
 use Rattle.reading.specs.declared.judging.State.{State}
 use Rattle.reading.proofs.reader.RuleOrder.{unknown-tag, bad-end, no-row, bad-element, bad-level, bad-closing, no-level, no-closing, its-level, its-closing, all-kept}
-use Rattle.gate.proofs.reading.ElementTexts.{tag-of-view, hl-claim, se-count, se-control}
+use Rattle.gate.proofs.reading.ElementTexts.{bin-tag, other-tag, hl-no-bin, se-no-bin, tag-of-view, hl-claim, se-count, se-control}
+use Rattle.reading.proofs.cut.BinCuts.{bin-ends}
 use Rattle.reading.proofs.reader.OpeningControl.{control-of-first, counted-number}
 use Rattle.reading.proofs.reader.Standings.{history-long}
 
 module _ {how : How} {s : Bytes} {starts : List ℕ} {layout : Layout} {g more : Bytes} (nt : CutAs (how .separators) s starts layout g more) where
+  -- the elements start where they are said to
+  started : (k : ℕ) → k ≤ layout .count → k ≤ 32 → getD starts k 0 ≡ layout .at + elementSpan (how .separators .element) g k .start
+  unfolding elementSpan
+  started k l h = nt .laid .begins k h l
+
   -- the layout is right, as the element rules take it
   right : LaidOut (how .separators) s g starts layout
   right = record {
-    here = ap (take (length g)) (nt .whole) ∙ take-append-seam g (how .separators .terminator ∷ more);
-    ends = nt .place;
-    inside = omega (arith, nt .place, length-drop (layout .at) s, ap length (nt .whole) ∙ length-append g (how .separators .terminator ∷ more));
-    counted = omega (arith, nt .elements);
-    started = λ k l h. nt .begins k h l;
-    singly = λ e. nt .single (rw e tt);
+    here = ap (take (length g)) (nt .laid .whole) ∙ take-append-seam g (how .separators .terminator ∷ more);
+    ends = nt .laid .place;
+    inside = omega (arith, nt .laid .place, length-drop (layout .at) s, ap length (nt .laid .whole) ∙ length-append g (how .separators .terminator ∷ more));
+    counted = omega (arith, nt .laid .elements);
+    started = λ k l h. started k l h;
+    singly = λ e. nt .laid .single (rw e tt);
   }
 
   -- the segment is the one that the layout names
   segment-is : segmentOf s layout ≡ g
   segment-is =
-      let e : layout .end - layout .at ≡ length g = ap (λ (x : ℕ). x - layout .at) (nt .place) ∙ add-sub-cancel-left (layout .at) (length g) in
+      let e : layout .end - layout .at ≡ length g = ap (λ (x : ℕ). x - layout .at) (nt .laid .place) ∙ add-sub-cancel-left (layout .at) (length g) in
       rw e (right .here)
 
   -- its elements
-  text-is : (k : ℕ) → k ≤ 31 → elementIn s starts layout k ≡ getD (pieces (how .separators .element) g) k []
+  text-is : (k : ℕ) → k ≤ 31 → elementIn s starts layout k ≡ getD (elementsOf (how .separators .element) g) k []
   text-is k h = text-own right k h
+
+  -- which are its pieces where it is no BIN
+  piece-is : isBin (how .separators .element) g ≡ false → (k : ℕ) → k ≤ 31
+      → elementIn s starts layout k ≡ getD (pieces (how .separators .element) g) k []
+  piece-is n k h = text-is k h ∙ ap (λ (ps : List Bytes). getD ps k []) (elements-plain (how .separators .element) g n)
 
   tag-is : Fitted (how .separators) → tagNumber (elementIn s starts layout 0) ≡ tagIn (viewOf (how .separators) g)
   tag-is fit = ap tagNumber (text-is 0 (omega arith)) ∙ sym (tag-of-view (how .separators) fit g)
+
+-- a BIN is a plain segment
+plain-bin : (v : View) → firstBroken (ruledChecks (nonconformance .elements) (tag "BIN") v) ≡ Holds
+unfolding ruledChecks tagNumber
+plain-bin v = refl
 
 -- an SE's row comes behind another row
 row-1 : tagOf 1 ≡ tag "SE" → ⊥
@@ -98,7 +117,7 @@ pub judges-tag : {how : How} {s : Bytes} {starts : List ℕ} {layout : Layout} {
     → t ≡ tagNumber (elementIn s starts layout 0) → Fitted (how .separators) → CutAs (how .separators) s starts layout g more
     → Judges (profileOf how) rows h (viewOf (how .separators) g) (Broken 4 0)
 judges-tag {how} {g = g} rows h t l found fit nt =
-    unknown-tag (profileOf how) rows h (viewOf (how .separators) g) (nt .data-only) (rw (← (found ∙ tag-is nt fit)) l)
+    unknown-tag (profileOf how) rows h (viewOf (how .separators) g) (nt .laid .data-only) (rw (← (found ∙ tag-is nt fit)) l)
 
 module _ {how : How} {before : Tables} {s : Bytes} {segments levels : List ℕ} {at : ℕ} {state : State} {gs : List Placed} {rows : List ℕ}
     {starts : List ℕ} {layout : Layout} {g more : Bytes} (fit : Fitted (how .separators)) (nt : CutAs (how .separators) s starts layout g more)
@@ -118,23 +137,29 @@ module _ {how : How} {before : Tables} {s : Bytes} {segments levels : List ℕ} 
     known-tag = rw (← tag-known) small
 
     -- 6
-    pub judges-end : T (not (layout .ended)) → (j : Judgement) → j ≡ brokenBy (firstBroken (endChecks (viewOf (how .separators) (segmentOf s layout)))) → Judges (profileOf how) rows h v j
+    -- a BIN ends well
+    no-bin : T (not (layout .ended)) → isBin (how .separators .element) g ≡ false
+    no-bin open-end =
+        fails (isBin (how .separators .element) g)
+        (λ t. nt .laid .unkept open-end (bin-ends (how .separators) g (passes (isBin (how .separators .element) g) t)))
+
+    pub judges-end : T (not (layout .ended)) → (j : Judgement) → j ≡ brokenBy (firstBroken (endChecks (plainView (how .separators) (segmentOf s layout)))) → Judges (profileOf how) rows h v j
     judges-end open-end j is =
-        rw (is, segment-is nt)
+        rw (is, segment-is nt, ← view-plain (how .separators) g (no-bin open-end))
         (verdict-cases (firstBroken (endChecks v))
-        (λ e. absurd (nt .unkept open-end (keeps-holds (endChecks v) .0 e)))
-        (λ n k e. rw e (bad-end (profileOf how) rows h v (nt .data-only) known-tag n k e)))
+        (λ e. absurd (nt .laid .unkept open-end (keeps-holds (endChecks v) .0 e)))
+        (λ n k e. rw e (bad-end (profileOf how) rows h v (nt .laid .data-only) known-tag n k e)))
 
     module _ (ended : T (layout .ended)) (x : ℕ) {table : List ℕ} (kept : NextTable table) (after : RowAfter table (state .row) (state .again) t x) where
       ends : Keeps (endChecks v)
-      ends = nt .kept ended
+      ends = nt .laid .kept ended
 
       one-fits : OneFits rows (tagIn v) x
       one-fits = rw tag-known at (after .meaning kept rows (st .passed .viable) (st .row-is) (st .again-is))
 
       -- 7
       pub judges-row : x ≡ 0 → Judges (profileOf how) rows h v (Broken 7 0)
-      judges-row e = no-row (profileOf how) rows h v (nt .data-only) known-tag ends (λ r f. one-fits .alone r f .1 e)
+      judges-row e = no-row (profileOf how) rows h v (nt .laid .data-only) known-tag ends (λ r f. one-fits .alone r f .1 e)
 
       module _ (some : x ≡ 0 → ⊥) where
         fits : Fits rows (tagIn v) x
@@ -142,22 +167,31 @@ module _ {how : How} {before : Tables} {s : Bytes} {segments levels : List ℕ} 
 
         ruled-is : firstBroken (ruledChecks (profileOf how .elements) t (layoutView s starts layout (how .separators .component)))
             ≡ firstBroken (ruledChecks (profileOf how .elements) (tagIn v) v)
-        ruled-is = ruled-own (right nt) t ∙ ap (λ (k : ℕ). firstBroken (ruledChecks (profileOf how .elements) k v)) tag-known
+        ruled-is = by (isBin (how .separators .element) g) refl
+          where
+            by : (b : Bool) → isBin (how .separators .element) g ≡ b
+                → firstBroken (ruledChecks (profileOf how .elements) t (layoutView s starts layout (how .separators .component)))
+                ≡ firstBroken (ruledChecks (profileOf how .elements) (tagIn v) v)
+            by true b =
+                let e = tag-known ∙ bin-tag (how .separators) g b in
+                rw (← tag-known, e) (plain-bin (layoutView s starts layout (how .separators .component)) ∙ sym (plain-bin v))
+            by false b = ruled-own (right nt) b t ∙ ap (λ (k : ℕ). firstBroken (ruledChecks (profileOf how .elements) k v)) tag-known
 
         -- 9, 8, 10, 11
         pub judges-element : (d : Verdict)
             → d ≡ firstBroken (ruledChecks (profileOf how .elements) t (layoutView s starts layout (how .separators .component)))
             → (n e : ℕ) → d ≡ Faulty n e → Judges (profileOf how) rows h v (Broken n e)
-        judges-element d is n e q = bad-element (profileOf how) rows h v (nt .data-only) known-tag ends x fits n e (sym ruled-is ∙ sym is ∙ q)
+        judges-element d is n e q = bad-element (profileOf how) rows h v (nt .laid .data-only) known-tag ends x fits n e (sym ruled-is ∙ sym is ∙ q)
 
         module _ (elements : Keeps (ruledChecks (profileOf how .elements) (tagIn v) v)) where
           -- 12, 13, 14, 15 of an HL
           its-claim : tagIn v ≡ tag "HL" → claimIn s starts layout ≡ claimOf v
           its-claim e =
-              let a = text-is nt 1 (omega arith) in
-              let b = text-is nt 2 (omega arith) in
-              let c = text-is nt 3 (omega arith) in
-              let d = text-is nt 4 (omega arith) in
+              let n = other-tag (how .separators) g (λ z. hl-no-bin (sym e ∙ z)) in
+              let a = piece-is nt n 1 (omega arith) in
+              let b = piece-is nt n 2 (omega arith) in
+              let c = piece-is nt n 3 (omega arith) in
+              let d = piece-is nt n 4 (omega arith) in
               (λ i. record { id = a i; parent = b i; code = c i; mark = d i }) ∙ sym (hl-claim (how .separators) g elements e)
 
           hl-no-se : T (isHL v) → T (not (isSE v))
@@ -170,17 +204,17 @@ module _ {how : How} {before : Tables} {s : Bytes} {segments levels : List ℕ} 
               let checks = levelChecks (profileOf how .levels) (levelsIn (profileOf how) h) (claimOf v) in
               verdict-cases (firstBroken checks)
               (λ q.
-              let level = its-level (profileOf how) rows h v (nt .data-only) known-tag ends x fits elements hl (keeps-holds checks .0 q) in
-              let closing = no-closing (profileOf how) rows h v (nt .data-only) known-tag ends x fits elements (hl-no-se hl) in
+              let level = its-level (profileOf how) rows h v (nt .laid .data-only) known-tag ends x fits elements hl (keeps-holds checks .0 q) in
+              let closing = no-closing (profileOf how) rows h v (nt .laid .data-only) known-tag ends x fits elements (hl-no-se hl) in
               rw q (
-                record { kept = all-kept (profileOf how) rows h v (nt .data-only) known-tag ends x fits elements level closing; fits = fits },
+                record { kept = all-kept (profileOf how) rows h v (nt .laid .data-only) known-tag ends x fits elements level closing; fits = fits },
                 passes (isHL v) hl,
                 hl-no-se hl,
                 refl,
                 knows-after (st .knows) (omega (arith, st .knows .counted)) (levelOf (profileOf how .levels) (suc (length h)) (claimOf v) (levelsIn (profileOf how) h))
                     (keeps-passes (profileOf how .levels) (levelsIn (profileOf how) h) (claimOf v) (keeps-holds checks .0 q) .new),
               ))
-              (λ n k q. rw q (bad-level (profileOf how) rows h v (nt .data-only) known-tag ends x fits elements hl n k q))
+              (λ n k q. rw q (bad-level (profileOf how) rows h v (nt .laid .data-only) known-tag ends x fits elements hl n k q))
 
           -- 16 and 15 of an SE
           se-no-hl : T (isSE v) → T (not (isHL v))
@@ -192,14 +226,14 @@ module _ {how : How} {before : Tables} {s : Bytes} {segments levels : List ℕ} 
               let checks = closingChecks (profileOf how) h v in
               verdict-cases (firstBroken checks)
               (λ q.
-              let level = no-level (profileOf how) rows h v (nt .data-only) known-tag ends x fits elements (se-no-hl se) in
-              let closing = its-closing (profileOf how) rows h v (nt .data-only) known-tag ends x fits elements se (keeps-holds checks .0 q) in
+              let level = no-level (profileOf how) rows h v (nt .laid .data-only) known-tag ends x fits elements (se-no-hl se) in
+              let closing = its-closing (profileOf how) rows h v (nt .laid .data-only) known-tag ends x fits elements se (keeps-holds checks .0 q) in
               rw q (
-                record { kept = all-kept (profileOf how) rows h v (nt .data-only) known-tag ends x fits elements level closing; fits = fits },
+                record { kept = all-kept (profileOf how) rows h v (nt .laid .data-only) known-tag ends x fits elements level closing; fits = fits },
                 not-passes (isHL v) (se-no-hl se),
                 se,
               ))
-              (λ n k q. rw q (bad-closing (profileOf how) rows h v (nt .data-only) known-tag ends x fits elements (se-no-hl se) se n k q))
+              (λ n k q. rw q (bad-closing (profileOf how) rows h v (nt .laid .data-only) known-tag ends x fits elements (se-no-hl se) se n k q))
 
           -- an SE is not the first segment
           some-before : tagIn v ≡ tag "SE" → 0 < state .count
@@ -208,10 +242,11 @@ module _ {how : How} {before : Tables} {s : Bytes} {segments levels : List ℕ} 
           its-closing-tests : tagIn v ≡ tag "SE"
               → closingIn s (how .separators .element) starts layout segments levels state ≡ closingChecks (profileOf how) h v
           its-closing-tests e =
+              let n = other-tag (how .separators) g (λ z. se-no-bin (sym e ∙ z)) in
               let total : numberOf (elementIn s starts layout 1) ≡ valueOf (textOf (elementOf v 1)) =
-              ap numberOf (text-is nt 1 (omega arith) ∙ sym (se-count (how .separators) g elements e)) ∙ counted-number (how .separators) g elements e in
+              ap numberOf (piece-is nt n 1 (omega arith) ∙ sym (se-count (how .separators) g elements e)) ∙ counted-number (how .separators) g elements e in
               let control : elementIn s starts layout 2 ≡ textOf (elementOf v 2) =
-              text-is nt 2 (omega arith) ∙ sym (se-control (how .separators) g elements e) in
+              piece-is nt n 2 (omega arith) ∙ sym (se-control (how .separators) g elements e) in
               let first = control-of-first how before s segments levels at state gs rows (some-before e) st in
               let long : suc (state .count) ≡ suc (length h) = omega (arith, history-long how gs, st .count-is) in
               rw (total, control, first, long, st .tells .levels-are) refl
@@ -240,9 +275,9 @@ module _ {how : How} {before : Tables} {s : Bytes} {segments levels : List ℕ} 
               by false false p q =
                   let hl : T (not (isHL v)) = rw (← tag-known, p) tt in
                   let se : T (not (isSE v)) = rw (← tag-known, q) tt in
-                  let level = no-level (profileOf how) rows h v (nt .data-only) known-tag ends x fits elements hl in
-                  let closing = no-closing (profileOf how) rows h v (nt .data-only) known-tag ends x fits elements se in (
-                    record { kept = all-kept (profileOf how) rows h v (nt .data-only) known-tag ends x fits elements level closing; fits = fits },
+                  let level = no-level (profileOf how) rows h v (nt .laid .data-only) known-tag ends x fits elements hl in
+                  let closing = no-closing (profileOf how) rows h v (nt .laid .data-only) known-tag ends x fits elements se in (
+                    record { kept = all-kept (profileOf how) rows h v (nt .laid .data-only) known-tag ends x fits elements level closing; fits = fits },
                     not-passes (isHL v) hl,
                     se,
                   )

@@ -15,8 +15,8 @@ use Rattle.text.specs.View.{View, viewOf, present, elementOf}
 use Rattle.text.specs.Cut.{Cut, Whole, Placed}
 use Rattle.text.specs.declared.separators.Separators.{Separators}
 use Rattle.text.proofs.Bools.{first-of, passes}
-use Rattle.text.proofs.CutLaws.{CutLaw}
-use Rattle.text.proofs.DocumentCut.{cut-law}
+use Rattle.text.proofs.BinView.{elements-plain}
+use Rattle.text.proofs.DocumentCut.{Splits, cut-splits}
 use Rattle.rows.specs.Tags.{tag, tagNumber}
 use Rattle.rows.specs.Rows.{list842}
 use Rattle.rows.specs.RowList.{tagOf, rowAt}
@@ -31,12 +31,11 @@ use Rattle.levels.specs.Levels.{textOf}
 use Rattle.gate.specs.Profile.{nonconformance}
 use Rattle.gate.specs.Segments.{tagIn, seen, onto, opening}
 use Rattle.gate.specs.Records.{Tables}
-use Rattle.gate.specs.Reads.{cutBy}
 use Rattle.reading.specs.internal.Standing.{Standing}
 use Rattle.reading.specs.internal.Judgements.{openingControl}
 use Rattle.gate.specs.declared.how.How.{How}
 use Rattle.gate.proofs.reading.Laws.{keeps-split, opening-onto, keeps-at}
-use Rattle.gate.proofs.reading.ElementTexts.{ruled-simple, se-rules, st-control}
+use Rattle.gate.proofs.reading.ElementTexts.{other-tag, st-no-bin, ruled-simple, se-rules, st-control}
 use Rattle.reading.specs.declared.judging.State.{State}
 
 -- row 1 is ST's
@@ -54,17 +53,18 @@ control-of-first how before s segments levels at state (g ∷ gs) [] some st = a
 control-of-first how before s segments levels at state (g ∷ gs) (r ∷ rows) some st =
     let q = how .separators in
     let l = st .passed .leads in
-    let w : CutLaw (q .terminator) (cutBy how) s (Whole (g .segment) (l .0)) = subst (λ (c : Cut). CutLaw (q .terminator) (cutBy how) s c) (l .1) (cut-law q s) in
+    let w : s ≡ g .segment ++ q .terminator ∷ l .0 = subst (λ (c : Cut). Splits q s c) (l .1) (cut-splits q s) in
     let long : getD segments 1 0 ≡ length (g .segment) = ap (λ (t : List ℕ). getD t 1 0) (st .segments-are) in
     let wide : segmentWidth ≤ length segments = rw (st .segments-are) (omega arith) in
-    let inside : length (g .segment) ≤ length s = omega (arith, ap length (w .0) ∙ length-append (g .segment) (q .terminator ∷ l .0)) in
-    let front : take (length (g .segment)) s ≡ g .segment = ap (take (length (g .segment))) (w .0) ∙ take-append-seam (g .segment) (q .terminator ∷ l .0) in
+    let inside : length (g .segment) ≤ length s = omega (arith, ap length w ∙ length-append (g .segment) (q .terminator ∷ l .0)) in
+    let front : take (length (g .segment)) s ≡ g .segment = ap (take (length (g .segment))) w ∙ take-append-seam (g .segment) (q .terminator ∷ l .0) in
     let first : r ≡ 1 = viable-iff r rows .0 (st .passed .viable) .0 in
     let st-tag : tagIn (viewOf q (g .segment)) ≡ tag "ST" = sym (head-eq-of-cons-eq (st .passed .tags)) ∙ ap tagOf first ∙ tag-1 in
     let v = viewOf q (g .segment) in
     let text = st-control q (g .segment) (st .passed .kept .0 .elements) st-tag in
+    let plain = elements-plain (q .element) (g .segment) (other-tag q (g .segment) (λ z. st-no-bin (sym st-tag ∙ z))) in
     let o : opening (onto [] (seen how (g ∷ gs))) ≡ v = opening-onto v [] (seen how gs) in
-    rw (le-ltb (length segments) segmentWidth wide, long, le-ltb (length s) (length (g .segment)) inside, front, o) (sym text)
+    rw (le-ltb (length segments) segmentWidth wide, long, le-ltb (length s) (length (g .segment)) inside, front, o, plain) (sym text)
 
 -- SE01 is one to ten digits, so its number is worked out
 first-there : (v : View) → Keeps (checksBy rulesSE v) → T (present (elementOf v 1))

@@ -7,8 +7,7 @@ use mathlib.Core.List.{List, [], _∷_}
 use lib.Dec.{T, eqb, ltb}
 use lib.ListN.{length, take, getD}
 use Rattle.text.specs.Bytes.{Bytes, same}
-use Rattle.text.specs.Pieces.{pieces}
-use Rattle.text.specs.View.{View, viewOf}
+use Rattle.text.specs.View.{View, viewOf, elementsOf}
 use Rattle.text.specs.Cut.{Placed}
 use Rattle.text.specs.Separators.{Fitted}
 use Rattle.rows.specs.Tags.{tag, tagNumber}
@@ -52,7 +51,7 @@ claimIn s starts layout = record {
 unfoldable pub openingControl : Bytes → ℕ → List ℕ → Bytes
 openingControl s separator segments =
     cond (ltb (length segments) segmentWidth) []
-    (cond (ltb (length s) (getD segments 1 0)) [] (getD (pieces separator (take (getD segments 1 0) s)) 2 []))
+    (cond (ltb (length s) (getD segments 1 0)) [] (getD (elementsOf separator (take (getD segments 1 0) s)) 2 []))
 
 -- the tests of an SE, by the layout, the tables and what the reader carries
 abbrev pub closingIn : Bytes → ℕ → List ℕ → Layout → (segments levels : List ℕ) → State → List Check

@@ -21,14 +21,14 @@ Inv-levels s separator segments levels count id left₀ left = Seeks s separator
 abbrev μ-levels : tie.MeasureT-levels
 μ-levels s separator segments levels count id left₀ left = left
 
-element-span-requires : tie.Need-element-span-requires Inv-loop μ-loop Inv-levels μ-levels
-element-span-requires c κs = search needs
+piece-span-requires : tie.Need-piece-span-requires Inv-loop μ-loop Inv-levels μ-levels
+piece-span-requires c κs = search needs
 
 returns : tie.Need-returns Inv-loop μ-loop Inv-levels μ-levels
 returns c =
     let a = c .before .before .before .before .before .before .before .args in
     sought-unfree (a .s .now) (a .separator) (a .segments .now) (a .levels .now) (a .count) (a .id .now)
-    (c .before .before .element-span .result) (c .before .before .element-span .ensures) (c .if1 .taken)
+    (c .before .before .piece-span .result) (c .before .before .piece-span .ensures) (c .if1 .taken)
 
 level-count-requires : tie.Need-level-count-requires Inv-loop μ-loop Inv-levels μ-levels
 level-count-requires c κs = search needs
@@ -37,8 +37,8 @@ levels-holds : tie.Need-levels-holds Inv-loop μ-loop Inv-levels μ-levels
 levels-holds c =
     let a = c .before .before .before .before .before .before .before .before .args in
     seeks-all (a .s .now) (a .separator) (a .segments .now) (a .levels .now) (a .count) (a .id .now)
-    (c .before .before .before .element-span .result) (c .level-count .result)
-    (c .before .before .before .element-span .ensures) (c .before .if1 .left) (c .level-count .ensures)
+    (c .before .before .before .piece-span .result) (c .level-count .result)
+    (c .before .before .before .piece-span .ensures) (c .before .if1 .left) (c .level-count .ensures)
 
 sub-left : tie.Need-sub-left Inv-loop μ-loop Inv-levels μ-levels
 sub-left c = search needs
@@ -115,7 +115,7 @@ find-level-spec =
     μ-loop
     Inv-levels
     μ-levels
-    element-span-requires
+    piece-span-requires
     returns
     level-count-requires
     levels-holds

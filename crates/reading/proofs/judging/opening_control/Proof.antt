@@ -3,7 +3,7 @@
 use mathlib.Core.Path.{sym, _∙_}
 use lib.Seq.{length-take-le}
 use borrow.Author.Tests.{lt-ltb, le-ltb}
-use Rattle.text.proofs.Spans.{lies}
+use Rattle.text.proofs.BinSpans.{lies-element}
 use Rattle.reading.specs.internal.Judgements.{openingControl}
 use borrow.Author.Needs.{needs}
 use Rattle.reading.proofs.judging.opening_control.Statement.{statement}
@@ -48,7 +48,7 @@ returns-3 : tie.Need-returns-3
 unfolding openingControl
 returns-3 c =
     rw (le-ltb _ _ (c .before .before .before .before .if1 .left), le-ltb _ _ (c .before .before .if2 .left))
-    (c .element .ensures .content ∙ lies (c .before .before .before .before .before .before .before .args .separator) _ 2 .holds)
+    (c .element .ensures .content ∙ lies-element (c .before .before .before .before .before .before .before .args .separator) _ 2 .holds)
 
 pub opening-control-spec : {M : Type 1} → statement M
 opening-control-spec =

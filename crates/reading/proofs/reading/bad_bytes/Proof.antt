@@ -22,25 +22,26 @@ byte-verdict-requires c κs = search needs
 enum-known-number : tie.Need-enum-known-number
 enum-known-number c = search needs
 
-add-t14 : tie.Need-add-t14
-add-t14 c = search needs
+refused-requires : tie.Need-refused-requires
+refused-requires c κs = search needs
 
 enum-told : tie.Need-enum-told
 enum-told c = search needs
 
-refused-requires : tie.Need-refused-requires
-refused-requires c κs = search needs
+refused-requires-2 : tie.Need-refused-requires-2
+refused-requires-2 c κs = search needs
 
 returns : tie.Need-returns
 returns c =
-    let a = c .before .before .before .before .before .before .args in
-    ap (λ (d : Verdict). refusedBy d (a .count) (a .at)) (sym (c .before .number .given .1) ∙ c .before .before .before .byte-verdict .ensures)
+    let found = c .before .before in
+    let a = found .before .before .before .before .before .args in
+    c .refused .ensures ∙ ap (λ (d : Verdict). refusedBy d (a .count) (a .at)) (sym (found .number .given .1) ∙ found .before .before .byte-verdict .ensures)
 
 returns-2 : tie.Need-returns-2
 returns-2 c =
-    let a = c .before .before .before .before .before .before .args in
-    c .refused .ensures
-    ∙ ap (λ (d : Verdict). refusedBy d (a .count) (a .at)) (sym (c .before .enum-told .given .1) ∙ c .before .before .before .byte-verdict .ensures)
+    let told = c .before in
+    let a = told .before .before .before .before .before .args in
+    c .refused2 .ensures ∙ ap (λ (d : Verdict). refusedBy d (a .count) (a .at)) (sym (told .enum-told .given .1) ∙ told .before .before .byte-verdict .ensures)
 
 pub bad-bytes-spec : {M : Type 1} → statement M
 bad-bytes-spec =
@@ -51,8 +52,8 @@ bad-bytes-spec =
     part-byte-verdict-end
     byte-verdict-requires
     enum-known-number
-    add-t14
-    enum-told
     refused-requires
+    enum-told
+    refused-requires-2
     returns
     returns-2)

@@ -6,7 +6,7 @@ use native.Mathlib.Omega.{arith}
 use lib.ListN.{length}
 use borrow.Author.Needs.{needs}
 use Rattle.reading.specs.internal.Loop.{Going}
-use Rattle.reading.proofs.reader.Going.{going-start, segments-few, segments-same, levels-same, open-refuses, bad-within, bad-refuses, cut-good, good-forward, good-within, good-inside, in-room, settled-done, settled-passed}
+use Rattle.reading.proofs.reader.Going.{going-start, segments-few, segments-same, levels-same, open-refuses, broken-refuses, bad-within, bad-refuses, cut-good, good-forward, good-within, good-inside, in-room, settled-done, settled-passed}
 use Rattle.reading.proofs.reading.read_on.Statement.{statement}
 use Rattle.reading.proofs.reading.read_on.Tie as tie
 
@@ -79,7 +79,27 @@ same-length-4 c = levels-same (c .before .before .before .before .before .before
 returns-2 : tie.Need-returns-2 Inv-loop μ-loop
 returns-2 c =
     let cut = c .before .before .before .before in
-    bad-refuses (cut .before .before .before .loop .inv .stands) _ _ _ _ (cut .next-segment .ensures) _ (c .before .before .end .given .1) _ (c .bad-bytes .ensures)
+    bad-refuses (cut .before .before .before .loop .inv .stands) _ _ _ _ (cut .next-segment .ensures) _ (c .before .before .end .given .1) (start (cut .before .before .before) .pre .0) _ (c .bad-bytes .ensures)
+
+enum-known-element : tie.Need-enum-known-element Inv-loop μ-loop
+enum-known-element c = search needs
+
+refused-requires-2 : tie.Need-refused-requires-2 Inv-loop μ-loop
+refused-requires-2 c κs =
+    let at = c .before .before .before .before .before .before in
+    omega (arith, segments-few (at .loop .inv .stands), start at .good .1 .1 .1 .1 .0)
+
+same-length-5 : tie.Need-same-length-5 Inv-loop μ-loop
+same-length-5 c = segments-same (c .before .before .before .before .before .before .before .loop .inv .stands)
+
+same-length-6 : tie.Need-same-length-6 Inv-loop μ-loop
+same-length-6 c = levels-same (c .before .before .before .before .before .before .before .loop .inv .stands)
+
+returns-3 : tie.Need-returns-3 Inv-loop μ-loop
+returns-3 c =
+    let cut = c .before .before .before .before in
+    rw (c .refused2 .ensures)
+    (broken-refuses (cut .before .before .before .loop .inv .stands) _ _ _ _ (cut .next-segment .ensures) _ (c .before .before .element .given .1))
 
 enum-known-layout : tie.Need-enum-known-layout Inv-loop μ-loop
 enum-known-layout c = search needs
@@ -99,18 +119,18 @@ settle-requires c κs =
 enum-known-answer : tie.Need-enum-known-answer Inv-loop μ-loop
 enum-known-answer c = search needs
 
-same-length-5 : tie.Need-same-length-5 Inv-loop μ-loop
-same-length-5 c =
+same-length-7 : tie.Need-same-length-7 Inv-loop μ-loop
+same-length-7 c =
     let at = looped (laid (judged (c .before .before .before .before .before .before .before))) in
     search (needs, segments-same (at .loop .inv .stands))
 
-same-length-6 : tie.Need-same-length-6 Inv-loop μ-loop
-same-length-6 c =
+same-length-8 : tie.Need-same-length-8 Inv-loop μ-loop
+same-length-8 c =
     let at = looped (laid (judged (c .before .before .before .before .before .before .before))) in
     search (needs, levels-same (at .loop .inv .stands))
 
-returns-3 : tie.Need-returns-3 Inv-loop μ-loop
-returns-3 c =
+returns-4 : tie.Need-returns-4 Inv-loop μ-loop
+returns-4 c =
     let settled = c .before .before .before .before .before .before .before in
     let said = judged settled in
     let at = laid said in
@@ -145,7 +165,7 @@ loop-again c =
       stands = settled-passed good (looped at .loop .inv .stands) (start (looped at) .pre .0) _ (said .judge .ensures) _ _ _ (settled .settle .ensures) _
           (c .before .before .next .given .1);
       ready = good .ready;
-      room = good .laid .room;
+      room = good .cut-as .laid .room;
     }
 
 pub read-on-spec : {M : Type 1} → statement M
@@ -166,13 +186,18 @@ read-on-spec =
     same-length-3
     same-length-4
     returns-2
+    enum-known-element
+    refused-requires-2
+    same-length-5
+    same-length-6
+    returns-3
     enum-known-layout
     judge-requires
     settle-requires
     enum-known-answer
-    same-length-5
-    same-length-6
-    returns-3
+    same-length-7
+    same-length-8
+    returns-4
     enum-known-next
     add-at
     loop-less
