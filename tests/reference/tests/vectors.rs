@@ -31,7 +31,7 @@ fn names_and_limits() {
     assert_eq!(
         names,
         [
-            "answers", "astray", "bounds", "long", "lookups", "pairs", "rewriting", "rooms",
+            "answers", "astray", "attached", "bounds", "long", "lookups", "pairs", "rewriting", "rooms",
             "rowsa", "rowsb", "rowsc", "rowsd", "separators", "truncated", "worked"
         ]
     );
