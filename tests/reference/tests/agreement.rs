@@ -70,7 +70,7 @@ fn accepted_bins<'a>(case: &'a Case, answer: Answer, segments: &'a [u64]) -> Vec
 fn bins_come_in_every_way() {
     let mut refused: BTreeMap<(usize, usize), usize> = BTreeMap::new();
     let mut cut_as_before = BTreeSet::new();
-    let (mut whole, mut with_terminator) = (0, 0);
+    let (mut whole, mut with_terminator, mut ended_by_zeros) = (0, 0, 0);
     for seed in 0..CASES / 3 {
         let case = report(seed);
         let (answer, segments, _) = both(&case);
@@ -80,12 +80,14 @@ fn bins_come_in_every_way() {
         let Answer::Refused { number, byte, element, .. } = answer else { continue };
         if number > 2 && begins_bin(&case.input[byte..], case.separators) {
             *refused.entry((number, element)).or_default() += 1;
+            ended_by_zeros += usize::from(case.input[byte + 4..] == [b'0'; 15]);
         } else if number > 2 && case.input[byte..].starts_with(b"BIN") {
             cut_as_before.insert((number, element));
         }
     }
     println!("{whole} whole, {with_terminator} with a terminator inside; refused {refused:?}");
-    assert!(whole > 5_000 && with_terminator > 3_000);
+    println!("{ended_by_zeros} times the input ends with fifteen zeros");
+    assert!(whole > 5_000 && with_terminator > 3_000 && ended_by_zeros > 2);
     // Neither 5 nor 6 looks into BIN02, and a BIN has two elements.
     assert_eq!(refused.keys().copied().collect::<Vec<_>>(), [(3, 0), (7, 0), (10, 1), (10, 2), (17, 0)]);
     assert!(cut_as_before.contains(&(4, 0)) && cut_as_before.contains(&(6, 0)));

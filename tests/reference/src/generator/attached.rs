@@ -83,7 +83,7 @@ fn other_count(random: &mut Random, content: &[u8]) -> Vec<u8> {
         5 => String::new(),
         6 => format!("{right:015}"),
         7 => format!("{right:016}"),
-        8 => "0".repeat(15 + random.below(2)),
+        8 => "0".repeat(15),
         9 => (right + random.below(1000)).to_string(),
         10 => "9".repeat(1 + random.below(17)),
         _ => {
@@ -119,15 +119,44 @@ fn swallow(random: &mut Random, draft: &mut Draft, at: usize) {
     bin[2].extend(next);
 }
 
+/// Where BIN and the element separator stand.
+fn bins(input: &[u8], separators: Separators) -> Vec<usize> {
+    let lead = [b'B', b'I', b'N', separators.element];
+    (0..input.len()).filter(|at| input[*at..].starts_with(&lead)).collect()
+}
+
 /// The place of a byte to damage: any, or one near the start of a BIN.
 pub fn byte_place(random: &mut Random, input: &[u8], separators: Separators) -> usize {
-    let lead = [b'B', b'I', b'N', separators.element];
-    let bins: Vec<usize> = (0..input.len()).filter(|at| input[*at..].starts_with(&lead)).collect();
+    let bins = bins(input, separators);
     if bins.is_empty() || random.chance(60) {
         return random.below(input.len());
     }
     let start = *random.pick(&bins);
     start + random.below((input.len() - start).min(60))
+}
+
+/// The input ends within a BIN, often right behind its count: in the place of one that is there, or
+/// behind a terminator.
+pub fn end_within(random: &mut Random, input: &mut Vec<u8>, separators: Separators) {
+    let mut starts = bins(input, separators);
+    if starts.is_empty() || random.chance(30) {
+        starts = (0..input.len()).filter(|at| input[*at] == separators.terminator).map(|at| at + 1).collect();
+    }
+    if !starts.is_empty() {
+        input.truncate(*random.pick(&starts));
+    }
+    let mut elements = elements(random, separators);
+    if random.chance(60) {
+        elements[0] = other_count(random, &elements[1]);
+    }
+    let behind_count = 4 + elements[0].len();
+    let bin = [vec![b"BIN".to_vec()], elements].concat().join(&separators.element);
+    let length = match random.below(3) {
+        0 => random.below(bin.len() + 1),
+        1 => behind_count,
+        _ => behind_count + random.below(3),
+    };
+    input.extend(bin.iter().take(length));
 }
 
 /// A segment that begins with BIN, and the byte to cut it at, which may be any. Mostly its count ends

@@ -246,12 +246,13 @@ pub fn bytes(random: &mut Random, input: &mut Vec<u8>, separators: Separators, t
             return;
         }
         let at = attached::byte_place(random, input, separators);
-        match random.below(6) {
+        match random.below(7) {
             0 => input[at] ^= 1 << random.below(8),
             1 => input[at] = any_byte(random, separators),
             2 => drop(input.remove(at)),
             3 => input.insert(at, any_byte(random, separators)),
             4 => input.truncate(at),
+            5 => attached::end_within(random, input, separators),
             _ => {
                 let to = at + random.below(input.len() - at + 1);
                 let part = input[at..to].to_vec();
