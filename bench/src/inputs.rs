@@ -9,6 +9,9 @@ const LARGE: usize = 1_000_000;
 /// What opens an item's faults.
 const OPENS: &str = "NCD*1";
 
+/// What a BIN is full of: the separators, and those that it is rewritten to.
+const SEPARATORS: &str = "*:~|^'";
+
 /// A report of about so many bytes with so many levels, each followed by a fault and by line after line.
 fn report(size: usize, levels: usize, mut line: impl FnMut(usize) -> String) -> Vec<u8> {
     let mut report = Report::rooted();
@@ -48,6 +51,37 @@ fn scattered(size: usize, levels: usize, lines: &[&str]) -> Vec<u8> {
     report.close()
 }
 
+/// A BIN of so many bytes, all of them separators.
+fn bin(length: usize) -> String {
+    let bytes: String = SEPARATORS.chars().cycle().take(length).collect();
+    format!("BIN*{length}*{bytes}")
+}
+
+/// A report with one BIN of so many bytes and little else.
+fn one_bin(length: usize) -> Vec<u8> {
+    let mut report = Report::rooted();
+    ["HL*1*R*I*0", OPENS, "EFI*1*PHOTO*JPG", &bin(length)].iter().for_each(|segment| report.add(segment));
+    report.close()
+}
+
+/// A report with so many levels and BINs of 30 to 60 bytes, each in a fault of its own, with another fault before the next:
+/// some 490 bytes for each BIN.
+fn small_bins(bins: usize, levels: usize) -> Vec<u8> {
+    let mut report = Report::rooted();
+    let share = bins / levels;
+    let (before, behind) = FAULT.split_at(5);
+    for number in 0..bins {
+        if number % share == 0 {
+            report.add(&format!("HL*{}*R*I*0", number / share + 1));
+        }
+        before.iter().for_each(|line| report.add(line));
+        report.add("EFI*1*PHOTO*JPG");
+        report.add(&bin(30 + number % 31));
+        behind.iter().chain(&FAULT).chain(&FAULT[..1]).for_each(|line| report.add(line));
+    }
+    report.close()
+}
+
 /// All inputs, the large ones first.
 pub fn inputs() -> Vec<Input> {
     vec![
@@ -58,6 +92,8 @@ pub fn inputs() -> Vec<Input> {
         Input { name: "1 MB, short plain segments", bytes: repeated(LARGE, 50, &SHORT) },
         Input { name: "1 MB, short plain, varied", bytes: varied(LARGE, 50, Values::short) },
         Input { name: "1 MB, long elements", bytes: repeated(LARGE, 50, &LONG) },
+        Input { name: "1 MB, 2,000 small BINs", bytes: small_bins(2_000, 50) },
+        Input { name: "900 KB, one BIN", bytes: one_bin(900_000) },
         Input { name: "100 bytes", bytes: repeated(100, 1, &FAULT[5..6]) },
         Input { name: "1 KB", bytes: repeated(1_000, 2, &FAULT) },
         Input { name: "10 KB", bytes: repeated(10_000, 10, &FAULT) },

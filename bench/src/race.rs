@@ -3,10 +3,13 @@
 use crate::report::Input;
 use crate::sides::{Call, Lent};
 use std::hint::black_box;
-use std::time::Instant;
+use std::time::{Duration, Instant};
 
 /// How many bytes one measurement reads at least, by repeating the input: little, so that some rounds are undisturbed.
 const BYTES_A_MEASUREMENT: usize = 200_000;
+
+/// How long one measurement takes at least: a call that jumps over most of its input is over at once.
+const LEAST: Duration = Duration::from_micros(20);
 
 /// The calls, and the nanoseconds that each took at best.
 pub struct Race {
@@ -56,10 +59,16 @@ impl Race {
 
 /// How long one call takes.
 fn nanoseconds(call: Call, input: &[u8], lent: &mut Lent) -> f64 {
-    let times = BYTES_A_MEASUREMENT.div_ceil(input.len());
-    let start = Instant::now();
-    for _ in 0..times {
-        black_box(call(black_box(input), lent));
+    let mut times = BYTES_A_MEASUREMENT.div_ceil(input.len());
+    loop {
+        let start = Instant::now();
+        for _ in 0..times {
+            black_box(call(black_box(input), lent));
+        }
+        let taken = start.elapsed();
+        if taken >= LEAST {
+            return taken.as_nanos() as f64 / times as f64;
+        }
+        times *= 8;
     }
-    start.elapsed().as_nanos() as f64 / times as f64
 }

@@ -3,7 +3,7 @@
 use crate::outcome::Sizes;
 use crate::rewriting;
 use crate::tally::Tally;
-use reference::generator::{report, Case, Random};
+use reference::generator::{counted_segment, report, Case, Random};
 use reference::Separators;
 
 const W1: &[u8] = b"ST*842*0001~BNR*11*NR7*20240301~HL*1**RP*1~HL*2*1*I*0~NCD*1~NCA**R1~SE*7*0001~";
@@ -13,7 +13,7 @@ const EVERY_ROOM_ONE_IN: u64 = 512;
 /// The longest report, in bytes, that is read with every table size.
 const EVERY_ROOM_LONGEST: usize = 600;
 
-/// The case of one seed: its reading, its rewriting, lookups in it, and for some every table size.
+/// The case of one seed: its reading, its rewriting, lookups in it and in a BIN, and for some every table size.
 pub fn generated(tally: &mut Tally, seed: u64) {
     let case = report(seed);
     let name = format!("seed {seed}");
@@ -22,6 +22,7 @@ pub fn generated(tally: &mut Tally, seed: u64) {
     let sets = [case.separators, case.new];
     rewriting::compare(tally, &name, &case.input, sets, Sizes { output: case.output_length, ..sizes });
     look_up(tally, &name, &case);
+    look_up_bin(tally, &name, &case);
     if seed.is_multiple_of(EVERY_ROOM_ONE_IN) && case.input.len() <= EVERY_ROOM_LONGEST {
         every_room(tally, &name, &case.input, case.separators);
     }
@@ -42,6 +43,26 @@ fn look_up(tally: &mut Tally, name: &str, case: &Case) {
         tally.look_up(name, part, separator, random.number());
         tally.look_up(name, part, separator, u64::MAX);
         tally.look_up(name, &[], separator, 0);
+    }
+}
+
+/// Lookups in a segment that begins with BIN, by the byte behind its tag and by any other; and by the element separator in
+/// the rest of the case's input from a BIN on, up to a place that a count may or may not end with.
+fn look_up_bin(tally: &mut Tally, name: &str, case: &Case) {
+    let mut random = Random::new(case.seed ^ 0xB1);
+    let (segment, separator) = counted_segment(&mut random);
+    let other = random.below(256) as u8;
+    for number in [0, 1, 2, 3, random.below(40) as u64] {
+        tally.look_up(name, &segment, separator, number);
+    }
+    tally.look_up(name, &segment, other, random.below(4) as u64);
+    let element = case.separators.element;
+    let input = &case.input[..case.input.len().min(20_000)];
+    let Some(from) = input.windows(4).position(|bytes| bytes == [b'B', b'I', b'N', element]) else { return };
+    let rest = &input[from..];
+    let ends = (0..rest.len()).filter(|at| rest[*at] == case.separators.terminator).take(6);
+    for end in ends.flat_map(|end| [end.saturating_sub(1), end, end + 1]) {
+        tally.look_up(name, &rest[..end], element, 1 + random.below(3) as u64);
     }
 }
 

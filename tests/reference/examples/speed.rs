@@ -33,6 +33,17 @@ fn faults(count: usize) -> Vec<u8> {
     text.into_bytes()
 }
 
+/// A report with one item and so many BINs of so many bytes, all of them separators.
+fn bins(count: usize, length: usize) -> Vec<u8> {
+    let separators: String = "*:~".chars().cycle().take(length).collect();
+    let mut text = String::from("ST*842*0001~BNR*11*NR7*20240301~HL*1**RP*1~HL*2*1*I*0~");
+    for fault in 0..count {
+        text += &format!("NCD*{fault}*A~EFI*1*JPG~BIN*{length}*{separators}~");
+    }
+    text += &format!("SE*{}*0001~", 4 + 3 * count + 1);
+    text.into_bytes()
+}
+
 fn measure(name: &str, input: &[u8], times: usize) {
     let mut segments = vec![0; 3 * 200_000];
     let mut levels = vec![0; 4 * 20_000];
@@ -56,6 +67,8 @@ fn main() {
         ("1000 items", items(1000), 50),
         ("4000 items", items(4000), 5),
         ("10000 faults", faults(10_000), 20),
+        ("2000 BINs", bins(2_000, 45), 500),
+        ("one BIN", bins(1, 900_000), 100_000),
     ];
     for (name, input, times) in &reports {
         if only.as_ref().is_none_or(|only| only == name) {

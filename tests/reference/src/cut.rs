@@ -1,6 +1,8 @@
 //! Cutting one segment into its tag and elements, in one pass over its bytes
-//! (document 01, "Bytes, separators, segments").
+//! (document 01, "Bytes, separators, segments"); a BIN by its count (document 02, Item 1).
 
+use crate::answer::Fault;
+use crate::attached;
 use crate::separators::Separators;
 
 /// A digit.
@@ -18,8 +20,11 @@ pub const ELEMENT: u8 = 32;
 /// The terminator.
 pub const TERMINATOR: u8 = 64;
 
-/// The kind of every byte under one set of separators.
-pub struct Kinds([u8; 256]);
+/// A set of separators, and the kind of every byte under it.
+pub struct Kinds {
+    separators: Separators,
+    kinds: [u8; 256],
+}
 
 /// The kind of every byte before any separator is set apart.
 static UNSEPARATED: [u8; 256] = unseparated();
@@ -45,12 +50,12 @@ impl Kinds {
         kinds[usize::from(separators.element)] = ELEMENT;
         kinds[usize::from(separators.component)] = COMPONENT;
         kinds[usize::from(separators.terminator)] = TERMINATOR;
-        Kinds(kinds)
+        Kinds { separators, kinds }
     }
 
     #[inline(always)]
     fn of(&self, byte: u8) -> u8 {
-        self.0[usize::from(byte)]
+        self.kinds[usize::from(byte)]
     }
 }
 
@@ -94,14 +99,40 @@ impl Cut {
         }
     }
 
-    /// Cuts the segment that starts at `start`. False if no terminator comes.
-    #[inline]
-    pub fn segment(&mut self, input: &[u8], start: usize, kinds: &Kinds) -> bool {
+    /// Cuts the segment that starts at `start`: a BIN by its count, any other at the next terminator.
+    #[inline(always)]
+    pub(crate) fn segment(&mut self, input: &[u8], start: usize, kinds: &Kinds) -> Result<(), Fault> {
         let rest = input.get(start..).unwrap_or(&[]);
         self.start = start;
         self.present = 0;
         self.bad = None;
         self.hollow = None;
+        if attached::begins(rest, kinds.separators.element) {
+            self.counted(rest, kinds.separators)
+        } else if self.terminated(rest, kinds) {
+            Ok(())
+        } else {
+            Err(Fault::new(3, 0))
+        }
+    }
+
+    /// Notes the three pieces of a BIN. It is a plain segment, whose kinds of bytes are never asked for.
+    /// Kept apart from the loop over the bytes of all other segments.
+    #[inline(never)]
+    fn counted(&mut self, rest: &[u8], separators: Separators) -> Result<(), Fault> {
+        let content = attached::whole(rest, separators)?;
+        let ends = [3, content.start - 1, content.end];
+        self.ends[..3].copy_from_slice(&ends.map(|end| self.start + end));
+        self.present = 0b111;
+        self.elements = 2;
+        self.end = self.start + content.end;
+        Ok(())
+    }
+
+    /// Cuts at the next terminator. False if none comes.
+    #[inline(always)]
+    fn terminated(&mut self, rest: &[u8], kinds: &Kinds) -> bool {
+        let start = self.start;
         let mut piece = 0;
         let mut began = 0;
         let mut held = 0;
@@ -179,9 +210,15 @@ impl Cut {
 mod tests {
     use super::*;
 
-    fn cut(text: &[u8]) -> Option<Cut> {
+    fn cut(text: &[u8]) -> Result<Cut, Fault> {
         let mut cut = Cut::new();
-        cut.segment(text, 0, &Kinds::new(Separators::STANDARD)).then_some(cut)
+        cut.segment(text, 0, &Kinds::new(Separators::STANDARD)).map(|()| cut)
+    }
+
+    fn cut_from(text: &[u8], start: usize) -> Cut {
+        let mut cut = Cut::new();
+        cut.segment(text, start, &Kinds::new(Separators::STANDARD)).unwrap();
+        cut
     }
 
     #[test]
@@ -200,8 +237,8 @@ mod tests {
 
     #[test]
     fn faults_are_noted_at_the_first_place() {
-        assert!(cut(b"HL*1").is_none());
-        assert!(cut(b"").is_none());
+        assert_eq!(cut(b"HL*1").err(), Some(Fault::new(3, 0)));
+        assert_eq!(cut(b"").err(), Some(Fault::new(3, 0)));
         assert_eq!(cut(b"HL*1*\n*\n~").unwrap().bad, Some(2));
         assert_eq!(cut(b"\x80L*1*\n~").unwrap().bad, Some(0));
         assert_eq!(cut(b"HL*1:*A:~").unwrap().hollow, Some(1));
@@ -221,5 +258,25 @@ mod tests {
         let cut = cut(&text).unwrap();
         assert_eq!(cut.elements, 200);
         assert_eq!(cut.element(&text, 31), b"AB");
+    }
+    #[test]
+    fn a_bin_has_two_elements_whatever_its_bytes_are() {
+        let text = b"EFI*1~BIN*007*~\0*:\xFF::~";
+        let cut = cut_from(text, 6);
+        assert_eq!((cut.start, cut.end, cut.elements, cut.bad, cut.hollow), (6, 21, 2, None, None));
+        assert_eq!(cut.tag(text), b"BIN");
+        assert_eq!(cut.element(text, 1), b"007");
+        assert_eq!(cut.element(text, 2), b"~\0*:\xFF::");
+        assert!(cut.has(1) && cut.has(2) && !cut.has(3));
+    }
+
+    #[test]
+    fn a_bin_is_broken_at_the_first_byte_that_breaks_it() {
+        assert_eq!(cut(b"BIN*").err(), Some(Fault::new(3, 0)));
+        assert_eq!(cut(b"BIN**").err(), Some(Fault::new(10, 1)));
+        assert_eq!(cut(b"BIN*2*A").err(), Some(Fault::new(3, 0)));
+        assert_eq!(cut(b"BIN*2*A~").err(), Some(Fault::new(3, 0)));
+        assert_eq!(cut(b"BIN*2*A~A").err(), Some(Fault::new(10, 2)));
+        assert_eq!(cut(b"BIN~").unwrap().elements, 0);
     }
 }

@@ -1,10 +1,12 @@
-//! A reader of X12 842 nonconformance reports, written from the rules of document 01 alone, to
-//! compare another reader with: the same answers, the same tables, the same output.
+//! A reader of X12 842 nonconformance reports, written from the rules of document 01 and of document
+//! 02, Item 1, alone, to compare another reader with: the same answers, the same tables, the same
+//! output.
 //!
 //! `read` is made for speed: one pass, no allocation. `plain::read_plain` says the same in the
 //! plainest way, from the words of the paper, and the tests hold the two together.
 
 mod answer;
+mod attached;
 mod cut;
 mod elements;
 pub mod generator;

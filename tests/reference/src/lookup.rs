@@ -1,9 +1,21 @@
-//! Looking up elements and components (document 01, after rewriting). Neither refuses.
+//! Looking up elements and components (document 01, after rewriting; document 02, Item 1). Neither
+//! refuses.
+
+use crate::attached;
 
 /// Where an element of a segment starts, and its length. Number 0 is the tag; a number past the
-/// last gives the empty part at the end.
+/// last gives the empty part at the end. A BIN whose count ends exactly with the segment's bytes has
+/// two elements, BIN02 whole; every other segment is cut at each separator.
 pub fn element_span(segment: &[u8], element: u8, number: usize) -> (usize, usize) {
-    piece(segment, element, number)
+    let Some(content) = attached::content(segment, element) else {
+        return piece(segment, element, number);
+    };
+    match number {
+        0 => (0, 3),
+        1 => (4, content - 5),
+        2 => (content, segment.len() - content),
+        _ => (segment.len(), 0),
+    }
 }
 
 /// Where a component of an element starts, and its length, numbered from 1. Number 0, or one past

@@ -70,9 +70,7 @@ impl<'a> Reader<'a> {
         let mut cut = Cut::new();
         let mut start = 0;
         loop {
-            let taken =
-                if cut.segment(self.input, start, &kinds) { self.take(&cut) } else { Err(Fault::new(3, 0)) };
-            match taken {
+            match cut.segment(self.input, start, &kinds).and_then(|()| self.take(&cut)) {
                 Err(Fault { number, element }) => {
                     return Answer::Refused { number, segment: self.count + 1, byte: start, element };
                 }

@@ -2,7 +2,7 @@
 
 use reference::generator::{report, Case};
 use reference::plain::read_plain;
-use reference::{read, rewrite, Answer, LONGEST};
+use reference::{read, rewrite, Answer, Separators, LONGEST};
 use std::collections::{BTreeMap, BTreeSet};
 
 fn tables(case: &Case) -> (Vec<u64>, Vec<u64>) {
@@ -21,6 +21,11 @@ fn both(case: &Case) -> (Answer, Vec<u64>, Vec<u64>) {
     assert_eq!(segments, plain_segments, "seed {}", case.seed);
     assert_eq!(levels, plain_levels, "seed {}", case.seed);
     (answer, segments, levels)
+}
+
+/// Whether these bytes begin with BIN and the element separator.
+fn begins_bin(bytes: &[u8], set: Separators) -> bool {
+    bytes.starts_with(&[b'B', b'I', b'N', set.element])
 }
 
 const CASES: u64 = 60_000;
@@ -49,6 +54,43 @@ fn both_readers_agree_and_every_answer_and_row_comes() {
     for key in [(14, 2), (14, 3), (15, 0), (15, 2), (15, 4), (16, 1), (16, 2), (9, 5), (8, 5), (10, 5)] {
         assert!(answers.contains_key(&key), "answer {key:?} never came");
     }
+}
+
+/// The BINs that were accepted.
+fn accepted_bins<'a>(case: &'a Case, answer: Answer, segments: &'a [u64]) -> Vec<&'a [u8]> {
+    let count = match answer {
+        Answer::Accepted { segments, .. } => segments,
+        Answer::Refused { segment, .. } => segment.saturating_sub(1),
+    };
+    let bins = segments.chunks(3).take(count).filter(|record| record[2] == 55);
+    bins.map(|record| &case.input[record[0] as usize..][..record[1] as usize]).collect()
+}
+
+#[test]
+fn bins_come_in_every_way() {
+    let mut refused: BTreeMap<(usize, usize), usize> = BTreeMap::new();
+    let mut cut_as_before = BTreeSet::new();
+    let (mut whole, mut with_terminator, mut ended_by_zeros) = (0, 0, 0);
+    for seed in 0..CASES / 3 {
+        let case = report(seed);
+        let (answer, segments, _) = both(&case);
+        let bins = accepted_bins(&case, answer, &segments);
+        whole += bins.len();
+        with_terminator += bins.iter().filter(|bin| bin.contains(&case.separators.terminator)).count();
+        let Answer::Refused { number, byte, element, .. } = answer else { continue };
+        if number > 2 && begins_bin(&case.input[byte..], case.separators) {
+            *refused.entry((number, element)).or_default() += 1;
+            ended_by_zeros += usize::from(case.input[byte + 4..] == [b'0'; 15]);
+        } else if number > 2 && case.input[byte..].starts_with(b"BIN") {
+            cut_as_before.insert((number, element));
+        }
+    }
+    println!("{whole} whole, {with_terminator} with a terminator inside; refused {refused:?}");
+    println!("{ended_by_zeros} times the input ends with fifteen zeros");
+    assert!(whole > 5_000 && with_terminator > 3_000 && ended_by_zeros > 2);
+    // Neither 5 nor 6 looks into BIN02, and a BIN has two elements.
+    assert_eq!(refused.keys().copied().collect::<Vec<_>>(), [(3, 0), (7, 0), (10, 1), (10, 2), (17, 0)]);
+    assert!(cut_as_before.contains(&(4, 0)) && cut_as_before.contains(&(6, 0)));
 }
 
 #[test]
@@ -103,65 +145,78 @@ fn both_readers_agree_on_every_cut_and_every_changed_byte() {
     }
 }
 
-/// The elements of the segments: pieces of pieces of pieces.
-fn elements(bytes: &[u8], set: reference::Separators) -> Vec<Vec<Vec<Vec<u8>>>> {
-    bytes[..bytes.len() - 1]
-        .split(|byte| *byte == set.terminator)
-        .map(|segment| {
-            segment
-                .split(|byte| *byte == set.element)
-                .map(|element| element.split(|byte| *byte == set.component).map(<[u8]>::to_vec).collect())
-                .collect()
-        })
+/// The elements of one segment, each with its components. BIN02 is one component.
+fn elements(segment: &[u8], set: Separators) -> Vec<Vec<Vec<u8>>> {
+    if begins_bin(segment, set) {
+        return segment.splitn(3, |byte| *byte == set.element).map(|piece| vec![piece.to_vec()]).collect();
+    }
+    segment
+        .split(|byte| *byte == set.element)
+        .map(|element| element.split(|byte| *byte == set.component).map(<[u8]>::to_vec).collect())
         .collect()
+}
+
+/// The elements of all segments of an accepted report.
+fn all_elements(bytes: &[u8], records: &[u64], count: usize, set: Separators) -> Vec<Vec<Vec<Vec<u8>>>> {
+    let bounds = records.chunks(3).take(count).map(|record| (record[0] as usize, record[1] as usize));
+    bounds.map(|(start, length)| elements(&bytes[start..start + length], set)).collect()
+}
+
+/// Whether a byte of these elements, BIN02 left out, is one of the set.
+fn collides(segments: &[Vec<Vec<Vec<u8>>>], set: Separators) -> bool {
+    let looked_at = segments.iter().flat_map(|elements| {
+        let looked_at = if elements[0] == [b"BIN"] { 2 } else { elements.len() };
+        &elements[..looked_at]
+    });
+    looked_at.flatten().flatten().any(|byte| set.holds(*byte))
+}
+
+/// Rewrites, checks tables and output against the reading, and gives the answer.
+fn rewritten(case: &Case) -> Answer {
+    let (reading, segments, levels) = both(case);
+    let (mut own_segments, mut own_levels) = tables(case);
+    let before: Vec<u8> = (0..case.output_length).map(|at| (at * 7 + 3) as u8).collect();
+    let mut output = before.clone();
+    let answer =
+        rewrite(&case.input, case.separators, case.new, &mut own_segments, &mut own_levels, &mut output);
+    let [number, _, _, element] = answer.numbers();
+    if number != 0 {
+        assert_eq!(output, before);
+    }
+    if number == 1 {
+        assert_eq!((own_segments, own_levels), tables(case));
+        assert_eq!(element, u64::from(case.separators.fit()));
+        assert!(!case.separators.fit() || !case.new.fit());
+        return answer;
+    }
+    assert_eq!((&own_segments, &own_levels), (&segments, &levels), "seed {}", case.seed);
+    let Answer::Accepted { segments: count, bytes, .. } = reading else {
+        assert_eq!(answer, reading);
+        return answer;
+    };
+    let elements = all_elements(&case.input, &segments, count, case.separators);
+    let collides = collides(&elements, case.new);
+    match number {
+        18 => assert!(collides),
+        19 => assert!(!collides && case.output_length < bytes && answer.numbers() == [19, 0, 0, 0]),
+        _ => {
+            assert!(!collides && case.output_length >= bytes && answer == reading);
+            assert_eq!(elements, all_elements(&output, &segments, count, case.new));
+            assert_eq!(output[bytes..], before[bytes..]);
+            assert!(case.new != case.separators || output[..bytes] == case.input[..bytes]);
+            let again = Case { input: output[..bytes].to_vec(), separators: case.new, ..case.clone() };
+            assert_eq!(both(&again), (reading, segments, levels), "seed {}", case.seed);
+        }
+    }
+    answer
 }
 
 #[test]
 fn rewriting_keeps_its_laws() {
     let mut came = BTreeMap::new();
     for seed in 0..20_000 {
-        let case = report(seed);
-        let (reading, segments, levels) = both(&case);
-        let (mut own_segments, mut own_levels) = tables(&case);
-        let before: Vec<u8> = (0..case.output_length).map(|at| (at * 7 + 3) as u8).collect();
-        let mut output = before.clone();
-        let answer =
-            rewrite(&case.input, case.separators, case.new, &mut own_segments, &mut own_levels, &mut output);
-        let [number, _, _, element] = answer.numbers();
+        let [number, _, _, element] = rewritten(&report(seed)).numbers();
         *came.entry((number, if number == 0 { 0 } else { element.min(3) })).or_insert(0) += 1;
-        if number == 1 {
-            assert_eq!((own_segments, own_levels), tables(&case));
-            assert_eq!(element, u64::from(case.separators.fit()));
-            assert!(!case.separators.fit() || !case.new.fit());
-            assert_eq!(output, before);
-            continue;
-        }
-        assert_eq!((own_segments, own_levels), (segments, levels), "seed {seed}");
-        let Answer::Accepted { bytes, .. } = reading else {
-            assert_eq!(answer, reading);
-            assert_eq!(output, before);
-            continue;
-        };
-        let used = &case.input[..bytes];
-        let collides = used.iter().any(|byte| case.new.holds(*byte) && !case.separators.holds(*byte));
-        match number {
-            18 => assert!(collides),
-            19 => assert!(!collides && case.output_length < bytes && answer.numbers() == [19, 0, 0, 0]),
-            _ => assert!(!collides && case.output_length >= bytes && answer == reading),
-        }
-        if number != 0 {
-            assert_eq!(output, before);
-            continue;
-        }
-        assert_eq!(output[bytes..], before[bytes..]);
-        assert_eq!(elements(used, case.separators), elements(&output[..bytes], case.new));
-        if case.new == case.separators {
-            assert_eq!(output[..bytes], *used);
-        }
-        let rewritten = Case { input: output[..bytes].to_vec(), separators: case.new, ..case.clone() };
-        let (again, segments_again, levels_again) = both(&rewritten);
-        let (segments, levels) = (both(&case).1, both(&case).2);
-        assert_eq!((again, segments_again, levels_again), (reading, segments, levels), "seed {seed}");
     }
     println!("{came:?}");
     for key in [(0, 0), (1, 0), (1, 1), (18, 1), (18, 2), (18, 3), (19, 0)] {
@@ -169,6 +224,20 @@ fn rewriting_keeps_its_laws() {
     }
     // A tag has only letters and digits, which no separator is.
     assert!(!came.contains_key(&(18, 0)));
+}
+
+/// Where the segment ends that starts at this byte: behind its terminator. A BIN ends at the first byte
+/// with which its answer is no longer 3.
+fn end_of_segment(case: &Case, start: usize) -> usize {
+    let rest = &case.input[start..];
+    if !begins_bin(rest, case.separators) {
+        return start + rest.iter().position(|byte| *byte == case.separators.terminator).unwrap() + 1;
+    }
+    let ended = |end: &usize| {
+        let cut = Case { input: case.input[..*end].to_vec(), ..case.clone() };
+        both(&cut).0.numbers()[0] != 3
+    };
+    (start..=case.input.len()).find(ended).unwrap()
 }
 
 #[test]
@@ -183,10 +252,7 @@ fn a_refusal_stands_whatever_follows_and_with_more_room() {
         }
         let end = match answer {
             Answer::Accepted { bytes, .. } => bytes,
-            Answer::Refused { byte, .. } => {
-                let rest = &case.input[byte..];
-                byte + rest.iter().position(|byte| *byte == case.separators.terminator).unwrap() + 1
-            }
+            Answer::Refused { byte, .. } => end_of_segment(&case, byte),
         };
         for tail in [&b""[..], b"~", b"SE*4*0001~", b"\0\xFF garbage"] {
             let mut other = case.clone();

@@ -1,8 +1,10 @@
 //! The vectors keep their limits, say what the paper says, and read back to the same text.
 
+mod plainly;
+
 use reference::plain::read_plain;
 use reference::vectors::{generated, groups, Case, FILE_BYTES, OUTPUT_BYTES, TABLE_NUMBERS};
-use reference::{component_span, element_span, rewrite, Answer, Separators};
+use reference::{component_span, rewrite, Separators};
 use std::collections::BTreeSet;
 
 #[test]
@@ -29,8 +31,8 @@ fn names_and_limits() {
     assert_eq!(
         names,
         [
-            "answers", "astray", "bounds", "long", "lookups", "pairs", "rewriting", "rooms", "rowsa",
-            "rowsb", "rowsc", "rowsd", "separators", "truncated", "worked"
+            "answers", "astray", "attached", "bounds", "long", "lookups", "pairs", "rewriting", "rooms",
+            "rowsa", "rowsb", "rowsc", "rowsd", "separators", "truncated", "worked"
         ]
     );
     let mut names: Vec<String> = Vec::new();
@@ -77,7 +79,7 @@ fn played(name: &str, mut file: &[u8]) -> String {
         if header[0] == 3 || header[0] == 4 {
             assert_eq!(header[2..11], [0; 9]);
             let (start, length) = match header[0] {
-                3 => element_span(input, header[1], asked),
+                3 => plainly::element(input, header[1], asked),
                 _ => component_span(input, header[1], asked),
             };
             out += &format!("span {start} {length}\n");
@@ -92,7 +94,7 @@ fn played(name: &str, mut file: &[u8]) -> String {
                 assert_eq!(asked, 0);
                 read_plain(input, old, &mut segments, &mut levels)
             }
-            2 => plain_rewrite(input, old, new, &mut segments, &mut levels, &mut output),
+            2 => plainly::rewrite(input, old, new, &mut segments, &mut levels, &mut output),
             _ => {
                 let behind = vec![b'~'; number(&header[4..7]) - input.len()];
                 read_plain(&[input, &behind].concat(), old, &mut segments, &mut levels)
@@ -107,56 +109,6 @@ fn played(name: &str, mut file: &[u8]) -> String {
         }
     }
     out
-}
-
-/// Rewriting said plainly once more.
-fn plain_rewrite(
-    input: &[u8],
-    old: Separators,
-    new: Separators,
-    segments: &mut [u64],
-    levels: &mut [u64],
-    output: &mut [u8],
-) -> Answer {
-    let refused = |number, segment, byte, element| Answer::Refused { number, segment, byte, element };
-    if !old.fit() {
-        return refused(1, 0, 0, 0);
-    }
-    if !new.fit() {
-        return refused(1, 0, 0, 1);
-    }
-    let answer = read_plain(input, old, segments, levels);
-    let Answer::Accepted { segments: count, bytes, .. } = answer else { return answer };
-    for segment in 0..count {
-        let (start, length) = (segments[3 * segment] as usize, segments[3 * segment + 1] as usize);
-        let pieces = input[start..start + length].split(|byte| *byte == old.element);
-        for (element, piece) in pieces.enumerate() {
-            let data = |byte: &&u8| **byte != old.component;
-            if piece
-                .iter()
-                .filter(data)
-                .any(|byte| [new.element, new.component, new.terminator].contains(byte))
-            {
-                return refused(18, segment + 1, start, element);
-            }
-        }
-    }
-    if output.len() < bytes {
-        return refused(19, 0, 0, 0);
-    }
-    for at in 0..bytes {
-        output[at] = input[at];
-        if input[at] == old.element {
-            output[at] = new.element;
-        }
-        if input[at] == old.component {
-            output[at] = new.component;
-        }
-        if input[at] == old.terminator {
-            output[at] = new.terminator;
-        }
-    }
-    answer
 }
 
 #[test]
@@ -187,7 +139,7 @@ fn plain_rewriting_agrees_on_generated_reports() {
         };
         let (mut a, mut b) = (lent(), lent());
         let fast = rewrite(&case.input, case.separators, case.new, &mut a.0, &mut a.1, &mut a.2);
-        let plain = plain_rewrite(&case.input, case.separators, case.new, &mut b.0, &mut b.1, &mut b.2);
+        let plain = plainly::rewrite(&case.input, case.separators, case.new, &mut b.0, &mut b.1, &mut b.2);
         assert_eq!((fast, a), (plain, b), "seed {seed}");
     }
 }

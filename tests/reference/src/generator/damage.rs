@@ -1,7 +1,7 @@
 //! Damage to a report, to its segments and elements or to its bytes.
 
 use super::draft::{Draft, Segment, Style};
-use super::Random;
+use super::{attached, Random};
 use crate::rows::{Tag, TAGS};
 use crate::{Separators, CODES};
 
@@ -11,7 +11,7 @@ pub fn segments(random: &mut Random, draft: &mut Draft, times: usize) {
     let style = Style { separators: draft.separators, mixed: random.chance(50) };
     let mut closing_hit = false;
     for _ in 0..times {
-        match random.below(14) {
+        match random.below(16) {
             0 => copy_segment(random, draft),
             1 => remove_segment(random, draft),
             2 => swap_segments(random, draft),
@@ -21,6 +21,7 @@ pub fn segments(random: &mut Random, draft: &mut Draft, times: usize) {
             8..=10 => change_level(random, &style, draft),
             11 => change_composite(random, &style, draft),
             12 => clear_element(random, draft),
+            13 | 14 => attached::damage(random, &style, draft),
             _ => {
                 closing_hit = true;
                 change_closing(random, &style, draft);
@@ -238,19 +239,20 @@ pub fn any_byte(random: &mut Random, separators: Separators) -> u8 {
     }
 }
 
-/// Damages bytes so many times.
+/// Damages bytes so many times, some of them in a BIN.
 pub fn bytes(random: &mut Random, input: &mut Vec<u8>, separators: Separators, times: usize) {
     for _ in 0..times {
         if input.is_empty() {
             return;
         }
-        let at = random.below(input.len());
-        match random.below(6) {
+        let at = attached::byte_place(random, input, separators);
+        match random.below(7) {
             0 => input[at] ^= 1 << random.below(8),
             1 => input[at] = any_byte(random, separators),
             2 => drop(input.remove(at)),
             3 => input.insert(at, any_byte(random, separators)),
             4 => input.truncate(at),
+            5 => attached::end_within(random, input, separators),
             _ => {
                 let to = at + random.below(input.len() - at + 1);
                 let part = input[at..to].to_vec();

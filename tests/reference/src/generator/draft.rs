@@ -1,6 +1,6 @@
 //! A valid report as pieces, before it becomes bytes.
 
-use super::Random;
+use super::{attached, Random};
 use crate::rows::{Tag, MOST, NEXT, TAGS};
 use crate::{Separators, CODES};
 
@@ -119,11 +119,13 @@ fn choose(random: &mut Random, tags: &[Tag], budget: usize) -> Tag {
     }
 }
 
-/// NCD and NCA open the deepest loops and are taken more often.
+/// NCD and NCA open the deepest loops, EFI stands before a BIN; these are taken more often.
 fn favoured<'a>(random: &mut Random, tags: &'a [Tag]) -> &'a Tag {
     let deep = tags.iter().find(|tag| matches!(tag, Tag::NCD | Tag::NCA | Tag::SPS));
-    match deep {
-        Some(tag) if random.chance(20) => tag,
+    let before_bin = tags.iter().find(|tag| **tag == Tag::EFI);
+    match (deep, before_bin) {
+        (Some(tag), _) if random.chance(20) => tag,
+        (_, Some(tag)) if random.chance(15) => tag,
         _ => random.pick(tags),
     }
 }
@@ -289,6 +291,7 @@ impl Style {
             Tag::LIN => self.lin(random),
             Tag::NTE => self.nte(random),
             Tag::NCA => self.nca(random),
+            Tag::BIN => attached::elements(random, self.separators),
             _ => self.plain(random),
         });
         trimmed(segment)

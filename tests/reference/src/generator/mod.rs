@@ -1,10 +1,12 @@
 //! Reports made from a seed: valid ones of many shapes, and damaged ones, for a comparison of two
 //! readers. The same seed always gives the same case.
 
+mod attached;
 mod damage;
 mod draft;
 mod random;
 
+pub use attached::counted_segment;
 pub use random::Random;
 
 use crate::{Separators, LONGEST};

@@ -79,6 +79,11 @@ impl Piece {
             components: text.split(|byte| *byte == component).map(<[u8]>::to_vec).collect(),
         }
     }
+
+    /// A piece of one component, whatever its bytes are.
+    pub fn whole(text: &[u8]) -> Piece {
+        Piece { text: text.to_vec(), components: vec![text.to_vec()] }
+    }
 }
 
 /// The rules of the eight ruled segments.

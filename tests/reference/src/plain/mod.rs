@@ -1,4 +1,5 @@
-//! The same reading in the plainest way: slow, allocating, and taken from the words of document 01.
+//! The same reading in the plainest way: slow, allocating, and taken from the words of document 01 and
+//! of document 02, Item 1.
 //!
 //! It shares with the fast reader only the types of the separators and of the answer. The row list
 //! and the element rules are read from the paper's text at run time, and rows are found from the
@@ -6,12 +7,13 @@
 
 mod elements;
 mod rows;
+mod segment;
 
 pub use elements::{rules, Kind, Note, Rule, Rules};
 pub use rows::{candidates, first_ways, parse, Part, Ways, PAPER};
 
 use crate::{Answer, Separators};
-use elements::Piece;
+use segment::Segment;
 
 /// A fault: the answer's number and the element.
 type Fault = (usize, usize);
@@ -28,15 +30,14 @@ pub fn read_plain(input: &[u8], separators: Separators, segments: &mut [u64], le
     let mut start = 0;
     loop {
         let number = reading.accepted.len() + 1;
-        let Some(length) = input[start..].iter().position(|byte| *byte == separators.terminator) else {
-            return refusal(3, number, start, 0);
+        let taken = Segment::first(&input[start..], start, separators)
+            .and_then(|segment| reading.take(segment, segments.len() / 3, levels.len() / 4));
+        let segment = match taken {
+            Ok(segment) => segment,
+            Err((answer, element)) => return refusal(answer, number, start, element),
         };
-        let segment = Segment::cut(&input[start..start + length], start, separators);
-        if let Err((answer, element)) = reading.take(&segment, segments.len() / 3, levels.len() / 4) {
-            return refusal(answer, number, start, element);
-        }
         reading.copy_records(segments, levels);
-        start += length + 1;
+        start += segment.length + 1;
         if segment.tag() == b"SE" {
             return Answer::Accepted { segments: number, levels: reading.levels.len(), bytes: start };
         }
@@ -53,37 +54,6 @@ fn fit(separators: Separators) -> bool {
     let shut_out = b"ABCDEFGHIJKLMNOPQRSTUVWXYZabcdefghijklmnopqrstuvwxyz0123456789 .-";
     let each = three.iter().all(|byte| (1..=126).contains(byte) && !shut_out.contains(byte));
     each && three[0] != three[1] && three[1] != three[2] && three[0] != three[2]
-}
-
-/// A segment cut into pieces: the tag, then the elements.
-struct Segment {
-    start: usize,
-    length: usize,
-    pieces: Vec<Piece>,
-    /// The first piece with a byte neither data nor separator.
-    bad: Option<usize>,
-}
-
-impl Segment {
-    fn cut(bytes: &[u8], start: usize, separators: Separators) -> Segment {
-        let neither = |byte: &u8| !(32..=126).contains(byte) && *byte != separators.component;
-        let texts: Vec<&[u8]> = bytes.split(|byte| *byte == separators.element).collect();
-        Segment {
-            start,
-            length: bytes.len(),
-            bad: texts.iter().position(|text| text.iter().any(neither)),
-            pieces: texts.iter().map(|text| Piece::cut(text, separators.component)).collect(),
-        }
-    }
-
-    fn tag(&self) -> &[u8] {
-        &self.pieces[0].text
-    }
-
-    /// The text of an element; empty where the segment does not have it.
-    fn text(&self, number: usize) -> &[u8] {
-        self.pieces.get(number).map_or(&[], |piece| &piece.text)
-    }
 }
 
 /// A level that was accepted.
@@ -123,18 +93,18 @@ impl Reading {
         }
     }
 
-    /// Tests a segment in the paper's order and takes it in.
-    fn take(&mut self, segment: &Segment, room: usize, level_room: usize) -> Result<(), Fault> {
-        bad_byte(segment)?;
-        unknown_tag(segment)?;
-        empty_ends(segment)?;
-        let (row, ways) = self.row(segment)?;
+    /// Tests a segment in the paper's order, takes it in and gives it back.
+    fn take(&mut self, segment: Segment, room: usize, level_room: usize) -> Result<Segment, Fault> {
+        bad_byte(&segment)?;
+        unknown_tag(&segment)?;
+        empty_ends(&segment)?;
+        let (row, ways) = self.row(&segment)?;
         if let Some(rules) = self.rules.iter().find(|rules| rules.tag.as_bytes() == segment.tag()) {
             rules.check(&segment.pieces, self.separators.component)?;
         }
-        let level = if segment.tag() == b"HL" { Some(self.level(segment)?) } else { None };
+        let level = if segment.tag() == b"HL" { Some(self.level(&segment)?) } else { None };
         if segment.tag() == b"SE" {
-            self.closing(segment)?;
+            self.closing(&segment)?;
         }
         let short = self.accepted.len() == room || (level.is_some() && self.levels.len() == level_room);
         if short {
@@ -146,7 +116,7 @@ impl Reading {
         self.ways = ways;
         self.accepted.push([segment.start, segment.length, row]);
         self.levels.extend(level);
-        Ok(())
+        Ok(segment)
     }
 
     /// 7: no row fits here.

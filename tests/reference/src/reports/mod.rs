@@ -1,6 +1,7 @@
-//! The reports that the program is run on: every kind of answer that it can give, its limits, odd
+//! The reports that the program is run on: every kind of answer that it can give, its limits, BINs, odd
 //! ones, and generated ones. What it must print for them is `listing`'s to say.
 
+mod bins;
 mod limits;
 mod odd;
 
@@ -29,9 +30,10 @@ impl Report {
     }
 
     /// Accepted with so many segments and levels, and all its bytes.
-    fn accepted(name: &str, text: String, segments: u64, levels: u64) -> Report {
-        let bytes = text.len() as u64;
-        Report::told(name, text, [0, segments, levels, bytes])
+    fn accepted<T: Into<Vec<u8>>>(name: &str, input: T, segments: u64, levels: u64) -> Report {
+        let input = input.into();
+        let bytes = input.len() as u64;
+        Report::told(name, input, [0, segments, levels, bytes])
     }
 
     /// Refused with this answer at this segment and element.
@@ -44,13 +46,14 @@ impl Report {
 /// All reports.
 pub fn reports() -> Vec<Report> {
     let of_vectors = groups().into_iter().flat_map(of_vectors);
-    of_vectors.chain(limits::reports()).chain(odd::reports()).chain(generated()).collect()
+    let made = limits::reports().into_iter().chain(bins::reports()).chain(odd::reports());
+    of_vectors.chain(made).chain(generated()).collect()
 }
 
 /// The vectors that the program can be given: readings with the standard separators. Those that lack
 /// room, W10 among them, cannot be: the program's room is its own, and `limits` goes to its end.
 fn of_vectors(group: Group) -> Vec<Report> {
-    if !["answers", "astray", "worked"].contains(&group.name.as_str()) {
+    if !["answers", "astray", "attached", "worked"].contains(&group.name.as_str()) {
         return Vec::new();
     }
     let report = |(number, told): (usize, _)| match told {

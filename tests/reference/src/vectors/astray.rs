@@ -179,7 +179,7 @@ fn loops() -> Vec<Told> {
         accepted(in_level(&["FA1*A", "FA2*B", "FA2*C", "FA1*D", "FA2*E"]), 9, 1),
         refused(in_fault(&["EFI*A"]), 7, 6, 0),
         refused(in_fault(&["EFI*A", "BIN*3*ABC", "BIN*3*ABC"]), 7, 7, 0),
-        accepted(in_fault(&["EFI*A", "BIN*3*ABC", "EFI*A", "BIN*9*A"]), 9, 1),
+        accepted(in_fault(&["EFI*A", "BIN*3*ABC", "EFI*A", "BIN*1*A"]), 9, 1),
         refused(in_fault(&["NTE*GEN*A", "NCA**R1", "LM*A", "LQ*B", "FA1*C", "FA2*D"]), 7, 9, 0),
         refused(in_level(&["NTE*GEN*A"]), 7, 4, 0),
         refused(in_level(&["STA*A"]), 7, 4, 0),

@@ -2,6 +2,7 @@
 
 mod answers;
 mod astray;
+mod attached;
 mod bounds;
 mod case;
 mod generated;
@@ -42,6 +43,7 @@ pub fn groups() -> Vec<Group> {
     let named = [
         ("answers", answers::cases()),
         ("astray", astray::cases()),
+        ("attached", attached::cases()),
         ("bounds", bounds::cases()),
         ("long", long::cases()),
         ("lookups", lookups::cases()),

@@ -64,6 +64,7 @@ fn segment(tag: Tag, number: usize) -> String {
         Tag::LIN => "LIN**BP*A".to_string(),
         Tag::NTE => "NTE**A".to_string(),
         Tag::NCA => "NCA***A".to_string(),
+        Tag::BIN => "BIN*1*A".to_string(),
         _ => format!("{tag:?}*A"),
     }
 }
