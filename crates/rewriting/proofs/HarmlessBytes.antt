@@ -1,7 +1,8 @@
 -- The quick test: bytes tested one by one, and why no segment collides where all are harmless.
 -- Assumes nothing.
 use Prim.Native.Nat.{ℕ, suc, _+_, _≤_, _<_}
-use mathlib.Core.Path.{_≡_, refl, sym, _∙_}
+use mathlib.Core.Path.{_≡_, refl, sym, ap, _∙_}
+use mathlib.Core.Logic.{_⊎_, inl, inr}
 use mathlib.Core.Bool.{Bool, true, false, not, cond, _&&_, _||_}
 use mathlib.Core.List.{List, [], _∷_}
 use native.Mathlib.Omega.{arith}
@@ -10,24 +11,27 @@ use lib.Dec.{T, eqb}
 use lib.ListN.{length, getD, drop, drop-of-length-le}
 use lib.Seq.{drop-cons}
 use Rattle.text.specs.Bytes.{Bytes, every}
-use Rattle.text.specs.Separators.{isSeparator}
+use Rattle.text.specs.Separators.{isSeparator, Fitted}
+use Rattle.text.specs.Bin.{isBin}
 use Rattle.text.specs.Pieces.{closed}
-use Rattle.text.specs.View.{viewOf, empty, elementOf}
-use Rattle.text.specs.Cut.{Placed, Leads}
+use Rattle.text.specs.View.{plainView, viewOf, empty, elementOf}
+use Rattle.text.specs.Cut.{Placed, Leads, Whole, cutOf}
 use Rattle.text.specs.declared.separators.Separators.{Separators}
 use Rattle.text.proofs.Bools.{first-of, second-of, and-assoc, and-true, passes}
 use Rattle.text.proofs.Everys.{every-at, every-both}
-use Rattle.text.proofs.Writable.{cut-unseparated}
+use Rattle.text.proofs.View.{plain-unseparated}
+use Rattle.text.proofs.BinCut.{Plainly, cut-gives}
+use Rattle.text.proofs.Writable.{plain-inspected}
 use Rattle.elements.specs.Checks.{firstBroken}
 use Rattle.elements.specs.declared.verdict.Verdict.{Verdict}
 use Rattle.elements.specs.declared.verdict.Verdict.the-variants.{Holds, Broken}
 use Rattle.elements.proofs.FirstBroken.{each-holds}
 use Rattle.gate.specs.Reads.{cutBy, skipBy}
-use Rattle.rewriting.specs.Rewrites.{strictly, apartFrom, collisionChecks, collision}
+use Rattle.rewriting.specs.Rewrites.{strictly, apartFrom, apartChecks, collisionChecks, collision}
 use Rattle.rewriting.specs.declared.collisions.Clash.the-variants.{Nowhere}
 use Rattle.rewriting.specs.internal.QuickTest.{harmlessByte}
 use Rattle.rewriting.proofs.SegmentBytes.{texts}
-use Rattle.rewriting.proofs.CollidingBytes.{clashFrom, clash-first}
+use Rattle.rewriting.proofs.CollidingBytes.{clashFrom, clash-first, plain-checks, bin-apart}
 
 module _ (old new : Separators) where
   -- the bytes before i are tested
@@ -64,26 +68,37 @@ module _ (old new : Separators) where
       (first-of (harmlessByte old new b) (every (harmlessByte old new) s) h) (none-either (suc k) s later) (none-either k s later) z
 
   -- a segment of harmless bytes does not collide; no data byte of it is an old separator
-  harmless-holds : (segment : Bytes) → T (every (harmlessByte old new) segment) → T (every (apartFrom old) (viewOf old segment))
-      → firstBroken (collisionChecks new (viewOf old segment)) ≡ Holds
-  harmless-holds segment h o =
-      let v = viewOf old segment in
-      let none : firstBroken (collisionChecks old v) ≡ Holds =
+  harmless-plain : (segment : Bytes) → T (every (harmlessByte old new) segment) → T (every (apartFrom old) (plainView old segment))
+      → firstBroken (apartChecks new (plainView old segment)) ≡ Holds
+  harmless-plain segment h o =
+      let v = plainView old segment in
+      let none : firstBroken (apartChecks old v) ≡ Holds =
       each-holds 18 0 (length v) (λ (k : ℕ). apartFrom old (elementOf v k))
       (λ k l u. passes (apartFrom old (elementOf v k)) (every-at (apartFrom old) v empty o k (omega arith))) in
       clash-first old new segment ∙ none-either 0 segment h (sym (clash-first old old segment) ∙ none)
 
-  -- and so it is of all segments that were read
-  pub harmless-nowhere : (n at : ℕ) (s : Bytes) (gs : List Placed) (end : ℕ) (rest : Bytes) → Leads (cutBy (strictly old)) (skipBy (strictly old)) at s gs end rest
-      → T (every (harmlessByte old new) (closed (old .terminator) (texts gs))) → collision old new n gs ≡ Nowhere
-  harmless-nowhere n at s [] end rest l h = refl
-  harmless-nowhere n at s (g ∷ gs) end rest l h =
-      let f = harmlessByte old new in
-      let t = old .terminator in
-      let behind = closed t (texts gs) in
-      let halves = rw (every-both f (g .segment) (t ∷ behind)) at h in
-      let here =
-      harmless-holds (g .segment) (first-of (every f (g .segment)) (every f (t ∷ behind)) halves) (cut-unseparated old s (g .segment) (l .0) (l .1)) in
-      let later = second-of (f t) (every f behind) (second-of (every f (g .segment)) (every f (t ∷ behind)) halves) in
-      rw here
-      (harmless-nowhere (suc n) (at + length (g .segment) + 1 + skipBy (strictly old) (l .0)) (l .0) gs end rest (l .3) later)
+  module _ (old-fit : Fitted old) (new-fit : Fitted new) where
+    harmless-holds : (s segment m : Bytes) → cutOf old s ≡ Whole segment m → T (every (harmlessByte old new) segment)
+        → firstBroken (collisionChecks new (viewOf old segment)) ≡ Holds
+    harmless-holds s segment m e h = by (cut-gives old old-fit s segment m e)
+      where
+        by : T (isBin (old .element) segment) ⊎ Plainly old segment → firstBroken (collisionChecks new (viewOf old segment)) ≡ Holds
+        by (inl b) = sym (bin-apart old new segment (passes (isBin (old .element) segment) b) new-fit)
+        by (inr p) =
+            ap firstBroken (plain-checks old new segment (p .no-bin) (λ n. plain-inspected old old-fit segment p))
+            ∙ harmless-plain segment h (plain-unseparated old segment (p .free))
+
+    -- and so it is of all segments that were read
+    pub harmless-nowhere : (n at : ℕ) (s : Bytes) (gs : List Placed) (end : ℕ) (rest : Bytes) → Leads (cutBy (strictly old)) (skipBy (strictly old)) at s gs end rest
+        → T (every (harmlessByte old new) (closed (old .terminator) (texts gs))) → collision old new n gs ≡ Nowhere
+    harmless-nowhere n at s [] end rest l h = refl
+    harmless-nowhere n at s (g ∷ gs) end rest l h =
+        let f = harmlessByte old new in
+        let t = old .terminator in
+        let behind = closed t (texts gs) in
+        let halves = rw (every-both f (g .segment) (t ∷ behind)) at h in
+        let here =
+        harmless-holds s (g .segment) (l .0) (l .1) (first-of (every f (g .segment)) (every f (t ∷ behind)) halves) in
+        let later = second-of (f t) (every f behind) (second-of (every f (g .segment)) (every f (t ∷ behind)) halves) in
+        rw here
+        (harmless-nowhere (suc n) (at + length (g .segment) + 1 + skipBy (strictly old) (l .0)) (l .0) gs end rest (l .3) later)

@@ -32,7 +32,7 @@ put-none output at =
     sym (take-append-drop at output) ∙ ap (λ (n : ℕ). take at output ++ drop n output) same
 
 -- bytes behind bytes
-put-behind : (output front x : Bytes) (at : ℕ) → at + length front + length x ≤ length output
+pub put-behind : (output front x : Bytes) (at : ℕ) → at + length front + length x ≤ length output
     → putAt (at + length front) x (putAt at front output) ≡ putAt at (front ++ x) output
 put-behind output front x at l =
     let head = take at output ++ front in

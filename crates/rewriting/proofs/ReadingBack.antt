@@ -11,7 +11,8 @@ use Rattle.text.specs.Bytes.{Bytes}
 use Rattle.text.specs.Pieces.{closed}
 use Rattle.text.specs.Cut.{Placed, Leads}
 use Rattle.text.specs.declared.separators.Separators.{Separators}
-use Rattle.text.proofs.View.{fitted, written-view}
+use Rattle.text.proofs.View.{fitted}
+use Rattle.text.proofs.BinView.{written-view}
 use Rattle.text.specs.Separators.{Fitted}
 use Rattle.gate.specs.Profile.{nonconformance}
 use Rattle.gate.specs.Segments.{seen, onto, levelsIn}
@@ -29,6 +30,9 @@ use Rattle.rewriting.proofs.SuccessFacts.{Success}
 
 module _ (old new : Separators) (s : Bytes) (before : Tables) (output : Bytes) (a l b : ℕ) (tables : Tables) (after : Bytes)
     (x : Success old new s before output a l b tables after) where
+  abbrev old-fitted : Fitted old
+  old-fitted = fitted old (x .old-fit)
+
   abbrev new-fitted : Fitted new
   new-fitted = fitted new (x .new-fit)
 
@@ -37,13 +41,13 @@ module _ (old new : Separators) (s : Bytes) (before : Tables) (output : Bytes) (
 
   -- the segments as they stand in the output, and its bytes
   abbrev renewed : List Placed
-  renewed = again old new new-fitted (x .gs)
+  renewed = again old new old-fitted new-fitted (x .gs)
 
   abbrev out : Bytes
   out = rewritten old new (x .gs)
 
-  keep : AllKeep old new new-fitted (x .gs)
-  keep = all-keep old new new-fitted 1 0 s (x .gs) (n .end) (n .rest) (n .leads) (x .apart)
+  keep : AllKeep old new old-fitted new-fitted (x .gs)
+  keep = all-keep old new old-fitted new-fitted 1 0 s (x .gs) (n .end) (n .rest) (n .leads) (x .apart)
 
   -- the reading of the old bytes
   abbrev short : length s ≤ limit
@@ -76,10 +80,10 @@ module _ (old new : Separators) (s : Bytes) (before : Tables) (output : Bytes) (
 
   -- the same report
   views : seen (strictly new) renewed ≡ seen (strictly old) (x .gs)
-  views = same-views old new new-fitted (x .gs) keep
+  views = same-views old new old-fitted new-fitted (x .gs) keep
 
   leads-again : Leads (cutBy (strictly new)) (skipBy (strictly new)) 0 out renewed (n .end) []
-  leads-again = same-places old new new-fitted 0 s (x .gs) (n .end) (n .rest) keep (n .leads)
+  leads-again = same-places old new old-fitted new-fitted 0 s (x .gs) (n .end) (n .rest) keep (n .leads)
 
   numbering-again : Numbering (strictly new) out renewed (x .rows)
   numbering-again = record { end = n .end; rest = []; leads = leads-again; meets = rw views (n .meets) }
@@ -99,10 +103,10 @@ module _ (old new : Separators) (s : Bytes) (before : Tables) (output : Bytes) (
   room-again = rw views room
 
   answer-again : Accepted a l b ≡ Accepted (length renewed) (length (levelsIn nonconformance (onto [] (seen (strictly new) renewed)))) (usedBy renewed)
-  answer-again = shows .answer ∙ rw (views, same-used old new new-fitted (x .gs) keep, length-map)
+  answer-again = shows .answer ∙ rw (views, same-used old new old-fitted new-fitted (x .gs) keep, length-map)
 
   tables-again : recorded nonconformance (strictly new) before renewed (x .rows) ≡ tables
-  tables-again = rw (views, same-records old new new-fitted [] (x .gs) (x .rows) keep) (sym (shows .tables))
+  tables-again = rw (views, same-records old new old-fitted new-fitted [] (x .gs) (x .rows) keep) (sym (shows .tables))
 
   short-again : length out ≤ limit
   short-again = omega (

@@ -16,6 +16,7 @@ use Rattle.elements.specs.declared.verdict.Verdict.the-variants.{Holds, Broken}
 use Rattle.rewriting.specs.Rewrites.{rewritten, collisionChecks, orLater, collision}
 use Rattle.rewriting.specs.declared.collisions.Clash.the-variants.{At, Nowhere}
 use Rattle.rewriting.specs.internal.SegmentTable.{startIn, segmentIn, placedIn, segmentsFrom, Names, NamesFrom}
+use Rattle.rewriting.specs.internal.AsCut.{AsCut, EachAsCut}
 use Rattle.rewriting.specs.internal.Output.{putAt}
 use Rattle.rewriting.proofs.OutputSoFar.{SoFar, put-byte, put-length, so-far-none, so-far-room, so-far-length, so-far-all, so-far-more}
 use Rattle.rewriting.proofs.ByteByByte.{written-length}
@@ -52,11 +53,16 @@ module _ (s : Bytes) (table : List ℕ) (count : ℕ) where
     pub record ApartBefore (k : ℕ) : Type 0 where
       pub so-far : collision old new 1 all ≡ collision old new (k + 1) (segmentsLeft k)
       pub names : NamesLeft k
+      pub as-cut : EachAsCut old (segmentsLeft k)
 
-    pub apart-start : NamesFrom s table 0 count → ApartBefore 0
-    apart-start n = record { so-far = rw all-left; names = names-all n }
+    pub apart-start : NamesFrom s table 0 count → EachAsCut old all → ApartBefore 0
+    apart-start n c = record { so-far = rw all-left; names = names-all n; as-cut = rw all-left c }
 
     module _ {k : ℕ} (a : ApartBefore k) where
+      -- the segment of record k is as it was cut
+      pub as-cut-next : k < count → AsCut old (segmentIn s table k) × EachAsCut old (segmentsLeft (k + 1))
+      as-cut-next l = rw (next-left k l) at (a .as-cut)
+
       pub apart-end : count ≤ k → Nowhere ≡ collision old new 1 all
       apart-end l = sym (a .so-far ∙ rw (none-left k l))
 
@@ -67,7 +73,7 @@ module _ (s : Bytes) (table : List ℕ) (count : ℕ) where
         decided = a .so-far ∙ rw (next-left k l, found, is)
 
         pub apart-next : v ≡ Holds → ApartBefore (k + 1)
-        apart-next e = record { so-far = decided ∙ rw (e, add-one (k + 1)); names = names-next k l (a .names) .1 }
+        apart-next e = record { so-far = decided ∙ rw (e, add-one (k + 1)); names = names-next k l (a .names) .1; as-cut = as-cut-next l .1 }
 
         pub apart-clash : (number element : ℕ) → v ≡ Broken number element → At (k + 1) (startIn table k) element ≡ collision old new 1 all
         apart-clash number element e = sym (decided ∙ rw e)

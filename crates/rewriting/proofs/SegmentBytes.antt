@@ -10,8 +10,7 @@ use Rattle.text.specs.Bytes.{Bytes}
 use Rattle.text.specs.Pieces.{closed}
 use Rattle.text.specs.Cut.{Placed, Leads, Whole}
 use Rattle.text.specs.declared.separators.Separators.{Separators}
-use Rattle.text.proofs.CutLaws.{CutLaw}
-use Rattle.text.proofs.DocumentCut.{cut-law}
+use Rattle.text.proofs.DocumentCut.{Splits, cut-splits}
 use Rattle.gate.specs.Reads.{cutBy, skipBy}
 use Rattle.gate.specs.Conditions.{usedBy}
 use Rattle.rewriting.specs.Rewrites.{strictly}
@@ -29,8 +28,8 @@ module _ (old : Separators) where
       → s ≡ closed t (texts gs) ++ rest
   spelt at s [] end rest l = l .1
   spelt at s (g ∷ gs) end rest l =
-      let law : CutLaw t (cutBy (strictly old)) s (Whole (g .segment) (l .0)) = rw (l .1) at (cut-law old s) in
-      law .0 ∙ rw (append-assoc, spelt (at + length (g .segment) + 1 + skipBy (strictly old) (l .0)) (l .0) gs end rest (l .3))
+      let here : Splits old s (Whole (g .segment) (l .0)) = rw (l .1) at (cut-splits old s) in
+      here ∙ rw (append-assoc, spelt (at + length (g .segment) + 1 + skipBy (strictly old) (l .0)) (l .0) gs end rest (l .3))
 
   -- the used bytes are those of the segments
   used-from : (at : ℕ) (s : Bytes) (g : Placed) (gs : List Placed) (end : ℕ) (rest : Bytes) → Leads (cutBy (strictly old)) (skipBy (strictly old)) at s (g ∷ gs) end rest

@@ -10,8 +10,7 @@ use Rattle.text.specs.Bytes.{Bytes}
 use Rattle.text.specs.View.{View, viewOf}
 use Rattle.text.specs.Cut.{Placed, Leads, Whole}
 use Rattle.text.specs.declared.separators.Separators.{Separators}
-use Rattle.text.proofs.CutLaws.{CutLaw}
-use Rattle.text.proofs.DocumentCut.{cut-law}
+use Rattle.text.proofs.DocumentCut.{Splits, cut-splits}
 use Rattle.levels.specs.Widths.{segmentWidth}
 use Rattle.gate.specs.Records.{segmentRecord, segmentRecords}
 use Rattle.gate.specs.Reads.{cutBy, skipBy}
@@ -78,8 +77,8 @@ module _ (old : Separators) (s : Bytes) (table : List ℕ) where
   stored k at h (g ∷ gs) [] left end rest more n t b l = absurd (omega arith)
   stored k at h (g ∷ gs) (r ∷ rows) left end rest more n t b l =
       let v = viewOf old (g .segment) in
-      let law : CutLaw (old .terminator) (cutBy (strictly old)) left (Whole (g .segment) (l .0)) = rw (l .1) at (cut-law old left) in
-      let here = b ∙ law .0 in
+      let splits : Splits old left (Whole (g .segment) (l .0)) = rw (l .1) at (cut-splits old left) in
+      let here = b ∙ splits in
       let numbers = segmentRecord h v g r in
       let behind = segmentRecords (strictly old) (v ∷ h) gs rows ++ more in
       let named = names s table k numbers behind refl t (g .segment) old (l .0) (g .at) refl refl (rw (l .2) here) in

@@ -4,10 +4,11 @@ use Prim.Native.Nat.{ℕ, suc, _+_}
 use mathlib.Core.Path.{_≡_, refl, ap}
 use mathlib.Core.List.{List, [], _∷_, _++_, map}
 use native.Mathlib.Omega.{arith}
+use lib.Dec.{T}
 use lib.ListN.{length, length-append}
-use Rattle.text.specs.Bytes.{Bytes}
+use Rattle.text.specs.Bytes.{Bytes, every}
 use Rattle.text.specs.Pieces.{closed}
-use Rattle.text.specs.View.{View, viewOf, written, empty}
+use Rattle.text.specs.View.{View, viewOf, written, empty, inspected}
 use Rattle.text.specs.Cut.{Placed, Leads, Whole}
 use Rattle.text.specs.declared.separators.Separators.{Separators}
 use Rattle.text.proofs.Writable.{Writable, cut-writable, writable-cut, writable-seen, writable-again}
@@ -39,12 +40,17 @@ silent : (v : Verdict) (n byte : ℕ) (later : Clash) → orLater v n byte later
 silent Holds n byte later e = (refl, e)
 silent (Broken number element) n byte later e = absurd (clash-none e)
 
+-- where no test fails, no new separator stands in what is looked into
+apart-everywhere : (new : Separators) (v : View) → firstBroken (collisionChecks new v) ≡ Holds → T (every (apartFrom new) (inspected v))
+unfolding collisionChecks
+apart-everywhere new v h = each-every 18 (apartFrom new) empty (inspected v) h
+
 -- as many bytes as before
 pub rewritten-length : (old new : Separators) (gs : List Placed) → length (rewritten old new gs) ≡ length (closed (old .terminator) (texts gs))
 rewritten-length old new [] = refl
 rewritten-length old new (g ∷ gs) = simp length-append (omega (arith, written-length old new (g .segment), rewritten-length old new gs))
 
-module _ (old new : Separators) (new-fit : Fitted new) where
+module _ (old new : Separators) (old-fit : Fitted old) (new-fit : Fitted new) where
   -- a segment with its view written again, at the same place
   abbrev pub renewed : Placed → Placed
   renewed g = record { at = g .at; segment = written new (viewOf old (g .segment)) }
@@ -70,7 +76,7 @@ module _ (old new : Separators) (new-fit : Fitted new) where
       let v = viewOf old (g .segment) in
       let i = silent (firstBroken (collisionChecks new v)) n (g .at) (collision old new (suc n) gs) e in
       let w : Writable new v =
-      writable-again old new v (cut-writable old s (g .segment) (l .0) (l .1)) (each-every 18 (apartFrom new) empty v (i .0)) in (
+      writable-again old new v (cut-writable old old-fit s (g .segment) (l .0) (l .1)) (apart-everywhere new v (i .0)) in (
         record {
           view = writable-seen new new-fit v w;
           cut = writable-cut new new-fit v w;

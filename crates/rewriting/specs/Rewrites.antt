@@ -10,7 +10,7 @@ use lib.ListN.{length, drop}
 use Rattle.text.specs.Bytes.{Bytes, every}
 use Rattle.text.specs.Separators.{fitSeparators, isSeparator}
 use Rattle.text.specs.Pieces.{closed}
-use Rattle.text.specs.View.{Piece, View, viewOf, written, elementOf}
+use Rattle.text.specs.View.{Piece, View, viewOf, written, elementOf, inspected}
 use Rattle.text.specs.Cut.{Placed}
 use Rattle.text.specs.declared.separators.Separators.{Separators}
 use Rattle.elements.specs.Checks.{Check, each, firstBroken}
@@ -39,9 +39,13 @@ rewritten old new gs = closed (new .terminator) (map (written new) (seen (strict
 abbrev pub apartFrom : Separators → Piece → Bool
 apartFrom new p = every (every (λ (b : ℕ). not (isSeparator new b))) p
 
--- 18: so it is of every piece; the tag is element 0
-abbrev pub collisionChecks : Separators → View → List Check
-collisionChecks new v = each 18 0 (length v) (λ (k : ℕ). apartFrom new (elementOf v k))
+-- so it is of every piece; the tag is element 0
+abbrev pub apartChecks : Separators → View → List Check
+apartChecks new v = each 18 0 (length v) (λ (k : ℕ). apartFrom new (elementOf v k))
+
+-- 18: so it is where the view is looked into; BIN02 is copied as it is
+unfoldable pub collisionChecks : Separators → View → List Check
+collisionChecks new v = apartChecks new (inspected v)
 
 -- a clash is the place of a piece that fails: its segment's number, the byte where the segment starts, and the element. The first segment with
 -- such a piece decides, and in it the first such piece; n is the number of the first of these segments

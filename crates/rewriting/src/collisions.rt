@@ -1,15 +1,17 @@
 // Answer 18: the first data byte that equals a new separator.
 ghost use mathlib.Core.Path.{_≡_};
 ghost use Rattle.text.specs.Bytes.{every};
-ghost use Rattle.text.specs.Separators.{isSeparator};
+ghost use Rattle.text.specs.Separators.{isSeparator, Fitted};
 ghost use Rattle.text.specs.View.{viewOf};
 ghost use Rattle.elements.specs.Checks.{firstBroken};
 ghost use Rattle.rewriting.specs.Rewrites.{collisionChecks, collision};
 ghost use Rattle.rewriting.specs.internal.SegmentTable.{segmentsFrom, NamesFrom};
+ghost use Rattle.rewriting.specs.internal.AsCut.{AsCut, Changeable};
 ghost use Rattle.rewriting.specs.internal.QuickTest.{harmlessByte, Telling};
 use crate::change::Change;
 use crate::table;
 use elements::verdict::Verdict;
+use text::bin;
 use text::separators::Separators;
 
 // Where a data byte equals a new separator: the segment's number, the byte where the segment starts, and the element; the tag is element 0.
@@ -43,10 +45,16 @@ fn harmless(bytes: &[u8], change: Change) -> bool
     so_far
 }
 
-// The first element of the segment that collides; the tag is element 0.
+// The first element of the segment that collides; the tag is element 0. Neither a letter nor a digit may serve as a separator, so no byte of a whole
+// BIN that is looked into collides.
 fn segment_collision(segment: &[u8], change: Change) -> Verdict
+    requires { ⌜ Fitted (change .new) ⌝ }
+    requires { ⌜ AsCut (change .old) (now segment) ⌝ }
     ensures { λ r. ⌜ r ≡ firstBroken (collisionChecks (change .new) (viewOf (change .old) (now (segment .entry)))) ⌝ }
 {
+    if bin::attached_from(segment, change.old.element) < segment.len() {
+        return Verdict::Holds;
+    }
     let mut element: usize = 0;
     let mut i: usize = 0;
     while i < segment.len() {
@@ -64,6 +72,7 @@ fn segment_collision(segment: &[u8], change: Change) -> Verdict
 // The first segment that collides, of those that the first `count` records name.
 fn first_collision(s: &[u8], segments: &[u64], count: usize, change: Change) -> Clash
     requires { ⌜ NamesFrom (now s) (now segments) 0 count ⌝ }
+    requires { ⌜ Changeable (change .old) (change .new) (segmentsFrom (now s) (now segments) 0 count) ⌝ }
     ensures { λ r. ⌜ r ≡ collision (change .old) (change .new) 1 (segmentsFrom (now (s .entry)) (now (segments .entry)) 0 count) ⌝ }
 {
     let mut k: usize = 0;
@@ -96,6 +105,7 @@ pub(crate) fn find_clash(
     change: Change,
 ) -> Clash
     requires { ⌜ NamesFrom (now s) (now segments) 0 count ⌝ }
+    requires { ⌜ Changeable (change .old) (change .new) (segmentsFrom (now s) (now segments) 0 count) ⌝ }
     requires { ⌜ Telling (change .old) (change .new) (now s) bytes (segmentsFrom (now s) (now segments) 0 count) ⌝ }
     ensures { λ r. ⌜ r ≡ collision (change .old) (change .new) 1 (segmentsFrom (now (s .entry)) (now (segments .entry)) 0 count) ⌝ }
 {

@@ -4,6 +4,7 @@ ghost use lib.ListN.{length};
 ghost use Rattle.gate.specs.declared.answer.Answer.the-variants.{Accepted, Refused};
 ghost use Rattle.rewriting.specs.Rewrites.{rewritten, OutcomeOf, Rewrites};
 ghost use Rattle.rewriting.specs.internal.SegmentTable.{segmentsFrom, NamesFrom};
+ghost use Rattle.rewriting.specs.internal.AsCut.{Changeable};
 ghost use Rattle.rewriting.specs.internal.QuickTest.{Telling};
 use crate::change::Change;
 use crate::collisions;
@@ -36,6 +37,7 @@ fn write_accepted(
     output: &mut [u8],
 ) -> Answer
     requires { ⌜ NamesFrom (now s) (now segments) 0 count ⌝ }
+    requires { ⌜ Changeable (change .old) (change .new) (segmentsFrom (now s) (now segments) 0 count) ⌝ }
     requires { ⌜ bytes ≡ length (rewritten (change .old) (change .new) (segmentsFrom (now s) (now segments) 0 count)) ⌝ }
     requires { ⌜ Telling (change .old) (change .new) (now s) bytes (segmentsFrom (now s) (now segments) 0 count) ⌝ }
     ensures { λ r. ⌜ OutcomeOf (change .old) (change .new) (segmentsFrom (now (s .entry)) (now (segments .entry)) 0 count) (Accepted count levels bytes) bytes

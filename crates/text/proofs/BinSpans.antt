@@ -125,19 +125,27 @@ module _ (e : ℕ) (g : Bytes) where
     count-broken z = uncounted (λ n m w. let x : _≡_ {A = ℕ} 0 1 = cc in omega arith)
 
   -- the elements by that place
-  bin-of : attachedFrom e g < length g → isBin e g ≡ true
+  pub bin-of : attachedFrom e g < length g → isBin e g ≡ true
   bin-of l = by (isBin e g) refl
     where
       by : (b : Bool) → isBin e g ≡ b → isBin e g ≡ true
       by true h = h
       by false h = absurd (omega (arith, attached-plain h))
 
-  plain-of : length g ≤ attachedFrom e g → isBin e g ≡ false
+  pub plain-of : length g ≤ attachedFrom e g → isBin e g ≡ false
   plain-of l =
       fails (isBin e g)
       (λ t.
       let h = passes (isBin e g) t in
       omega (arith, attached-bin h, bin-long h, bin-parts e g t .counted .long))
+
+  -- it is a place within the segment, or its end
+  pub attached-most : attachedFrom e g ≤ length g
+  attached-most = by (isBin e g) refl
+    where
+      by : (b : Bool) → isBin e g ≡ b → attachedFrom e g ≤ length g
+      by true h = omega (arith, attached-bin h, bin-long h)
+      by false h = omega (arith, attached-plain h)
 
   pub record Attached : Type 0 where
     pub low : 6 ≤ attachedFrom e g

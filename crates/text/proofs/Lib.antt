@@ -19,5 +19,6 @@ pub mod Counting
 pub mod BinSpans
 pub mod DocumentCut
 pub mod BinCut
+pub mod BinCases
 pub mod Writable
 pub mod Once

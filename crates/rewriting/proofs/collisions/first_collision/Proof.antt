@@ -2,7 +2,7 @@
 -- Assumes nothing.
 use Prim.Native.Nat.{_-_}
 use Rattle.rewriting.specs.internal.SegmentTable.{Names}
-use Rattle.rewriting.proofs.RecordByRecord.{names-next, ApartBefore, apart-start, apart-end, apart-next, apart-clash}
+use Rattle.rewriting.proofs.RecordByRecord.{names-next, ApartBefore, apart-start, as-cut-next, apart-end, apart-next, apart-clash}
 use native.Mathlib.Omega.{arith}
 use borrow.Author.Needs.{needs}
 use Rattle.rewriting.proofs.collisions.first_collision.Statement.{statement}
@@ -19,13 +19,17 @@ named : (c : tie.In-loop Inv-loop μ-loop) → let a = c .before .before .before
 named c = names-next _ _ _ _ (c .loop-test .taken) (c .before .loop .inv .names) .0
 
 loop-holds : tie.Need-loop-holds Inv-loop μ-loop
-loop-holds c = apart-start _ _ _ _ _ (c .before .before .pre)
+loop-holds c = apart-start _ _ _ _ _ (c .before .before .pre .0) (c .before .before .pre .1 .as-cut)
 
 segment-in-requires : tie.Need-segment-in-requires Inv-loop μ-loop
 segment-in-requires c κs = named c
 
 segment-collision-requires : tie.Need-segment-collision-requires Inv-loop μ-loop
-segment-collision-requires c κs = search needs
+segment-collision-requires c κs =
+    let round = c .before in (
+      round .before .before .before .before .pre .1 .new-fit,
+      rw (c .segment-in .ensures) (as-cut-next _ _ _ _ _ (round .before .loop .inv) (round .loop-test .taken) .0),
+    )
 
 enum-known-element : tie.Need-enum-known-element Inv-loop μ-loop
 enum-known-element c = search needs

@@ -1,21 +1,22 @@
--- `write_segment` meets its contract: the bytes before i are written.
+-- `write_again` meets its contract: the bytes before i are written.
 -- Assumes nothing.
 use Prim.Native.Nat.{_-_}
 use lib.ListN.{length}
+use Rattle.rewriting.specs.internal.Output.{byteAgain}
 use Rattle.rewriting.proofs.OutputSoFar.{so-far-length}
-use Rattle.rewriting.proofs.ByteByByte.{SegmentTo, segment-none, segment-inside, segment-more, segment-all}
+use Rattle.rewriting.proofs.ByteByByte.{WrittenTo, written-none, written-inside, written-more, written-all}
 use borrow.Author.Needs.{needs}
-use Rattle.rewriting.proofs.writing.write_segment.Statement.{statement}
-use Rattle.rewriting.proofs.writing.write_segment.Tie as tie
+use Rattle.rewriting.proofs.writing.write_again.Statement.{statement}
+use Rattle.rewriting.proofs.writing.write_again.Tie as tie
 
 abbrev Inv-loop : tie.InvT-loop
-Inv-loop segment change output₀ at i₀ output i = SegmentTo (change .old) (change .new) output₀ at segment output i
+Inv-loop bytes change output₀ at i₀ output i = WrittenTo (byteAgain (change .old) (change .new)) output₀ at bytes output i
 
 abbrev μ-loop : tie.MeasureT-loop
-μ-loop segment change output₀ at i₀ output i = length segment - i
+μ-loop bytes change output₀ at i₀ output i = length bytes - i
 
 loop-holds : tie.Need-loop-holds Inv-loop μ-loop
-loop-holds c = segment-none _ _ _ _ _ (c .before .before .pre)
+loop-holds c = written-none _ _ _ _ (c .before .before .pre)
 
 shared-slice-read-byte-again : tie.Need-shared-slice-read-byte-again Inv-loop μ-loop
 shared-slice-read-byte-again c = search needs
@@ -27,7 +28,7 @@ add-output : tie.Need-add-output Inv-loop μ-loop
 add-output c = search needs
 
 slice-write-output : tie.Need-slice-write-output Inv-loop μ-loop
-slice-write-output c = segment-inside _ _ _ _ (c .before .before .before .loop .inv) (c .before .before .loop-test .taken)
+slice-write-output c = written-inside _ _ _ (c .before .before .before .loop .inv) (c .before .before .loop-test .taken)
 
 add-i : tie.Need-add-i Inv-loop μ-loop
 add-i c = search needs
@@ -37,16 +38,16 @@ loop-less c = search needs
 
 loop-again : tie.Need-loop-again Inv-loop μ-loop
 loop-again c =
-    rw (c .byte-again .ensures) (segment-more _ _ _ _ (c .before .before .before .loop .inv) (c .before .before .loop-test .taken))
+    rw (c .byte-again .ensures) (written-more _ _ _ (c .before .before .before .loop .inv) (c .before .before .loop-test .taken))
 
 same-length : tie.Need-same-length Inv-loop μ-loop
 same-length c = so-far-length (c .before .loop .inv .so-far)
 
 returns : tie.Need-returns Inv-loop μ-loop
-returns c = segment-all _ _ _ _ (c .before .loop .inv) (c .loop-test .left)
+returns c = written-all _ _ _ (c .before .loop .inv) (c .loop-test .left)
 
-pub write-segment-spec : {M : Type 1} → statement M
-write-segment-spec =
+pub write-again-spec : {M : Type 1} → statement M
+write-again-spec =
     tie.close
     (tie.spec
     Inv-loop
