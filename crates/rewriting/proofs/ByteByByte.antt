@@ -1,14 +1,14 @@
 -- A segment is written byte by byte: what stands before BIN02 with the new separators, and BIN02 as it is.
 -- Assumes nothing.
-use Prim.Native.Nat.{ℕ, _+_, _≤_, _<_}
+use Prim.Native.Nat.{ℕ, _+_, _-_, _≤_, _<_}
 use mathlib.Core.Path.{_≡_, refl, sym, ap, _∙_}
 use mathlib.Core.Bool.{Bool, true, false, cond}
-use mathlib.Core.List.{[], _∷_, _++_, map, map-map, map-id, append-nil}
+use mathlib.Core.List.{[], _∷_, _++_, map, map-map, append-nil}
 use native.Mathlib.Omega.{arith}
 use native.Mathlib.Numerals.{add-one}
 use lib.Dec.{T, eqb}
-use lib.ListN.{length, take, drop, getD, set, drop-of-length-le, length-append, length-map}
-use lib.Seq.{drop-cons, take-length, drop-length, take-at, drop-at, length-take-le, append-snoc}
+use lib.ListN.{length, take, drop, getD, set, drop-of-length-le, length-append, length-drop, length-map}
+use lib.Seq.{drop-cons, take-length, drop-length, take-at, drop-at, length-take-le, take-all, append-snoc}
 use borrow.Author.Tests.{eq-eqb, ne-eqb}
 use Rattle.text.specs.Bytes.{Bytes, bytes, every}
 use Rattle.text.specs.Separators.{isDigit, isIdByte, Fitted}
@@ -23,7 +23,7 @@ use Rattle.text.proofs.Lists.{map-append}
 use Rattle.text.proofs.Pieces.{rejoined, exchanged}
 use Rattle.text.proofs.Bins.{bin-parts}
 use Rattle.text.proofs.BinView.{view-bin, view-plain}
-use Rattle.text.proofs.BinSpans.{attached-bin, attached-plain, bin-long}
+use Rattle.text.proofs.BinSpans.{attached-bin, attached-plain, attached-most, bin-long}
 use Rattle.text.proofs.Serving.{serves-apart, digit-id-byte}
 use Rattle.rewriting.specs.internal.Output.{putAt, byteAgain}
 use Rattle.rewriting.proofs.OutputSoFar.{SoFar, put-byte, put-behind, so-far-none, so-far-room, so-far-length, so-far-all, so-far-more}
@@ -113,17 +113,26 @@ module _ (old new : Separators) where
           ∙ sym (rw (attached-plain (old .element) segment h, take-length segment, drop-length segment) (append-nil (map (byteAgain old new) segment)))
 
   -- both parts, one behind the other
-  pub parts-all : Fitted old → (segment first middle output : Bytes) (at : ℕ) → at + length segment ≤ length first
-      → attachedFrom (old .element) segment ≤ length segment → middle ≡ putAt at (map (byteAgain old new) (front segment)) first
+  parts-put : Fitted old → (segment first middle output : Bytes) (at : ℕ) → at + length segment ≤ length first
+      → middle ≡ putAt at (map (byteAgain old new) (front segment)) first
       → output ≡ putAt (at + attachedFrom (old .element) segment) (back segment) middle → output ≡ putAt at (written new (viewOf old segment)) first
-  parts-all fit segment first middle output at room within m o =
+  parts-put fit segment first middle output at room m o =
       let a = attachedFrom (old .element) segment in
       let x = map (byteAgain old new) (front segment) in
-      let long : length x ≡ a = length-map (front segment) (byteAgain old new) ∙ length-take-le a segment within in
+      let long : length x ≡ a = length-map (front segment) (byteAgain old new) ∙ length-take-le a segment (attached-most (old .element) segment) in
       let all = ap length (segment-again fit segment) ∙ length-append x (back segment) in
-      o ∙ rw (m, ← long)
-      (put-behind first x (back segment) at (omega (arith, room, written-length segment, all)))
+      o ∙ (λ i. putAt (at + sym long i) (back segment) (m i))
+      ∙ put-behind first x (back segment) at (omega (arith, room, written-length segment, all))
       ∙ ap (λ (y : Bytes). putAt at y first) (sym (segment-again fit segment))
+
+  -- where `a` is the place between them
+  pub parts-all : Fitted old → (segment first middle output : Bytes) (at a : ℕ) → at + length segment ≤ length first → a ≡ attachedFrom (old .element) segment
+      → middle ≡ putAt at (map (byteAgain old new) (take a segment)) first
+      → output ≡ putAt (at + a) (take (length segment - a) (drop a segment)) middle → output ≡ putAt at (written new (viewOf old segment)) first
+  parts-all fit segment first middle output at a room is m o =
+      parts-put fit segment first middle output at room (m ∙ ap (λ (n : ℕ). putAt at (map (byteAgain old new) (take n segment)) first) is)
+      (o ∙ ap (λ (x : Bytes). putAt (at + a) x middle) (take-all (length segment - a) (drop a segment) (rw (length-drop a segment) (omega arith)))
+      ∙ ap (λ (n : ℕ). putAt (at + n) (drop n segment) middle) is)
 
 -- bytes, each changed by f, are written from `at` on into what was `first`
 module _ (f : ℕ → ℕ) (first : Bytes) (at : ℕ) where

@@ -4,7 +4,8 @@ use mathlib.Core.Path.{_≡_, sym, _∙_}
 use mathlib.Core.Bool.{true}
 use borrow.Author.Tests.{not-true, not-false}
 use Rattle.text.specs.Separators.{fitSeparators}
-use Rattle.rewriting.proofs.AcceptedTable.{accepted-names, accepted-length, accepted-telling}
+use Rattle.text.proofs.View.{fitted}
+use Rattle.rewriting.proofs.AcceptedTable.{accepted-names, accepted-changeable, accepted-length, accepted-telling}
 use Rattle.rewriting.proofs.Outcomes.{old-unfit, new-unfit, reading-refused, reading-accepted}
 use borrow.Author.Needs.{needs}
 use Rattle.rewriting.proofs.rewriting.rewrite.Statement.{statement}
@@ -51,7 +52,14 @@ write-accepted-requires c κs =
     let counted = c .before .before .before in
     let read = counted .before .before .before .before .before .before in
     let accepted = rw (counted .count .given .1) at (read .read .ensures) in
-    (accepted-names _ _ _ _ _ _ _ accepted, (accepted-length _ _ _ _ _ _ _ accepted _, accepted-telling _ _ _ _ _ _ _ accepted _))
+    let both = read .before .before .before in
+    let new-fit = fitted (both .before .before .before .before .before .before .before .before .args .new) (rw (new-fits both) tt) in (
+      accepted-names _ _ _ _ _ _ _ accepted,
+      (
+        accepted-changeable _ _ _ _ _ _ _ accepted _ new-fit,
+        (accepted-length _ _ _ _ _ _ _ accepted _, accepted-telling _ _ _ _ _ _ _ accepted _ new-fit),
+      ),
+    )
 
 enum-known-number : tie.Need-enum-known-number
 enum-known-number c = search needs

@@ -2,6 +2,7 @@
 -- Assumes nothing.
 use mathlib.Core.Path.{sym, _∙_}
 use Rattle.rewriting.proofs.Outcomes.{collided, too-short, put}
+use native.Mathlib.Omega.{arith}
 use borrow.Author.Needs.{needs}
 use Rattle.rewriting.proofs.rewriting.write_accepted.Statement.{statement}
 use Rattle.rewriting.proofs.rewriting.write_accepted.Tie as tie
@@ -27,7 +28,9 @@ returns c =
     (sym (tested .before .enum-told .given .1) ∙ tested .before .before .before .find-clash .ensures) (tested .if1 .taken))
 
 write-segments-requires : tie.Need-write-segments-requires
-write-segments-requires c κs = search needs
+write-segments-requires c κs =
+    let pre = c .before .before .before .before .before .before .before .before .pre in
+    (pre .1 .0 .old-fit, (pre .0, omega (arith, pre .1 .1 .0, c .before .if1 .left)))
 
 returns-2 : tie.Need-returns-2
 returns-2 c =

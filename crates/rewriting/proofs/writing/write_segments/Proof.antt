@@ -22,13 +22,13 @@ room : (c : tie.After-segment-in Inv-loop μ-loop) → let at = c .before .befor
 room c = (written-room _ _ _ _ _ (c .before .before .loop .inv) (c .segment-in .result .now) (c .before .loop-test .taken) (c .segment-in .ensures), so-far-length (c .before .before .loop .inv .so-far))
 
 loop-holds : tie.Need-loop-holds Inv-loop μ-loop
-loop-holds c = let start = c .before .before .before in written-start _ _ _ _ _ _ (start .pre .0) (start .pre .1)
+loop-holds c = let start = c .before .before .before in written-start _ _ _ _ _ _ (start .pre .1 .0) (start .pre .1 .1)
 
 segment-in-requires : tie.Need-segment-in-requires Inv-loop μ-loop
 segment-in-requires c κs = names-next _ _ _ _ (c .loop-test .taken) (c .before .loop .inv .names) .0
 
 write-segment-requires : tie.Need-write-segment-requires Inv-loop μ-loop
-write-segment-requires c κs = omega (arith, room (c .before) .0)
+write-segment-requires c κs = (c .before .before .before .before .before .before .before .pre .0, omega (arith, room (c .before) .0))
 
 add-end : tie.Need-add-end Inv-loop μ-loop
 add-end c = let r = room (c .before .before .before .before) in search (needs, r .0, r .1)
