@@ -19,6 +19,11 @@
 ** digit, space, '.' or '-', and the three must differ. A segment runs to the next terminator; its first piece is the tag, the
 ** others are its elements 1, 2, .. Line ends are not skipped. Segments, elements, components, levels and rows are counted
 ** from 1, bytes from 0.
+**
+** A BIN, which carries an attachment, is ended by its count instead: BIN, the element separator, BIN01, the element separator,
+** BIN02, the terminator. BIN01 is 1 to 15 digits that give the number of bytes of BIN02, 1 at least, and BIN02 is exactly that
+** many bytes of any kind, separators, line ends and zero bytes among them. So it is wherever BIN and the element separator begin
+** a segment. Its bytes are got by stormhlaw_element with number 2; in the segment table a BIN has row 55.
 */
 #ifndef STORMHLAW_H
 #define STORMHLAW_H
@@ -67,12 +72,13 @@ extern "C" {
 #define STORMHLAW_SEPARATORS_UNFIT 1
 /* The input has more than STORMHLAW_LONGEST bytes. */
 #define STORMHLAW_INPUT_TOO_LONG 2
-/* No terminator from this byte on. The byte may be the input's length. */
+/* No terminator from this byte on; the byte may be the input's length. Or the input ends inside the BIN that starts at this byte:
+** in its count or behind it, in BIN02, or where its terminator is due. */
 #define STORMHLAW_NO_TERMINATOR 3
 /* The tag is none of the 34. */
 #define STORMHLAW_TAG_UNKNOWN 4
 /* A byte that is neither data (32 to 126) nor a separator, in the element named; 0 is the tag. A line end behind a terminator is
-** such a byte, in the tag of the next segment. */
+** such a byte, in the tag of the next segment. BIN02 may hold any byte. */
 #define STORMHLAW_BYTE_UNFIT 5
 /* Element 0: the segment has no element. Else the element named is the last and empty, or its last component is empty. */
 #define STORMHLAW_EMPTY_AT_THE_END 6
@@ -82,7 +88,9 @@ extern "C" {
 #define STORMHLAW_ELEMENT_MISSING 8
 /* Too many elements, or too many components in NCA05: the first that is too many. */
 #define STORMHLAW_TOO_MANY 9
-/* Type or length of the element named does not fit, or ST01 is not 842. */
+/* Type or length of the element named does not fit, or ST01 is not 842. Of a BIN, before 4 to 7 are looked for:
+** element 1, BIN01 is no count, or another byte than the element separator follows it; element 2, another byte stands where the
+** terminator is due. */
 #define STORMHLAW_VALUE_UNFIT 10
 /* A note is broken: all or none of some elements, at least one of some, or one that asks for others. The note's first. */
 #define STORMHLAW_NOTE_BROKEN 11
@@ -99,7 +107,7 @@ extern "C" {
 #define STORMHLAW_CLOSING_WRONG 16
 /* Every rule holds so far, and a table has no room for this segment's records. Lend more and read again. */
 #define STORMHLAW_NO_ROOM 17
-/* Rewriting only: a data byte equals a new separator. The first such segment and element. */
+/* Rewriting only: a data byte equals a new separator. The first such segment and element. The bytes of BIN02 may equal one. */
 #define STORMHLAW_DATA_EQUALS_SEPARATOR 18
 /* Rewriting only: the output is shorter than the bytes that the transaction takes. */
 #define STORMHLAW_OUTPUT_TOO_SHORT 19
@@ -150,7 +158,8 @@ extern "C" {
 ** table. In every case, every other number of both tables keeps what it held.
 **
 ** A refusal 4 to 16 is final: it stands whatever bytes follow that segment, up to STORMHLAW_LONGEST in all, and however much
-** larger the tables are. Acceptance stands likewise.
+** larger the tables are; that of a BIN whose count or end is broken, whatever follows the byte that breaks it. Acceptance stands
+** likewise.
 */
 void stormhlaw_read(
     const uint8_t *input, size_t input_length,
@@ -161,7 +170,7 @@ void stormhlaw_read(
 
 /*
 ** Reads one transaction from the start of `input` and writes it to `output` with other separators: each separator of the
-** old set becomes that of the new set, and every data byte stays.
+** old set becomes that of the new set, and every data byte stays. The bytes of BIN02 stay too, whatever they are.
 **
 **   input, input_length        the bytes
 **   element, component, terminator   the separators of the input
@@ -228,6 +237,9 @@ static inline size_t stormhlaw_valid_levels(const uint64_t answer[4], const uint
 **
 ** An element that is absent is an empty part at its place. A number past the last gives the empty part at the end:
 ** segment_length and 0.
+**
+** Of a BIN number 1 is the count and number 2 all the bytes that it counts, where the count ends exactly with the segment, as it
+** does in every accepted report. Bytes that begin like a BIN and do not end so are cut at their separators.
 */
 void stormhlaw_element(
     const uint8_t *segment, size_t segment_length, uint8_t separator, uint64_t number, uint64_t span[2]);
@@ -241,6 +253,8 @@ void stormhlaw_element(
 **   span                      always written
 **
 ** Number 0, and a number past the last, give the empty part at the end: element_length and 0.
+**
+** BIN02 is one component: do not ask for components of it. This function is told no tag, and would cut it at the separator.
 */
 void stormhlaw_component(
     const uint8_t *element, size_t element_length, uint8_t separator, uint64_t number, uint64_t span[2]);

@@ -1,10 +1,19 @@
-/* The worked reports of document 01 and the lookups, through the header alone. Says what differs and ends with status 1. */
+/* The worked reports of document 01, the lookups and an attachment, through the header alone. Says what differs and ends with status 1. */
 #include <stdio.h>
 #include <string.h>
 
 #include "stormhlaw.h"
 
 #define W1 "ST*842*0001~BNR*11*NR7*20240301~HL*1**RP*1~HL*2*1*I*0~NCD*1~NCA**R1~SE*7*0001~"
+
+/* W1 with an EFI and a BIN behind its NCD: what stands before the BIN, 67 bytes and six segments, the eight bytes of its BIN02, and what
+** follows them. Separators of both sets, 0, 255 and a line end are among the eight. */
+#define BEFORE "ST*842*0001~BNR*11*NR7*20240301~HL*1**RP*1~HL*2*1*I*0~NCD*1~EFI*00~"
+#define ATTACHED "~*:\0\xff|'\n"
+#define BEHIND "~NCA**R1~SE*9*0001~"
+
+/* The bytes of a quoted text, zero bytes among them too. */
+#define BYTES(text) (const uint8_t *)(text), sizeof(text) - 1
 
 static int passed, failed;
 
@@ -129,6 +138,86 @@ static void expect_rewriting(void)
     expect_rewrite("", 80, (const uint64_t[]){3, 1, 0, 0}, untouched);
 }
 
+/* The same bytes. */
+static void expect_bytes(const char *what, const uint8_t *found, const char *wanted, size_t length)
+{
+    if (memcmp(found, wanted, length) == 0) {
+        passed++;
+        return;
+    }
+    failed++;
+    printf("%s: other bytes\n", what);
+}
+
+/* The answer for the bytes of a report. */
+static void expect_answer(const char *what, const uint8_t *report, size_t length, const uint64_t wanted[4])
+{
+    uint64_t segments[30], levels[20], answer[4];
+    stormhlaw_read(report, length, '*', ':', '~', segments, 30, levels, 20, answer);
+    expect(what, answer, wanted, 4);
+}
+
+/* An element of the first so many bytes of the BIN. */
+static void expect_bin_element(size_t length, uint64_t number, uint64_t start, uint64_t count)
+{
+    uint64_t span[2], wanted[2] = {start, count};
+    stormhlaw_element((const uint8_t *)"BIN*8*" ATTACHED, length, '*', number, span);
+    expect("an element of a BIN", span, wanted, 2);
+}
+
+static void expect_attachment_found(void)
+{
+    static const uint64_t wanted_segments[27] = {0,  11, 1,  12, 19, 2,  32, 10, 18, 43, 10, 18, 54, 5,
+                                                 46, 60, 6,  54, 67, 14, 55, 82, 7,  64, 90, 9,  79};
+    static const char report[] = BEFORE "BIN*8*" ATTACHED BEHIND;
+    uint64_t segments[27] = {0}, levels[8] = {0}, answer[4], span[2];
+    stormhlaw_read(BYTES(report), '*', ':', '~', segments, 27, levels, 8, answer);
+    expect("an attachment", answer, (const uint64_t[]){0, 9, 2, 100}, 4);
+    expect("segments with an attachment", segments, wanted_segments, 27);
+    stormhlaw_element((const uint8_t *)report + segments[18], (size_t)segments[19], '*', 2, span);
+    expect_bytes("BIN02", (const uint8_t *)report + segments[18] + span[0], ATTACHED, 8);
+    expect_bin_element(14, 0, 0, 3);
+    expect_bin_element(14, 1, 4, 1);
+    expect_bin_element(14, 2, 6, 8);
+    expect_bin_element(14, 3, 14, 0);
+    /* With a byte less the count does not end with the segment, which is cut at its separators. */
+    expect_bin_element(13, 1, 4, 1);
+    expect_bin_element(13, 2, 6, 1);
+    expect_bin_element(13, 3, 8, 5);
+    expect_bin_element(13, 4, 13, 0);
+}
+
+static void expect_attachment_rewritten(void)
+{
+    static const char report[] = BEFORE "BIN*8*" ATTACHED BEHIND;
+    static const char wanted[] =
+        "ST|842|0001'BNR|11|NR7|20240301'HL|1||RP|1'HL|2|1|I|0'NCD|1'EFI|00'BIN|8|" ATTACHED "'NCA||R1'SE|9|0001'";
+    uint64_t segments[27] = {0}, levels[8] = {0}, segments_again[27] = {0}, levels_again[8] = {0}, answer[4];
+    uint8_t output[100] = {0}, again[100] = {0};
+    stormhlaw_rewrite(BYTES(report), '*', ':', '~', '|', '^', '\'', segments, 27, levels, 8, output, 100, answer);
+    expect("an attachment rewritten", answer, (const uint64_t[]){0, 9, 2, 100}, 4);
+    expect_bytes("an attachment rewritten", output, wanted, 100);
+    stormhlaw_read(output, 100, '|', '^', '\'', segments_again, 27, levels_again, 8, answer);
+    expect("an attachment read back", answer, (const uint64_t[]){0, 9, 2, 100}, 4);
+    expect("segments of an attachment read back", segments_again, segments, 27);
+    expect("levels of an attachment read back", levels_again, levels, 8);
+    stormhlaw_rewrite(output, 100, '|', '^', '\'', '*', ':', '~', segments, 27, levels, 8, again, 100, answer);
+    expect_bytes("an attachment written back", again, report, 100);
+}
+
+static void expect_attachment_refused(void)
+{
+    expect_answer("a count of 0", BYTES(BEFORE "BIN*0*" ATTACHED BEHIND), (const uint64_t[]){10, 7, 67, 1});
+    expect_answer("no count", BYTES(BEFORE "BIN**" ATTACHED BEHIND), (const uint64_t[]){10, 7, 67, 1});
+    expect_answer("a count and no BIN02", BYTES(BEFORE "BIN*8~"), (const uint64_t[]){10, 7, 67, 1});
+    expect_answer("a count one short", BYTES(BEFORE "BIN*7*" ATTACHED BEHIND), (const uint64_t[]){10, 7, 67, 2});
+    expect_answer("a count one long", BYTES(BEFORE "BIN*9*" ATTACHED BEHIND), (const uint64_t[]){10, 7, 67, 2});
+    expect_answer("the end in BIN01", BYTES(BEFORE "BIN*8"), (const uint64_t[]){3, 7, 67, 0});
+    expect_answer("the end in BIN02", BYTES(BEFORE "BIN*8*~*:"), (const uint64_t[]){3, 7, 67, 0});
+    expect_answer("the end behind BIN02", BYTES(BEFORE "BIN*8*" ATTACHED), (const uint64_t[]){3, 7, 67, 0});
+    expect_answer("a count beyond the end", BYTES(BEFORE "BIN*999*" ATTACHED BEHIND), (const uint64_t[]){3, 7, 67, 0});
+}
+
 int main(void)
 {
     expect_read(W1, 30, (const uint64_t[]){0, 7, 2, 78});
@@ -140,6 +229,9 @@ int main(void)
     expect_lookups();
     expect_rewriting();
     expect_valid_records();
+    expect_attachment_found();
+    expect_attachment_rewritten();
+    expect_attachment_refused();
     printf("C: %d passed, %d failed\n", passed, failed);
     return failed != 0;
 }

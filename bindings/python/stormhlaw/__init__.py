@@ -15,6 +15,12 @@ levels, with their parents. A report that breaks a rule raises Refused, whose `r
 byte and the element. rewrite() gives the transaction with other separators as well. element() and component() look up
 the parts of a segment.
 
+A BIN, row 55, carries an attachment: its element 1 is a count, and element 2 is exactly so many bytes of any kind.
+
+    for segment in report:
+        if segment.row == 55:
+            attached = stormhlaw.element(data[segment.start : segment.start + segment.length], 2)
+
 Every argument is checked before anything is called: a wrong type is a TypeError, an impossible value a ValueError, and
 the message names the argument. Any number of threads may call at once.
 

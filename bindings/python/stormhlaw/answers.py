@@ -16,11 +16,11 @@ class Reason(IntEnum):
     SEPARATORS_UNFIT = 1
     # There are more than LONGEST bytes.
     INPUT_TOO_LONG = 2
-    # No terminator from this byte on.
+    # No terminator from this byte on, or the data end inside a BIN.
     NO_TERMINATOR = 3
     # The tag is none of the 34.
     TAG_UNKNOWN = 4
-    # A byte that is neither data nor a separator, in the element named; 0 is the tag.
+    # A byte that is neither data nor a separator, in the element named; 0 is the tag. BIN02 may hold any byte.
     BYTE_UNFIT = 5
     # No element, or the last one is empty, or an element's last component is.
     EMPTY_AT_THE_END = 6
@@ -30,7 +30,8 @@ class Reason(IntEnum):
     ELEMENT_MISSING = 8
     # The element named is the first that is too many.
     TOO_MANY = 9
-    # Type or length of the element named does not fit, or ST01 is not 842.
+    # Type or length of the element named does not fit, or ST01 is not 842. Of a BIN, element 1: BIN01 is no count, or
+    # no element separator follows it; element 2: no terminator stands where it is due.
     VALUE_UNFIT = 10
     # All or none of some elements, at least one of some, or one that asks for others: the note's first is named.
     NOTE_BROKEN = 11
@@ -46,7 +47,7 @@ class Reason(IntEnum):
     CLOSING_WRONG = 16
     # Every rule holds so far, and there is no room for this segment's records.
     NO_ROOM = 17
-    # Rewriting: a data byte equals a new separator. The first such segment and element.
+    # Rewriting: a data byte, other than in BIN02, equals a new separator. The first such segment and element.
     DATA_EQUALS_SEPARATOR = 18
     # Rewriting: the output is shorter than the bytes that the transaction takes.
     OUTPUT_TOO_SHORT = 19

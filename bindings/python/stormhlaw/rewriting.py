@@ -23,9 +23,9 @@ def rewrite(
     """Reads one transaction as read() does, and gives it with the `new` separators beside what read() gives.
 
     Each separator of the old set becomes that of the new one, and every data byte stays. A data byte that equals a
-    new separator is refused with Reason.DATA_EQUALS_SEPARATOR. `length` is how many bytes the output may have; a
-    transaction that takes more is refused with Reason.OUTPUT_TOO_SHORT. Without it there is always enough. The other
-    arguments are those of read().
+    new separator is refused with Reason.DATA_EQUALS_SEPARATOR. The bytes of BIN02 stay too, whatever they are. `length`
+    is how many bytes the output may have; a transaction that takes more is refused with Reason.OUTPUT_TOO_SHORT.
+    Without it there is always enough. The other arguments are those of read().
     """
     start, size, _owner = lend("data", data, TOO_LONG)
     six = numbers_of("separators", separators) + numbers_of("new", new)

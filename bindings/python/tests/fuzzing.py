@@ -1,8 +1,8 @@
 """Calls of every public function with arguments of every kind. Run: python3 -m tests.fuzzing SEED COUNT.
 
 Each argument is known to fit or not. A call whose arguments all fit must answer as the library does when it is called
-without the package, with tables as large as was asked for; a lookup, as Python's split() does. Any other call must
-raise a TypeError or a ValueError that names an argument that does not fit.
+without the package, with tables as large as was asked for; a lookup, as Python's split() does, and in a BIN as its
+count says. Any other call must raise a TypeError or a ValueError that names an argument that does not fit.
 """
 
 import array
@@ -20,7 +20,7 @@ from unittest.mock import Mock
 import stormhlaw
 from stormhlaw import Refused, Separators, component, element, read, rewrite
 from stormhlaw._library import library
-from tests.reports import W1, joined, with_items, with_segment
+from tests.reports import ATTACHED, W1, WITH_BIN, joined, with_items, with_segment
 
 UNFIT = object()
 
@@ -107,7 +107,8 @@ HUGE = (-1, -2, -(2**31), -(2**63), 2**64, 2**64 + 7, 2**65, 10**30, 10**5000, -
 
 REPORTS = [
     joined(W1), joined(W1) + b"\r\nGE*1*1~", 2 * joined(W1), joined(W1[:4]), with_segment(4, "HL*2*1*F*0"),
-    with_segment(2, "BNR*11*N|7*20240301"), with_items(3), with_items(40), b"",
+    with_segment(2, "BNR*11*N|7*20240301"), with_items(3), with_items(40), b"", WITH_BIN, b"BIN*8*" + ATTACHED,
+    b"BIN|08|" + ATTACHED,
 ]  # fmt: skip
 LARGE_REPORTS = [with_items(1500), *(joined(W1).ljust(stormhlaw.LONGEST + more, b"~") for more in (0, 1))]
 
@@ -308,18 +309,26 @@ def check_refusal(refusal, expected):
         assert [segment.row for segment in refusal.segments].index(79) == len(refusal.segments) - 1
 
 
-def expected_part(first, data, number, separator):
-    """The part by Python's own split: the first part has the number `first`."""
-    parts = data.split(separator)
+def elements(segment, separator):
+    """The tag and the elements by Python's own split; of a whole BIN the count, and as many bytes as it says."""
+    if segment.startswith(b"BIN" + separator):
+        count, _, attached = segment[4:].partition(separator)
+        if re.fullmatch(b"[0-9]{1,15}", count) and int(count) == len(attached) > 0:
+            return [b"BIN", count, attached]
+    return segment.split(separator)
+
+
+def part_of(parts, first, number):
+    """The part of that number; the first has the number `first`."""
     return parts[number - first] if first <= number < first + len(parts) else b""
 
 
 def check_answer(function, plain, call):
     """The call, whose arguments all fit, answers as it must."""
     if function is element:
-        assert call() == expected_part(0, plain["segment"], plain["number"], plain["separator"])
+        assert call() == part_of(elements(plain["segment"], plain["separator"]), 0, plain["number"])
     elif function is component:
-        assert call() == expected_part(1, plain["element_bytes"], plain["number"], plain["separator"])
+        assert call() == part_of(plain["element_bytes"].split(plain["separator"]), 1, plain["number"])
     elif function is Separators:
         assert call().numbers() == tuple(value[0] for value in plain.values())
     else:

@@ -13,6 +13,13 @@ SEGMENTS = [
 ]  # fmt: skip
 LEVELS = [Level(3, 0, 1, Code.REPORT), Level(4, 1, 2, Code.ITEM)]
 
+# W1 with an EFI and a BIN behind its NCD: what stands before the BIN, 67 bytes and six segments, the eight bytes of its
+# BIN02, and what follows them. Separators of both sets, 0, 255 and a line end are among the eight.
+BEFORE_BIN = b"ST*842*0001~BNR*11*NR7*20240301~HL*1**RP*1~HL*2*1*I*0~NCD*1~EFI*00~"
+ATTACHED = b"~*:\x00\xff|'\n"
+BEHIND_BIN = b"~NCA**R1~SE*9*0001~"
+WITH_BIN = BEFORE_BIN + b"BIN*8*" + ATTACHED + BEHIND_BIN
+
 
 def joined(segments):
     return "".join(segment + "~" for segment in segments).encode()

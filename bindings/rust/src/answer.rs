@@ -37,11 +37,11 @@ pub enum Reason {
     SeparatorsUnfit = 1,
     /// The input has more than 1,048,576 bytes.
     InputTooLong = 2,
-    /// No terminator from this byte on.
+    /// No terminator from this byte on, or the input ends inside a BIN.
     NoTerminator = 3,
     /// The tag is none of the 34.
     TagUnknown = 4,
-    /// A byte that is neither data nor a separator.
+    /// A byte that is neither data nor a separator. BIN02 may hold any byte.
     ByteUnfit = 5,
     /// No element, or an empty last element, or an element that ends with an empty component.
     EmptyAtTheEnd = 6,
@@ -51,7 +51,8 @@ pub enum Reason {
     ElementMissing = 8,
     /// Too many elements or components.
     TooMany = 9,
-    /// Type or length does not fit, or ST01 is not `842`.
+    /// Type or length does not fit, or ST01 is not `842`. Of a BIN, element 1: BIN01 is no count, or no element
+    /// separator follows it; element 2: no terminator stands where it is due.
     ValueUnfit = 10,
     /// A note on the segment's elements is broken.
     NoteBroken = 11,
@@ -67,7 +68,7 @@ pub enum Reason {
     ClosingWrong = 16,
     /// The rules hold, and a table has no room for this segment's records.
     NoRoom = 17,
-    /// Rewriting: a data byte equals a new separator.
+    /// Rewriting: a data byte equals a new separator. The bytes of BIN02 may equal one.
     DataEqualsSeparator = 18,
     /// Rewriting: the output is shorter than the bytes used.
     OutputTooShort = 19,

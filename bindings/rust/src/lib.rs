@@ -27,6 +27,20 @@
 //! assert_eq!(refusal.to_string(), "refused 14 segment 4 byte 43 element 2");
 //! ```
 //!
+//! A BIN carries an attachment. Its element 1 is a count, and element 2 is exactly so many bytes of any kind:
+//!
+//! ```
+//! # use stormhlaw::{element, Separators, Tables};
+//! let report = b"ST*842*0001~BNR*11*NR7*20240301~HL*1**I~NCD*1~EFI*00~BIN*5*\0*~\n\xff~SE*7*0001~";
+//! let mut tables = Tables::for_input(report);
+//! tables.read(report, Separators::STANDARD)?;
+//!
+//! let bin = tables.segments().iter().find(|segment| segment.row == 55);
+//! let attached = bin.and_then(|bin| bin.bytes(report)).map(|bin| element(bin, b'*', 2));
+//! assert_eq!(attached, Some(&b"\0*~\n\xff"[..]));
+//! # Ok::<(), stormhlaw::Refusal>(())
+//! ```
+//!
 //! [`read`] and [`rewrite`] do the same in records that the caller lends, and allocate nothing. [`element`] and
 //! [`component`] look up parts of a segment. Nothing is kept between calls, no input makes a function panic, and every
 //! function may be called from several threads at once.

@@ -9,6 +9,7 @@ use crate::separators::Separators;
 
 /// Reads the input and writes it with the new separators, as many bytes as the transaction takes. The tables are left as
 /// [`read`](crate::read) leaves them, and untouched where either set is unfit. On any refusal the output keeps its bytes.
+/// The bytes of BIN02 are copied as they are.
 ///
 /// ```
 /// use stormhlaw::{rewrite, Level, Segment, Separators};
