@@ -91,7 +91,7 @@ pub record Larger (t u : Tables) : Type 0 where
   pub segments : length (t .segments) ≤ length (u .segments)
   pub levels : length (t .levels) ≤ length (u .levels)
 
--- what a cut has looked at: a segment with its terminator, or the bytes before it stopped
+-- what a cut has looked at: a segment with its terminator, or the bytes with which it stopped
 abbrev pub lookedAt : How → Cut → Bytes
 lookedAt how (Whole segment more) = segment ++ how .separators .terminator ∷ []
 lookedAt how (Stop number element upto more) = upto

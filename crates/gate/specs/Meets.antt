@@ -77,7 +77,7 @@ pub record Meets (profile : Profile) (vs : List View) (rows : List ℕ) : Type 0
   pub word : Word list842 rows
   -- the numbering: each row has its segment's tag
   pub tags : map tagOf rows ≡ map tagIn vs
-  -- byte rules: every byte is data or a separator; there is an element, and no last element or last component is empty
+  -- byte rules: every byte that is looked into is data or a separator; there is an element, and no last element or last component is empty
   pub bytes : Each (λ v. Keeps (byteChecks v)) vs
   pub ends : Each (λ v. Keeps (endChecks v)) vs
   -- element rules

@@ -53,7 +53,7 @@ module _ (profile : Profile) (how : How) (t : Tables) (gs : List Placed) (rows :
   abbrev pub rulesNext : Bytes → List Rule
   rulesNext segment = rules profile rows earlier (viewOf (how .separators) segment)
 
-  -- 3: the cut finds no segment
+  -- 3, and 10 of a BIN: the cut finds no segment
   pub record Stopped (number element : ℕ) : Type 0 where
     pub upto : Bytes
     pub more : Bytes

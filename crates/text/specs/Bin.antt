@@ -25,11 +25,11 @@ countIn e segment = getD (pieces e (drop 4 segment)) 0 []
 abbrev pub attachedIn : ℕ → Bytes → Bytes
 attachedIn e segment = drop (length (countIn e segment) + 5) segment
 
--- "1 to 15 digits giving the length, at least 1"
+-- a count of them: one to fifteen digits, which write how many there are, and there is one at least
 abbrev pub counts : Bytes → Bytes → Bool
 counts count attached =
     between 1 15 (length count) && every isDigit count && eqb (valueOf count) (length attached) && leb 1 (length attached)
 
--- a whole BIN, without its terminator: so begun, and so counted
+-- a whole BIN without its terminator: it begins with the mark, and its count ends with it
 unfoldable pub isBin : ℕ → Bytes → Bool
 isBin e segment = beginsBin e segment && counts (countIn e segment) (attachedIn e segment)

@@ -26,7 +26,7 @@ plainView q segment = map (pieces (q .component)) (pieces (q .element) segment)
 abbrev pub binElements : ℕ → Bytes → List Bytes
 binElements e segment = bytes "BIN" ∷ countIn e segment ∷ attachedIn e segment ∷ []
 
--- the view of a segment: a whole BIN has these three pieces, of one component each, whatever their bytes are
+-- the view of a segment: a whole BIN has these three pieces, of one component each, whatever bytes they hold
 unfoldable pub viewOf : Separators → Bytes → View
 viewOf q segment = cond (isBin (q .element) segment) (map (λ (p : Bytes). p ∷ []) (binElements (q .element) segment)) (plainView q segment)
 
@@ -63,6 +63,6 @@ namesBin [] = false
 namesBin (t ∷ []) = same t (bytes "BIN")
 namesBin (t ∷ (c ∷ cs)) = false
 
--- the pieces whose bytes are looked at: all of them, but of a BIN its tag and its count alone
+-- the pieces that are looked into: all of them, but of a BIN its tag and its count alone
 unfoldable pub inspected : View → View
 inspected v = cond (namesBin (elementOf v 0)) (take 2 v) v
