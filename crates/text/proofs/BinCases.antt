@@ -2,11 +2,11 @@
 -- Assumes nothing.
 use mathlib.Core.Path.{_≡_, refl}
 use mathlib.Core.List.{[], _∷_}
-use Rattle.text.specs.Bytes.{Bytes, byte, bytes}
+use Rattle.text.specs.Bytes.{byte, bytes}
 use Rattle.text.specs.Separators.{standard}
 use Rattle.text.specs.Bin.{beginsBin, isBin}
 use Rattle.text.specs.View.{viewOf, elementsOf}
-use Rattle.text.specs.Cut.{Cut, Whole, Stop, cutAttached, cutOf}
+use Rattle.text.specs.Cut.{Whole, Stop, cutAttached, cutOf}
 
 -- every byte of BIN02 is the sender's own
 whole : cutOf standard (bytes "BIN*5*~*:~S~SE") ≡ Whole (bytes "BIN*5*~*:~S") (bytes "SE")

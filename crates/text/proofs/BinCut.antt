@@ -1,6 +1,6 @@
 -- The cut of bytes that begin like a BIN is what `CutOfBin` says: whole, ended inside one, or broken at the first byte that leaves no beginning.
 -- Assumes nothing.
-use Prim.Native.Nat.{ℕ, _≤_, _<_}
+use Prim.Native.Nat.{ℕ, _<_}
 use mathlib.Core.Path.{_≡_, refl, sym, ap, subst, _∙_}
 use mathlib.Core.Logic.{_⊎_, inl, inr}
 use mathlib.Core.Bool.{Bool, true, false}
@@ -10,37 +10,27 @@ use lib.Dec.{T, eqb}
 use lib.ListN.{length, drop}
 use lib.Seq.{append-snoc}
 use borrow.Author.Tests.{eqb-true, eqb-false}
-use Rattle.text.specs.Bytes.{Bytes, valueFrom}
+use Rattle.text.specs.Bytes.{Bytes}
 use Rattle.text.specs.Separators.{Fitted}
 use Rattle.text.specs.Bin.{binMark, beginsBin, countIn, attachedIn, isBin}
-use Rattle.text.specs.Cut.{Cut, Whole, Stop, behind, cutAttached, cutAtTerminator, cutCounted, cutOf}
-use Rattle.text.specs.BinCut.{WholeBin, Beginning, Inside, EndsInside, BrokenAt, CutOfBin}
+use Rattle.text.specs.Cut.{Cut, Whole, Stop, behind, cutAttached, cutCounted, cutOf}
+use Rattle.text.specs.BinCut.{Beginning, Inside, CutOfBin}
 use Rattle.text.specs.internal.Search.{Free}
 use Rattle.text.specs.declared.separators.Separators.{Separators}
-use Rattle.text.proofs.Bools.{passes, fails}
-use Rattle.text.proofs.Bins.{Counts, bin-parts, bin-made, begins-mark, bin-begins}
-use Rattle.text.proofs.CutLaws.{CutLaw, Faulty, whole-once}
-use Rattle.text.proofs.CountedCut.{Digits, counted-jump, counted-whole, attached-whole, attached-broken}
-use Rattle.text.proofs.CountedBytes.{Counted, Wanting, Ends, Breaks, Tells, counted-tells}
-use Rattle.text.proofs.DocumentCut.{Says, cut-says, cut-plainly, cut-by-count, cut-marked, plain-before, cut-law}
-
--- a count as the cut finds it, and as a whole BIN has it
-count-some : (d : Bytes) → 1 ≤ valueFrom 0 d → 1 ≤ length d
-count-some [] h = absurd (omega arith)
-count-some (b ∷ d) h = omega arith
+use Rattle.text.proofs.Bools.{fails}
+use Rattle.text.proofs.Bins.{bin-parts, bin-made, begins-mark, bin-begins}
+use Rattle.text.proofs.CutLaws.{CutLaw, Faulty}
+use Rattle.text.proofs.CountedCut.{counts-digits, digits-counts, counted-jump, counted-whole, attached-whole, attached-broken}
+use Rattle.text.proofs.CountedBytes.{Counted, Wanting, Tells, counted-tells}
+use Rattle.text.proofs.DocumentCut.{Says, cut-says, cut-plainly, cut-marked, plain-before, cut-law}
 
 module _ (q : Separators) where
+  -- a count as the cut finds it, and as a whole BIN has it
   counted-bin : (g : Bytes) → Counted q 0 0 g → isBin (q .element) (binMark (q .element) ++ g) ≡ true
   counted-bin g c =
       ap (λ (x : Bytes). isBin (q .element) (binMark (q .element) ++ x)) (c .is)
       ∙ bin-made (q .element) (c .count) (c .attached) (c .free)
-      (record {
-        some = count-some (c .count) (c .digits .some);
-        few = omega (arith, c .digits .few);
-        digits = c .digits .all;
-        value = c .value;
-        long = omega (arith, c .value, c .digits .some);
-      })
+      (digits-counts (c .count) (c .attached) (c .digits) (c .value))
 
   bin-counted : (g : Bytes) → T (isBin (q .element) (binMark (q .element) ++ g)) → Counted q 0 0 g
   bin-counted g h =
@@ -50,7 +40,7 @@ module _ (q : Separators) where
         attached = attachedIn (q .element) (binMark (q .element) ++ g);
         is = ap (drop 4) (b .whole);
         free = b .free;
-        digits = record { all = b .counted .digits; few = omega (arith, b .counted .few); some = omega (arith, b .counted .value, b .counted .long) };
+        digits = counts-digits (b .counted);
         value = b .counted .value;
       }
 
@@ -62,9 +52,8 @@ module _ (q : Separators) where
       let p = attachedIn (q .element) g in
       let front : g ++ q .terminator ∷ x ≡ binMark (q .element) ++ (d ++ q .element ∷ (p ++ q .terminator ∷ x)) =
       ap (λ (y : Bytes). y ++ q .terminator ∷ x) (b .whole) ∙ ap (λ (y : Bytes). binMark (q .element) ++ y) (append-assoc d (q .element ∷ p) (q .terminator ∷ x)) in
-      let digits : Digits 0 0 d = record { all = b .counted .digits; few = omega (arith, b .counted .few); some = omega (arith, b .counted .value, b .counted .long) } in
       ap (cutOf q) front ∙ cut-marked q (d ++ q .element ∷ (p ++ q .terminator ∷ x))
-      ∙ ap (behind (binMark (q .element))) (counted-whole q d p x (b .free) digits (b .counted .value))
+      ∙ ap (behind (binMark (q .element))) (counted-whole q d p x (b .free) (counts-digits (b .counted)) (b .counted .value))
       ∙ ap (λ (y : Bytes). Whole y x) (sym (b .whole))
 
   -- a stop is no segment, and stops at other elements differ

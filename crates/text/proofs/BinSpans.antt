@@ -2,30 +2,27 @@
 -- Assumes nothing.
 use Prim.Native.Nat.{ℕ, zero, suc, _+_, _-_, _≤_, _<_}
 use mathlib.Core.Path.{_≡_, refl, sym, ap, subst, _∙_}
-use mathlib.Core.Logic.{by-cases}
-use mathlib.Core.Bool.{Bool, true, false, not, cond, _&&_}
+use mathlib.Core.Bool.{Bool, true, false, not}
 use mathlib.Core.List.{List, [], _∷_, _++_}
 use native.Mathlib.Omega.{arith}
-use native.Mathlib.Decide.{decLt}
 use lib.Dec.{T}
-use lib.ListN.{length, take, drop, getD, length-append}
+use lib.ListN.{length, drop, getD, length-append}
 use borrow.Author.Tests.{not-true, ne-eqb, le-ltb}
 use Rattle.text.specs.Bytes.{Bytes, bytes, valueOf}
-use Rattle.text.specs.Pieces.{pieces, joined}
+use Rattle.text.specs.Pieces.{joined}
 use Rattle.text.specs.Bin.{binMark, beginsBin, countIn, attachedIn, counts, isBin}
-use Rattle.text.specs.View.{elementsOf, binElements}
+use Rattle.text.specs.View.{elementsOf}
 use Rattle.text.specs.Lookup.{span, spanAmong, pieceSpan, elementSpan, attachedFrom}
 use Rattle.text.specs.internal.Count.{countFrom}
 use Rattle.text.specs.internal.BinSpan.{binSpan}
 use Rattle.text.specs.declared.separators.Separators.{Separators}
-use Rattle.text.specs.declared.lookup.Span.{Span}
 use Rattle.text.specs.declared.bin.Counted.{Counted}
 use Rattle.text.specs.declared.bin.Counted.the-variants.{Told, Open, Broken}
 use Rattle.text.proofs.Bools.{passes, fails}
-use Rattle.text.proofs.Bins.{Counts, counts-told, counts-passes, bin-parts, begins-mark, marked-counts, count-made}
+use Rattle.text.proofs.Bins.{counts-told, counts-passes, bin-parts, begins-mark, marked-counts, count-made}
 use Rattle.text.proofs.Pieces.{joined-pieces}
 use Rattle.text.proofs.BinView.{elements-bin, elements-plain}
-use Rattle.text.proofs.CountedCut.{Digits}
+use Rattle.text.proofs.CountedCut.{counts-digits, digits-counts}
 use Rattle.text.proofs.Counting.{Found, Finds, count-finds, count-found}
 use Rattle.text.proofs.Spans.{Lies, lies-among}
 
@@ -76,20 +73,10 @@ module _ (e : ℕ) (g : Bytes) where
       counted : isBin e g ≡ counts (f .count) (f .rest)
       counted = marked-counts e g (f .count) (f .rest) whole (f .free)
 
-      some-digit : (d : Bytes) → Digits 0 0 d → 1 ≤ length d
-      some-digit [] x = absurd (omega (arith, x .some))
-      some-digit (b ∷ d) x = omega arith
-
       -- it ends with the bytes
       pub attached-here : length g - end - 1 ≡ number → end + 1 ≡ attachedFrom e g
       attached-here h =
-          let c : Counts (f .count) (f .rest) = record {
-            some = some-digit (f .count) (f .digits);
-            few = omega (arith, f .digits .few);
-            digits = f .digits .all;
-            value = sym (f .number-is) ∙ omega (arith, long);
-            long = omega (arith, long, f .digits .some, f .number-is);
-          } in
+          let c = digits-counts (f .count) (f .rest) (f .digits) (sym (f .number-is) ∙ omega (arith, long)) in
           let n : countIn e g ≡ f .count = ap (countIn e) whole ∙ count-made e (f .count) (f .rest) (f .free) in
           sym (attached-bin (counted ∙ counts-passes (f .count) (f .rest) c) ∙ omega (arith, ap length n, f .end-is))
 
@@ -111,12 +98,7 @@ module _ (e : ℕ) (g : Bytes) where
         (λ t.
         let b = bin-parts e g t in
         let d = countIn e g in
-        let digits : Digits 0 0 d = record {
-          all = b .counted .digits;
-          few = omega (arith, b .counted .few);
-          some = omega (arith, b .counted .value, b .counted .long);
-        } in
-        n (valueOf d) (4 + length d) (is ∙ ap (countFrom e 0 0 4) (ap (drop 4) (b .whole)) ∙ count-found e 0 0 4 d (attachedIn e g) (b .free) digits))))
+        n (valueOf d) (4 + length d) (is ∙ ap (countFrom e 0 0 4) (ap (drop 4) (b .whole)) ∙ count-found e 0 0 4 d (attachedIn e g) (b .free) (counts-digits (b .counted))))))
 
     pub count-open : r ≡ Open → length g ≡ attachedFrom e g
     count-open z = uncounted (λ n m w. let x : _≡_ {A = ℕ} 0 1 = cc in omega arith)

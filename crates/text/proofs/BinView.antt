@@ -1,25 +1,22 @@
 -- The view of a segment, of a whole BIN and of any other: writing gives the segment back; and which of its pieces are looked into.
 -- Assumes nothing.
-use Prim.Native.Nat.{ℕ, _≤_, _<_}
-use mathlib.Core.Path.{_≡_, refl, sym, ap, subst, _∙_}
-use mathlib.Core.Logic.{_⊎_, inl, inr}
+use Prim.Native.Nat.{ℕ, _≤_}
+use mathlib.Core.Path.{_≡_, refl, sym, ap, _∙_}
 use mathlib.Core.Bool.{Bool, true, false, cond}
-use mathlib.Core.List.{List, [], _∷_, _++_, map}
-use native.Mathlib.Omega.{arith}
+use mathlib.Core.List.{[], _∷_, _++_, map}
 use lib.Dec.{T}
-use lib.ListN.{length, take, drop, getD, length-map}
+use lib.ListN.{length, take}
 use lib.Seq.{take-all}
-use Rattle.text.specs.Bytes.{Bytes, bytes, every, same}
+use Rattle.text.specs.Bytes.{Bytes, bytes, every}
 use Rattle.text.specs.Separators.{Fitted}
 use Rattle.text.specs.Pieces.{pieces}
-use Rattle.text.specs.Bin.{binMark, beginsBin, countIn, attachedIn, isBin}
+use Rattle.text.specs.Bin.{binMark, countIn, attachedIn, isBin}
 use Rattle.text.specs.View.{Piece, View, plainView, viewOf, elementsOf, binElements, written, elementOf, namesBin, inspected}
 use Rattle.text.specs.declared.separators.Separators.{Separators}
-use Rattle.text.proofs.Bools.{passes}
 use Rattle.text.proofs.Everys.{every-take}
 use Rattle.text.proofs.Sames.{same-equal}
-use Rattle.text.proofs.Pieces.{pieces-some, pieces-free, pieces-cut}
-use Rattle.text.proofs.Bins.{bin-parts, mark-begins}
+use Rattle.text.proofs.Pieces.{pieces-free, pieces-cut}
+use Rattle.text.proofs.Bins.{bin-parts}
 use Rattle.text.proofs.View.{written-plain}
 use Rattle.text.proofs.Serving.{id-bytes-free}
 

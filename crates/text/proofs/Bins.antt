@@ -1,22 +1,22 @@
 -- What stands in a whole BIN: the mark, a count, the separator and the attached bytes; and bytes so made are a whole BIN.
 -- Assumes nothing.
 use Prim.Native.Nat.{ℕ, suc, _+_, _≤_, _<_}
-use mathlib.Core.Path.{_≡_, refl, sym, ap, _∙_}
-use mathlib.Core.Bool.{Bool, true, false, cond, _&&_}
-use mathlib.Core.List.{List, [], _∷_, _++_, append-assoc}
+use mathlib.Core.Path.{_≡_, sym, ap, _∙_}
+use mathlib.Core.Bool.{Bool, true, false, _&&_}
+use mathlib.Core.List.{List, [], _∷_, _++_}
 use native.Mathlib.Omega.{arith}
-use lib.Dec.{T, eqb, leb, eqb→eq, leb→le, le→leb, eqb-refl}
+use lib.Dec.{T, eqb, leb, eqb→eq, leb→le}
 use lib.ListN.{length, take, drop, getD, length-append, length-take, length-drop, take-append-drop, drop-of-length-le}
 use lib.Seq.{drop-at, drop-cons, append-snoc}
 use borrow.Author.Tests.{eq-eqb, ne-eqb, le-leb}
-use Rattle.text.specs.Bytes.{Bytes, byte, bytes, between, every, same, valueOf}
+use Rattle.text.specs.Bytes.{Bytes, byte, between, every, same, valueOf}
 use Rattle.text.specs.Separators.{isDigit}
 use Rattle.text.specs.Pieces.{pieces, joined}
 use Rattle.text.specs.Bin.{binMark, beginsBin, countIn, attachedIn, counts, isBin}
 use Rattle.text.specs.internal.Search.{Free}
 use Rattle.text.proofs.Bools.{first-of, second-of, passes, fails, and-assoc, and-true}
-use Rattle.text.proofs.Pieces.{Clean, pieces-some, pieces-cut, pieces-clean, joined-pieces}
-use Rattle.text.proofs.Sames.{same-equal, same-self, equal-same}
+use Rattle.text.proofs.Pieces.{Clean, pieces-cut, pieces-clean, joined-pieces}
+use Rattle.text.proofs.Sames.{same-equal, same-self}
 
 -- a count of the attached bytes
 pub record Counts (count attached : Bytes) : Type 0 where
@@ -115,6 +115,10 @@ unfolding beginsBin
 begins-short e s at l =
     sym (short-differs (take 4 (drop at s)) (binMark e) (λ z. omega (arith, z, length-take 4 (drop at s), length-drop at s)))
 
+pub begins-other : (e : ℕ) (s : Bytes) (at : ℕ) → at < length s → (getD s at 0 ≡ byte "B" → ⊥) → false ≡ beginsBin e (drop at s)
+unfolding beginsBin
+begins-other e s at l n = sym (rw (drop-cons s at 0 l, ne-eqb (getD s at 0) (byte "B") n))
+
 module _ (e : ℕ) (s : Bytes) (at : ℕ) (l : at + 4 ≤ length s) where
   four : drop at s ≡ getD s at 0 ∷ getD s (at + 1) 0 ∷ getD s (at + 2) 0 ∷ getD s (at + 3) 0 ∷ drop (at + 4) s
   four =
@@ -132,10 +136,6 @@ module _ (e : ℕ) (s : Bytes) (at : ℕ) (l : at + 4 ≤ length s) where
         drop-cons s (suc (suc at)) 0 (omega arith),
         drop-cons s (suc (suc (suc at))) 0 (omega arith),
       )
-
-  pub begins-other : (getD s at 0 ≡ byte "B" → ⊥) → false ≡ beginsBin e (drop at s)
-  unfolding beginsBin
-  begins-other n = sym (rw (four, ne-eqb (getD s at 0) (byte "B") n))
 
   pub begins-letters : getD s at 0 ≡ byte "B"
       → ((eqb (getD s (at + 1) 0) (byte "I") && eqb (getD s (at + 2) 0) (byte "N")) && eqb (getD s (at + 3) 0) e) ≡ beginsBin e (drop at s)

@@ -1,16 +1,16 @@
 -- What the cut of a BIN behind its mark says of the bytes: they are counted, or can be continued to counted bytes, or could be up to their last byte.
 -- Assumes nothing.
 use Prim.Native.Nat.{ℕ, zero, suc, _+_, _-_, _*_, _≤_, _<_}
-use mathlib.Core.Path.{_≡_, refl, sym, ap, subst, _∙_}
+use mathlib.Core.Path.{_≡_, refl, sym, ap, subst}
 use mathlib.Core.Logic.{_⊎_, inl, inr, by-cases}
-use mathlib.Core.Bool.{Bool, true, false, cond, _&&_, _||_}
-use mathlib.Core.List.{List, [], _∷_, _++_, append-assoc}
+use mathlib.Core.Bool.{Bool, true, false, cond, _&&_}
+use mathlib.Core.List.{[], _∷_, _++_, append-assoc}
 use native.Mathlib.Omega.{arith}
 use native.Mathlib.Decide.{decLt}
-use lib.Dec.{T, eqb, leb, ltb, ltb→lt, leb→le, eqb→eq}
+use lib.Dec.{T, eqb, leb, ltb, ltb→lt}
 use lib.ListN.{length, take, drop, getD, replicate, length-append, length-replicate}
 use lib.Seq.{split-at, length-take-le, append-snoc}
-use borrow.Author.Tests.{eqb-true, eqb-false, leb-true, leb-false}
+use borrow.Author.Tests.{eqb-true, eqb-false, leb-true}
 use Rattle.text.specs.Bytes.{Bytes, byte, every, valueFrom}
 use Rattle.text.specs.Separators.{isDigit, Fitted}
 use Rattle.text.specs.Cut.{Cut, Whole, Stop, behind, cutAttached, mayCount, cutCounted}

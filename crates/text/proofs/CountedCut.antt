@@ -1,23 +1,24 @@
 -- The cut of a BIN behind its mark: where the count ends, what is cut off, and that nothing beyond the end decides.
 -- Assumes nothing.
-use Prim.Native.Nat.{ℕ, zero, suc, _+_, _-_, _*_, _≤_, _<_}
+use Prim.Native.Nat.{ℕ, suc, _+_, _-_, _*_, _≤_}
 use mathlib.Core.Path.{_≡_, refl, sym, ap, subst, _∙_}
-use mathlib.Core.Logic.{_⊎_, inl, inr, by-cases}
-use mathlib.Core.Bool.{Bool, true, false, cond, _&&_, _||_}
-use mathlib.Core.List.{List, [], _∷_, _++_, append-assoc}
+use mathlib.Core.Logic.{inl, inr, by-cases}
+use mathlib.Core.Bool.{Bool, true, false, cond, _&&_}
+use mathlib.Core.List.{[], _∷_, _++_, append-assoc}
 use native.Mathlib.Omega.{arith}
 use native.Mathlib.Decide.{decLt}
 use lib.Dec.{T, eqb, leb, ltb, ltb→lt, eqb→eq}
 use lib.ListN.{length, take, drop, getD, length-append}
 use lib.Seq.{take-at, drop-at, getD-at, split-at, length-take-le, append-snoc}
-use borrow.Author.Tests.{eq-eqb, ne-eqb, eqb-true, eqb-false, le-leb, lt-leb, leb-true, leb-false, lt-ltb, le-ltb}
+use borrow.Author.Tests.{eq-eqb, ne-eqb, eqb-true, eqb-false, le-leb, lt-leb, lt-ltb, le-ltb}
 use Rattle.text.specs.Bytes.{Bytes, byte, every, valueFrom}
 use Rattle.text.specs.Separators.{isDigit}
 use Rattle.text.specs.Cut.{Cut, Whole, Stop, behind, cutAttached, mayCount, cutCounted}
 use Rattle.text.specs.declared.separators.Separators.{Separators}
 use Rattle.text.specs.internal.Search.{Free}
-use Rattle.text.proofs.Bools.{first-of, second-of, both, passes, or-cases}
-use Rattle.text.proofs.CutLaws.{Faulty, CutLaw}
+use Rattle.text.proofs.Bools.{first-of, second-of, passes, or-cases}
+use Rattle.text.proofs.Bins.{Counts}
+use Rattle.text.proofs.CutLaws.{CutLaw}
 
 -- the law of a cut with bytes in front
 pub law-behind : (t : ℕ) (c d : Bytes → Cut) (front : Bytes) → ((x : Bytes) → c (front ++ x) ≡ behind front (d x)) → (s : Bytes) (r : Cut)
@@ -54,6 +55,23 @@ pub record Digits (k n : ℕ) (count : Bytes) : Type 0 where
   pub all : T (every isDigit count)
   pub few : k + length count ≤ 15
   pub some : 1 ≤ valueFrom n count
+
+-- the digits of a whole count, and back
+pub some-digit : (d : Bytes) → Digits 0 0 d → 1 ≤ length d
+some-digit [] x = absurd (omega (arith, x .some))
+some-digit (b ∷ d) x = omega arith
+
+pub counts-digits : {d p : Bytes} → Counts d p → Digits 0 0 d
+counts-digits c = record { all = c .digits; few = omega (arith, c .few); some = omega (arith, c .value, c .long) }
+
+pub digits-counts : (d p : Bytes) → Digits 0 0 d → valueFrom 0 d ≡ length p → Counts d p
+digits-counts d p x v = record {
+  some = some-digit d x;
+  few = omega (arith, x .few);
+  digits = x .all;
+  value = v;
+  long = omega (arith, v, x .some);
+}
 
 -- digits before the end of a count may go on
 pub may-go-on : (k n : ℕ) (d : Bytes) → k + length d ≤ 15 → 1 ≤ valueFrom n d → mayCount k n ≡ true

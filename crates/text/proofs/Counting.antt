@@ -4,18 +4,18 @@ use Prim.Native.Nat.{ℕ, suc, _+_, _-_, _*_, _^_, _≤_, _<_}
 use mathlib.Core.Path.{_≡_, refl, sym, ap, subst, _∙_}
 use mathlib.Core.Logic.{by-cases}
 use mathlib.Core.Bool.{Bool, true, false, cond, _&&_, _||_}
-use mathlib.Core.List.{List, [], _∷_, _++_}
+use mathlib.Core.List.{[], _∷_, _++_}
 use native.Mathlib.Omega.{arith}
 use native.Mathlib.Decide.{decLt}
 use native.Mathlib.Nat.{pow-suc, pow-le-pow-right}
 use native.Mathlib.Numerals.{add-one}
 use lib.Dec.{T, eqb, leb, ltb}
-use lib.ListN.{length, take, drop, getD, length-append, length-drop, drop-of-length-le}
+use lib.ListN.{length, drop, getD, drop-of-length-le}
 use lib.Seq.{drop-cons}
-use borrow.Author.Tests.{eq-eqb, ne-eqb, eqb-true, eqb-false, le-leb, lt-leb, lt-ltb, le-ltb, leb-true, leb-false}
+use borrow.Author.Tests.{eq-eqb, ne-eqb, eqb-true, eqb-false, le-leb, lt-leb, lt-ltb, le-ltb, leb-true}
 use Rattle.text.specs.Bytes.{Bytes, byte, every, valueFrom}
 use Rattle.text.specs.Separators.{isDigit}
-use Rattle.text.specs.Cut.{Cut, Stop, behind, mayCount, cutAttached, cutCounted}
+use Rattle.text.specs.Cut.{Stop, behind, mayCount, cutCounted}
 use Rattle.text.specs.declared.separators.Separators.{Separators}
 use Rattle.text.specs.internal.Search.{Free}
 use Rattle.text.specs.internal.Count.{countFrom}
@@ -86,8 +86,8 @@ module _ {s : Bytes} {e from digits number i : ℕ} (c : Counting s e from digit
       pub count-nothing : number ≡ 0 → Broken ≡ countFrom e 0 0 from (drop from s)
       count-nothing z = sym (now-at ∙ rw (eq-eqb b e is, lt-leb 1 number (omega arith)))
 
-      pub count-tells : (number ≡ 0 → ⊥) → Told number i ≡ countFrom e 0 0 from (drop from s)
-      count-tells z = sym (now-at ∙ rw (eq-eqb b e is, le-leb 1 number (omega (arith, z))))
+      pub count-tells : 1 ≤ number → Told number i ≡ countFrom e 0 0 from (drop from s)
+      count-tells z = sym (now-at ∙ rw (eq-eqb b e is, le-leb 1 number z))
 
     -- another byte
     module _ (other : b ≡ e → ⊥) where

@@ -4,20 +4,20 @@
 use Prim.Native.Nat.{ℕ, _≤_}
 use mathlib.Core.Path.{_≡_, refl, sym, ap, subst, _∙_}
 use mathlib.Core.Logic.{_⊎_, inl, inr}
-use mathlib.Core.Bool.{Bool, true, false, cond, _&&_}
+use mathlib.Core.Bool.{Bool, true, false, cond}
 use mathlib.Core.List.{[], _∷_, _++_}
 use native.Mathlib.Omega.{arith}
 use lib.Dec.{T, eqb, eqb→eq}
 use lib.ListN.{length, take, drop}
 use borrow.Author.Tests.{eq-eqb, ne-eqb, eqb-true, eqb-false}
-use Rattle.text.specs.Bytes.{Bytes, byte, bytes, same}
+use Rattle.text.specs.Bytes.{Bytes, byte, same}
 use Rattle.text.specs.Separators.{isCapital, Fitted}
-use Rattle.text.specs.Bin.{binMark, beginsBin, isBin}
+use Rattle.text.specs.Bin.{binMark, beginsBin}
 use Rattle.text.specs.internal.Search.{Free}
 use Rattle.text.specs.Cut.{Cut, Whole, Stop, behind, cutAtTerminator, cutCounted, cutOf, skipOf}
 use Rattle.text.specs.declared.separators.Separators.{Separators}
-use Rattle.text.proofs.Bools.{first-of, second-of, passes, fails}
-use Rattle.text.proofs.Bins.{begins-mark, mark-begins, bin-begins}
+use Rattle.text.proofs.Bools.{first-of, second-of, fails}
+use Rattle.text.proofs.Bins.{begins-mark, mark-begins}
 use Rattle.text.proofs.Serving.{serves-apart}
 use Rattle.text.proofs.CutLaws.{CutLaw, SkipLaw}
 use Rattle.text.proofs.CountedCut.{law-behind, counted-law}

@@ -8,7 +8,7 @@ use lib.Dec.{T}
 use Rattle.text.specs.Bytes.{Bytes, bytes, between, every, among}
 use Rattle.text.specs.Separators.{isDigit, isCapital, isIdByte, isSmall, mayServe}
 use Rattle.text.specs.internal.Search.{Free}
-use Rattle.text.proofs.Bools.{first-of, second-of, or-left, or-right}
+use Rattle.text.proofs.Bools.{first-of, second-of, or-right}
 
 pub serves-no-id-byte : (b : ℕ) → T (mayServe b) → T (isIdByte b) → ⊥
 unfolding mayServe

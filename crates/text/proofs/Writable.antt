@@ -1,31 +1,30 @@
 -- A view that can be written with these separators: it is cut off whole and seen again as it was. What stands above uses these laws and does not
 -- look into `Writable`.
 -- Assumes nothing.
-use Prim.Native.Nat.{ℕ, zero, suc, _+_, _≤_, _<_}
+use Prim.Native.Nat.{ℕ, _+_, _≤_, _<_}
 use mathlib.Core.Path.{_≡_, refl, sym, ap, subst, _∙_}
 use mathlib.Core.Logic.{_⊎_, inl, inr}
-use mathlib.Core.Bool.{Bool, true, false, not, cond, _&&_, _||_}
+use mathlib.Core.Bool.{Bool, true, false, not, _&&_, _||_}
 use mathlib.Core.List.{List, [], _∷_, _++_, map, append-assoc, append-nil}
 use native.Mathlib.Omega.{arith}
-use lib.Dec.{T, ltb}
-use lib.ListN.{length, take, drop, length-map}
-use lib.Seq.{append-snoc}
-use Rattle.text.specs.Bytes.{Bytes, bytes, every, valueOf}
-use Rattle.text.specs.Separators.{isDigit, isIdByte, mayServe, isSeparator, Fitted}
+use lib.Dec.{T}
+use lib.ListN.{length, drop, length-map}
+use Rattle.text.specs.Bytes.{Bytes, bytes}
+use Rattle.text.specs.Separators.{isDigit, isIdByte, mayServe, Fitted}
 use Rattle.text.specs.Pieces.{pieces, joined}
 use Rattle.text.specs.Bin.{binMark, beginsBin, countIn, attachedIn, counts, isBin}
 use Rattle.text.specs.View.{Piece, View, plainView, viewOf, written, elementOf, namesBin, inspected}
-use Rattle.text.specs.Cut.{Cut, Whole, Stop, behind, cutCounted, cutAtTerminator, cutOf}
+use Rattle.text.specs.Cut.{Whole, behind, cutOf}
 use Rattle.text.specs.internal.Search.{Free}
 use Rattle.text.specs.declared.separators.Separators.{Separators}
-use Rattle.text.proofs.Bools.{both, first-of, second-of, passes, fails, not-passes, or-left}
+use Rattle.text.proofs.Bools.{first-of, second-of, passes, fails, not-passes}
 use Rattle.text.proofs.Everys.{every-weaker}
 use Rattle.text.proofs.Pieces.{pieces-some, joined-pieces}
-use Rattle.text.proofs.Bins.{Counts, counts-told, counts-passes, BinParts, bin-parts, begins-mark, mark-begins, bin-made, count-made, attached-made, bin-begins}
+use Rattle.text.proofs.Bins.{Counts, counts-told, counts-passes, bin-parts, begins-mark, mark-begins, bin-made, count-made, attached-made, bin-begins}
 use Rattle.text.proofs.View.{unseparated, wellFormed, plain-unseparated, plain-well-formed, plain-written, written-free, CleanView, clean-unseparated}
-use Rattle.text.proofs.BinView.{binView, view-bin, view-plain, names-bin, inspected-other, inspected-few, inspected-bin, inspected-every, plain-marked}
+use Rattle.text.proofs.BinView.{binView, view-bin, view-plain, names-bin, inspected-other, inspected-few, inspected-bin, plain-marked}
 use Rattle.text.proofs.Serving.{id-bytes-free, digit-id-byte}
-use Rattle.text.proofs.CountedCut.{Digits, counted-whole}
+use Rattle.text.proofs.CountedCut.{counts-digits, counted-whole}
 use Rattle.text.proofs.DocumentCut.{cut-marked, cut-whole, mark-before}
 use Rattle.text.proofs.BinCut.{Plainly, cut-gives}
 
@@ -134,14 +133,11 @@ module _ (q : Separators) (fit : Fitted q) where
   count-free : (d p : Bytes) → Counts d p → Free (q .element) d
   count-free d p c = id-bytes-free (q .element) (fit .element-serves) d (every-weaker isDigit isIdByte digit-id-byte d (c .digits))
 
-  count-digits : (d p : Bytes) → Counts d p → Digits 0 0 d
-  count-digits d p c = record { all = c .digits; few = omega (arith, c .few); some = omega (arith, c .value, c .long) }
-
   pub bin-cut : (d p x : Bytes) → Counts d p → cutOf q (written q (binView d p) ++ q .terminator ∷ x) ≡ Whole (written q (binView d p)) x
   bin-cut d p x c =
       ap (λ (y : Bytes). cutOf q (binMark (q .element) ++ y)) (append-assoc d (q .element ∷ p) (q .terminator ∷ x))
       ∙ cut-marked q (d ++ q .element ∷ (p ++ q .terminator ∷ x))
-      ∙ ap (behind (binMark (q .element))) (counted-whole q d p x (count-free d p c) (count-digits d p c) (c .value))
+      ∙ ap (behind (binMark (q .element))) (counted-whole q d p x (count-free d p c) (counts-digits c) (c .value))
 
   pub bin-seen : (d p : Bytes) → Counts d p → viewOf q (written q (binView d p)) ≡ binView d p
   bin-seen d p c =

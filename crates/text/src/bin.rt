@@ -20,13 +20,13 @@ pub enum Counted {
 pub fn begins(s: &[u8], at: usize, element: u8) -> bool
     ensures { λ r. ⌜ r ≡ beginsBin element (drop at (now (s .entry))) ⌝ }
 {
-    if s.len() < 4 {
-        return false;
-    }
-    if s.len() - 4 < at {
+    if s.len() <= at {
         return false;
     }
     if s[at] != b'B' {
+        return false;
+    }
+    if s.len() - at < 4 {
         return false;
     }
     (s[at + 1] == b'I') & (s[at + 2] == b'N') & (s[at + 3] == element)

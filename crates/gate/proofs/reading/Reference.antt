@@ -14,7 +14,6 @@ use Rattle.text.specs.View.{View, viewOf}
 use Rattle.text.specs.Cut.{Cut, Whole, Stop, Placed}
 use Rattle.text.proofs.Bools.{both, first-of, second-of}
 use Rattle.text.proofs.Lists.{map-append}
-use Rattle.text.proofs.CutLaws.{CutLaw}
 use Rattle.text.proofs.DocumentCut.{Splits, cut-splits}
 use Rattle.rows.specs.Rows.{Viable, list842}
 use Rattle.rows.specs.Following.{Fits, OneFits, lastOf, twice}

@@ -2,17 +2,17 @@
 -- Assumes nothing.
 use Prim.Native.Nat.{ℕ, zero, suc, _+_, _-_, _≤_, _<_}
 use mathlib.Core.Path.{_≡_, refl, sym, ap, subst, _∙_}
-use mathlib.Core.Bool.{Bool, true, false, not, cond, _&&_}
+use mathlib.Core.Bool.{Bool, true, false, cond}
 use mathlib.Core.List.{List, [], _∷_, _++_}
 use native.Mathlib.Omega.{arith}
 use lib.Dec.{T, leb, leb→le, le→leb}
 use lib.ListN.{length, take, drop, getD, set, length-append, length-drop, length-set}
 use lib.Seq.{drop-at, drop-drop, getD-drop, split-at, length-take-le, append-snoc, getD-set-same, getD-set-other}
-use Rattle.text.specs.Bytes.{Bytes, bytes, between, every, valueFrom}
+use Rattle.text.specs.Bytes.{Bytes, bytes, every}
 use Rattle.text.specs.Separators.{isDigit, printable}
 use Rattle.text.specs.Bin.{binMark, beginsBin, countIn, attachedIn, isBin}
-use Rattle.text.specs.View.{View, Piece, viewOf, elementsOf, binElements, elementOf, present}
-use Rattle.text.specs.Cut.{Cut, Whole, Stop, behind, cutAttached, cutCounted, cutOf}
+use Rattle.text.specs.View.{viewOf, elementsOf, present}
+use Rattle.text.specs.Cut.{Cut, Whole, behind, cutAttached, cutCounted, cutOf}
 use Rattle.text.specs.Lookup.{spanAmong}
 use Rattle.text.specs.internal.Count.{countFrom}
 use Rattle.text.specs.declared.separators.Separators.{Separators}
@@ -22,13 +22,13 @@ use Rattle.text.proofs.Bools.{both, first-of, second-of}
 use Rattle.text.proofs.Everys.{every-weaker}
 use Rattle.text.proofs.Bins.{Counts, bin-parts, begins-mark, bin-made, count-made, attached-made}
 use Rattle.text.proofs.BinView.{binView, view-bin, inspected-bin, elements-bin}
-use Rattle.text.proofs.CountedCut.{Digits, attached-short, attached-whole, attached-broken, counted-jump}
+use Rattle.text.proofs.CountedCut.{some-digit, digits-counts, attached-short, attached-whole, attached-broken, counted-jump}
 use Rattle.text.proofs.Counting.{Found, Finds, count-finds}
 use Rattle.text.proofs.DocumentCut.{cut-marked, Splits, cut-splits}
 use Rattle.elements.specs.Checks.{Keeps}
 use Rattle.elements.specs.Rules.{dataChecks, byteChecks, endChecks}
 use Rattle.elements.specs.declared.layout.Layout.{Layout}
-use Rattle.reading.specs.internal.Cutting.{LaidAs, CutAs, StopsWith, binLayout, seenUpTo, BinSegment, CutsBin, CountedBin, CutsCounted}
+use Rattle.reading.specs.internal.Cutting.{LaidAs, StopsWith, binLayout, seenUpTo, BinSegment, CutsBin, CountedBin, CutsCounted}
 use Rattle.reading.specs.declared.cutting.Left.{Left}
 use Rattle.reading.specs.declared.cutting.Next.{Next}
 use Rattle.reading.specs.declared.cutting.Next.the-variants.{Open, Bad, Broken, Segment}
@@ -111,10 +111,6 @@ module _ (q : Separators) (s : Bytes) (at : ℕ) (marked : T (beginsBin (q .elem
       abbrev f : Found (q .element) 0 0 (at + 4) (drop (at + 4) s) number end
       f = subst (λ (x : Counted). Finds q 0 0 (at + 4) (drop (at + 4) s) x) z finds
 
-      some-digit : (d : Bytes) → Digits 0 0 d → 1 ≤ length d
-      some-digit [] x = absurd (omega (arith, x .some))
-      some-digit (b ∷ d) x = omega arith
-
       long : length s ≡ end + 1 + length (f .rest)
       long = omega (arith, ap length (f .whole) ∙ length-append (f .count) (q .element ∷ f .rest), length-drop (at + 4) s, marked-inside, f .end-is)
 
@@ -185,13 +181,7 @@ module _ (q : Separators) (s : Bytes) (at : ℕ) (marked : T (beginsBin (q .elem
         segment = mark ++ (f .count ++ q .element ∷ front)
 
         counts : Counts (f .count) front
-        counts = record {
-          some = some-digit (f .count) (f .digits);
-          few = omega (arith, f .digits .few);
-          digits = f .digits .all;
-          value = sym (f .number-is) ∙ sym front-long;
-          long = omega (arith, f .digits .some, f .number-is, front-long);
-        }
+        counts = digits-counts (f .count) front (f .digits) (sym (f .number-is) ∙ sym front-long)
 
         is-bin : isBin (q .element) segment ≡ true
         is-bin = bin-made (q .element) (f .count) front (f .free) counts

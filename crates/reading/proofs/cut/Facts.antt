@@ -3,7 +3,7 @@
 use Prim.Native.Nat.{ℕ, _+_, _≤_, _<_}
 use mathlib.Core.Path.{_≡_, refl, sym, ap, subst, _∙_}
 use mathlib.Core.Logic.{_⊎_, inl, inr}
-use mathlib.Core.Bool.{Bool, true, false}
+use mathlib.Core.Bool.{Bool, false}
 use mathlib.Core.List.{List, [], _∷_, _++_}
 use native.Mathlib.Omega.{arith}
 use lib.Dec.{T}
@@ -13,7 +13,7 @@ use Rattle.text.specs.Separators.{Fitted}
 use Rattle.text.specs.Bin.{beginsBin, isBin}
 use Rattle.text.specs.View.{plainView, viewOf, inspected}
 use Rattle.text.specs.internal.Search.{Free}
-use Rattle.text.specs.Cut.{Whole, Stop, cutOf}
+use Rattle.text.specs.Cut.{Whole, cutOf}
 use Rattle.text.specs.declared.separators.Separators.{Separators}
 use Rattle.text.proofs.BinView.{view-plain, elements-plain}
 use Rattle.text.proofs.BinCut.{Plainly, plainly, cut-gives}
@@ -22,7 +22,7 @@ use Rattle.text.proofs.DocumentCut.{cut-whole, cut-none}
 use Rattle.elements.specs.Rules.{dataChecks, byteChecks, endChecks}
 use Rattle.elements.specs.declared.layout.Layout.{Layout}
 use Rattle.reading.specs.internal.Queue.{left, Ready}
-use Rattle.reading.specs.internal.Cutting.{PlainBad, PlainSegment, CutsPlainly, BadSegment, CutAs, GoodSegment, StopsWith, Cuts, seenUpTo, BinSegment, CutsBin}
+use Rattle.reading.specs.internal.Cutting.{PlainBad, PlainSegment, CutsPlainly, BadSegment, CutAs, GoodSegment, Cuts, CutsBin}
 use Rattle.reading.specs.declared.cutting.Left.{Left}
 use Rattle.reading.specs.declared.cutting.Next.{Next}
 use Rattle.reading.specs.declared.cutting.Next.the-variants.{Open, Bad, Broken, Segment}

@@ -12,7 +12,7 @@ use borrow.Author.Tests.{le-ltb}
 use Rattle.text.specs.Bytes.{Bytes, between, every, valueOf}
 use Rattle.text.specs.Separators.{isDigit}
 use Rattle.text.specs.View.{View, viewOf, present, elementOf}
-use Rattle.text.specs.Cut.{Cut, Whole, Placed}
+use Rattle.text.specs.Cut.{Cut, Placed}
 use Rattle.text.specs.declared.separators.Separators.{Separators}
 use Rattle.text.proofs.Bools.{first-of, passes}
 use Rattle.text.proofs.BinView.{elements-plain}

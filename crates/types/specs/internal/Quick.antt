@@ -1,11 +1,10 @@
 -- The usual values of each type, which a few comparisons tell. What fits quickly fits (`quickly-fits`); what does not may fit all the same.
 -- Assumes nothing.
 use Prim.Native.Nat.{ℕ}
-use mathlib.Core.Bool.{Bool, true, _&&_, _||_}
+use mathlib.Core.Bool.{Bool, true, _&&_}
 use lib.Dec.{leb, eqb}
 use lib.ListN.{length}
 use Rattle.text.specs.Bytes.{Bytes, between}
-use Rattle.text.specs.Separators.{isDigit, isCapital}
 use Rattle.types.specs.Types.{isId, isNumber, figures, isTime, isOf}
 use Rattle.types.specs.declared.kind.Kind.{Kind}
 use Rattle.types.specs.declared.kind.Kind.the-variants.{AN, ID, Set842, N0, R, DT, TM}

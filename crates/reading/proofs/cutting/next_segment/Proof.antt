@@ -1,7 +1,6 @@
 -- `next_segment` meets its contract: what begins like a BIN is cut by its count, all else at the next terminator.
 -- Assumes nothing.
-use mathlib.Core.Path.{_≡_, sym, _∙_}
-use lib.Dec.{T}
+use mathlib.Core.Path.{sym, _∙_}
 use Rattle.reading.proofs.cut.Facts.{plain-cuts, bin-cuts}
 use borrow.Author.Needs.{needs}
 use Rattle.reading.proofs.cutting.next_segment.Statement.{statement}

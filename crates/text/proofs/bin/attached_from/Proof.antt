@@ -1,6 +1,6 @@
 -- `attached_from` meets its contract: the mark, and a count that ends with the segment.
 -- Assumes nothing.
-use mathlib.Core.Path.{_≡_, sym, _∙_}
+use mathlib.Core.Path.{sym, _∙_}
 use native.Mathlib.Omega.{arith}
 use lib.Dec.{T}
 use denote.Ref.{now}

@@ -1,4 +1,4 @@
--- `begins` meets its contract: four bytes are there, and they are the mark.
+-- `begins` meets its contract: the first byte is told at once, then the others.
 -- Assumes nothing.
 use native.Mathlib.Omega.{arith}
 use denote.Ref.{now}
@@ -12,21 +12,21 @@ returns c =
     let a = c .before .args in
     begins-short _ (now (a .s)) (a .at) (omega (arith, c .if1 .taken))
 
-sub-if2 : tie.Need-sub-if2
-sub-if2 c = search needs
+shared-slice-read-if2 : tie.Need-shared-slice-read-if2
+shared-slice-read-if2 c = search needs
 
 returns-2 : tie.Need-returns-2
 returns-2 c =
-    let a = c .before .before .args in
-    begins-short _ (now (a .s)) (a .at) (omega (arith, c .if2 .taken))
+    let a = c .before .before .before .args in
+    begins-other _ (now (a .s)) (a .at) (omega (arith, c .before .before .if1 .left)) (c .if2 .taken)
 
-shared-slice-read-if3 : tie.Need-shared-slice-read-if3
-shared-slice-read-if3 c = search needs
+sub-if3 : tie.Need-sub-if3
+sub-if3 c = search needs
 
 returns-3 : tie.Need-returns-3
 returns-3 c =
     let a = c .before .before .before .before .args in
-    begins-other _ (now (a .s)) (a .at) (omega (arith, c .before .before .if2 .left)) (c .if3 .taken)
+    begins-short _ (now (a .s)) (a .at) (omega (arith, c .before .before .before .if1 .left, c .if3 .taken))
 
 add-result : tie.Need-add-result
 add-result c = search needs
@@ -48,18 +48,18 @@ shared-slice-read-result-3 c = search needs
 
 returns-4 : tie.Need-returns-4
 returns-4 c =
-    let found = c .before .before .before in
-    let a = found .before .before .before .before .args in
-    begins-letters _ (now (a .s)) (a .at) (omega (arith, found .before .before .if2 .left)) (found .if3 .left)
+    let long = c .before .before .before in
+    let a = long .before .before .before .before .args in
+    begins-letters _ (now (a .s)) (a .at) (omega (arith, long .before .before .before .if1 .left, long .if3 .left)) (long .before .if2 .left)
 
 pub begins-spec : {M : Type 1} → statement M
 begins-spec =
     tie.close
     (tie.spec
     returns
-    sub-if2
+    shared-slice-read-if2
     returns-2
-    shared-slice-read-if3
+    sub-if3
     returns-3
     add-result
     shared-slice-read-result

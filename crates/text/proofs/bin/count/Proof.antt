@@ -34,10 +34,10 @@ shared-slice-read-b : tie.Need-shared-slice-read-b Inv-loop μ-loop
 shared-slice-read-b c = search needs
 
 returns : tie.Need-returns Inv-loop μ-loop
-returns c = let at = c .before .before in count-nothing (looped at .loop .inv) (at .before .loop-test .taken) (c .before .if1 .taken) (c .if2 .taken)
+returns c = let at = c .before .before in count-nothing (looped at .loop .inv) (at .before .loop-test .taken) (c .before .if1 .taken) (omega (arith, c .if2 .taken))
 
 returns-2 : tie.Need-returns-2 Inv-loop μ-loop
-returns-2 c = let at = c .before .before in count-tells (looped at .loop .inv) (at .before .loop-test .taken) (c .before .if1 .taken) (c .if2 .left)
+returns-2 c = let at = c .before .before in count-tells (looped at .loop .inv) (at .before .loop-test .taken) (c .before .if1 .taken) (omega (arith, c .if2 .left))
 
 is-digit-requires : tie.Need-is-digit-requires Inv-loop μ-loop
 is-digit-requires c κs = search needs

@@ -2,6 +2,7 @@
 -- Assumes nothing.
 use Prim.Native.Nat.{_<_}
 use mathlib.Core.Path.{_∙_}
+use native.Mathlib.Omega.{arith}
 use lib.ListN.{length}
 use denote.Ref.{now}
 use Rattle.text.specs.Lookup.{attachedFrom}
@@ -12,7 +13,9 @@ use Rattle.text.proofs.lookup.element_span.Tie as tie
 
 -- BIN02 starts before the end
 shorter : (c : tie.Then1) → attachedFrom (c .before .before .before .args .separator) (now (c .before .before .before .args .segment)) < length (now (c .before .before .before .args .segment))
-shorter c = rw (c .before .attached-from .ensures) at (c .if1 .taken)
+shorter c =
+    let l : c .before .attached-from .result < length (now (c .before .before .before .args .segment)) = omega (arith, c .if1 .taken) in
+    rw (c .before .attached-from .ensures) at l
 
 attached-from-requires : tie.Need-attached-from-requires
 attached-from-requires c κs = search needs

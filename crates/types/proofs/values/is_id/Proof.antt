@@ -1,6 +1,6 @@
 -- `is_id` meets its contract: the bytes up to i are capital letters and digits.
 -- Assumes nothing.
-use Prim.Native.Nat.{ℕ, _-_}
+use Prim.Native.Nat.{_-_}
 use mathlib.Core.Bool.{_||_}
 use lib.ListN.{length}
 use borrow.Author.Tests.{not-true, not-false}
