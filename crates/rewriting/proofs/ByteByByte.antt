@@ -1,47 +1,58 @@
 -- A segment is written byte by byte: what stands before BIN02 with the new separators, and BIN02 as it is.
 -- Assumes nothing.
-use Prim.Native.Nat.{ℕ, _+_, _-_, _≤_, _<_}
+use Prim.Native.Nat.{ℕ, suc, _+_, _-_, _≤_, _<_}
 use mathlib.Core.Path.{_≡_, refl, sym, ap, _∙_}
+use mathlib.Core.Logic.{_⊎_, inl, inr}
 use mathlib.Core.Bool.{Bool, true, false, cond}
 use mathlib.Core.List.{[], _∷_, _++_, map, map-map, append-nil}
 use native.Mathlib.Omega.{arith}
 use native.Mathlib.Numerals.{add-one}
 use lib.Dec.{T, eqb}
-use lib.ListN.{length, take, drop, getD, set, drop-of-length-le, length-append, length-drop, length-map}
-use lib.Seq.{drop-cons, take-length, drop-length, take-at, drop-at, length-take-le, take-all, append-snoc}
+use lib.ListN.{length, take, drop, getD, set, length-append, length-drop, length-map}
+use lib.Seq.{drop-cons, take-length, drop-length, take-at, drop-at, length-take-le, append-snoc}
 use borrow.Author.Tests.{eq-eqb, ne-eqb}
 use Rattle.text.specs.Bytes.{Bytes, bytes, every}
 use Rattle.text.specs.Separators.{isDigit, isIdByte, Fitted}
 use Rattle.text.specs.Pieces.{pieces, joined}
 use Rattle.text.specs.Bin.{binMark, countIn, attachedIn, isBin}
 use Rattle.text.specs.View.{plainView, viewOf, written}
+use Rattle.text.specs.Cut.{Whole, cutOf}
 use Rattle.text.specs.Lookup.{attachedFrom}
+use Rattle.text.specs.internal.Search.{Free}
 use Rattle.text.specs.declared.separators.Separators.{Separators}
-use Rattle.text.proofs.Bools.{first-of, second-of}
+use Rattle.text.proofs.Bools.{first-of, second-of, passes}
 use Rattle.text.proofs.Everys.{every-weaker}
 use Rattle.text.proofs.Lists.{map-append}
 use Rattle.text.proofs.Pieces.{rejoined, exchanged}
 use Rattle.text.proofs.Bins.{bin-parts}
 use Rattle.text.proofs.BinView.{view-bin, view-plain}
-use Rattle.text.proofs.BinSpans.{attached-bin, attached-plain, attached-most, bin-long}
+use Rattle.text.proofs.BinSpans.{attached-bin, attached-plain, bin-long}
+use Rattle.text.proofs.BinCut.{Plainly, cut-gives}
 use Rattle.text.proofs.Serving.{serves-apart, digit-id-byte}
-use Rattle.rewriting.specs.internal.Output.{putAt, byteAgain}
-use Rattle.rewriting.proofs.OutputSoFar.{SoFar, put-byte, put-behind, so-far-none, so-far-room, so-far-length, so-far-all, so-far-more}
+use Rattle.rewriting.specs.internal.Output.{putAt, stretch, byteAgain}
+use Rattle.rewriting.proofs.OutputSoFar.{SoFar, put-byte, so-far-none, so-far-room, so-far-length, so-far-all, so-far-more}
 
 module _ (old new : Separators) where
-  -- what a byte of a piece becomes
+  -- what a byte becomes within an element, and within a segment
   abbrev componentAgain : ℕ → ℕ
   componentAgain b = cond (eqb b (old .component)) (new .component) b
+
+  abbrev innerAgain : ℕ → ℕ
+  innerAgain b = cond (eqb b (old .element)) (new .element) (componentAgain b)
 
   piece-again : (piece : Bytes) → joined (new .component) (pieces (old .component) piece) ≡ map componentAgain piece
   piece-again piece = exchanged (old .component) (new .component) piece
 
   -- a segment that is cut at its separators, written again, is each of its bytes written again
-  plain-again : (segment : Bytes) → written new (plainView old segment) ≡ map (byteAgain old new) segment
-  plain-again segment =
+  plain-inner : (segment : Bytes) → written new (plainView old segment) ≡ map innerAgain segment
+  plain-inner segment =
       ap (joined (new .element)) (map-map (joined (new .component)) (pieces (old .component)) (pieces (old .element) segment))
       ∙ rejoined (old .element) (new .element) (λ p. joined (new .component) (pieces (old .component) p)) componentAgain refl
       (λ b p. piece-again (b ∷ p) ∙ ap (λ (l : Bytes). componentAgain b ∷ l) (sym (piece-again p))) segment
+
+  inner-again : (s : Bytes) → Free (old .terminator) s → map innerAgain s ≡ map (byteAgain old new) s
+  inner-again [] f = refl
+  inner-again (b ∷ s) f = rw (ne-eqb b (old .terminator) (f .0), inner-again s (f .1))
 
   -- a segment written again is as long as it was
   pub written-length : (segment : Bytes) → length (written new (viewOf old segment)) ≡ length segment
@@ -55,7 +66,7 @@ module _ (old new : Separators) where
           ∙ omega (arith, length-append d (new .element ∷ p), bin-long (old .element) segment h)
       by false h =
           ap (λ v. length (written new v)) (view-plain old segment h)
-          ∙ ap length (plain-again segment) ∙ length-map segment (byteAgain old new)
+          ∙ ap length (plain-inner segment) ∙ length-map segment innerAgain
 
   -- capitals and digits stay as they are
   ids-again : Fitted old → (s : Bytes) → T (every isIdByte s) → map (byteAgain old new) s ≡ s
@@ -65,18 +76,27 @@ module _ (old new : Separators) where
       rw (
         ne-eqb b (old .element) (serves-apart b (old .element) id (fit .element-serves)),
         ne-eqb b (old .component) (serves-apart b (old .component) id (fit .component-serves)),
+        ne-eqb b (old .terminator) (serves-apart b (old .terminator) id (fit .terminator-serves)),
         ids-again fit s (second-of (isIdByte b) (every isIdByte s) t),
       )
 
   -- what stands before BIN02, if the segment is a whole BIN, and what stands from there on
-  abbrev front : Bytes → Bytes
+  abbrev pub front : Bytes → Bytes
   front segment = take (attachedFrom (old .element) segment) segment
 
-  abbrev back : Bytes → Bytes
+  abbrev pub back : Bytes → Bytes
   back segment = drop (attachedFrom (old .element) segment) segment
 
   separator-again : byteAgain old new (old .element) ≡ new .element
   separator-again = rw (eq-eqb (old .element) (old .element) refl)
+
+  pub terminator-again : Fitted old → byteAgain old new (old .terminator) ≡ new .terminator
+  terminator-again fit =
+      rw (
+        ne-eqb (old .terminator) (old .element) (λ e. fit .element-terminator (sym e)),
+        ne-eqb (old .terminator) (old .component) (λ e. fit .component-terminator (sym e)),
+        eq-eqb (old .terminator) (old .terminator) refl,
+      )
 
   bin-again : Fitted old → (segment : Bytes) → isBin (old .element) segment ≡ true
       → written new (viewOf old segment) ≡ map (byteAgain old new) (front segment) ++ back segment
@@ -102,62 +122,48 @@ module _ (old new : Separators) where
       ((λ i. map (byteAgain old new) (f i) ++ k i) ∙ ap (λ (x : Bytes). x ++ p) again
       ∙ ap (λ (x : Bytes). binMark (new .element) ++ x) (append-snoc d (new .element) p))
 
-  -- a segment written again, byte by byte
-  pub segment-again : Fitted old → (segment : Bytes) → written new (viewOf old segment) ≡ map (byteAgain old new) (front segment) ++ back segment
-  segment-again fit segment = by (isBin (old .element) segment) refl
+  -- a segment that was cut off, written again byte by byte
+  pub segment-again : Fitted old → (s segment more : Bytes) → cutOf old s ≡ Whole segment more
+      → written new (viewOf old segment) ≡ map (byteAgain old new) (front segment) ++ back segment
+  segment-again fit s segment more cut = by (cut-gives old fit s segment more cut)
     where
-      by : (b : Bool) → isBin (old .element) segment ≡ b → written new (viewOf old segment) ≡ map (byteAgain old new) (front segment) ++ back segment
-      by true h = bin-again fit segment h
-      by false h =
-          ap (written new) (view-plain old segment h) ∙ plain-again segment
-          ∙ sym (rw (attached-plain (old .element) segment h, take-length segment, drop-length segment) (append-nil (map (byteAgain old new) segment)))
+      by : T (isBin (old .element) segment) ⊎ Plainly old segment
+          → written new (viewOf old segment) ≡ map (byteAgain old new) (front segment) ++ back segment
+      by (inl b) = bin-again fit segment (passes (isBin (old .element) segment) b)
+      by (inr p) =
+          ap (written new) (view-plain old segment (p .no-bin)) ∙ plain-inner segment ∙ inner-again segment (p .free)
+          ∙ sym
+          (rw (attached-plain (old .element) segment (p .no-bin), take-length segment, drop-length segment) (append-nil (map (byteAgain old new) segment)))
 
-  -- both parts, one behind the other
-  parts-put : Fitted old → (segment first middle output : Bytes) (at : ℕ) → at + length segment ≤ length first
-      → middle ≡ putAt at (map (byteAgain old new) (front segment)) first
-      → output ≡ putAt (at + attachedFrom (old .element) segment) (back segment) middle → output ≡ putAt at (written new (viewOf old segment)) first
-  parts-put fit segment first middle output at room m o =
-      let a = attachedFrom (old .element) segment in
-      let x = map (byteAgain old new) (front segment) in
-      let long : length x ≡ a = length-map (front segment) (byteAgain old new) ∙ length-take-le a segment (attached-most (old .element) segment) in
-      let all = ap length (segment-again fit segment) ∙ length-append x (back segment) in
-      o ∙ (λ i. putAt (at + sym long i) (back segment) (m i))
-      ∙ put-behind first x (back segment) at (omega (arith, room, written-length segment, all))
-      ∙ ap (λ (y : Bytes). putAt at y first) (sym (segment-again fit segment))
-
-  -- where `a` is the place between them
-  pub parts-all : Fitted old → (segment first middle output : Bytes) (at a : ℕ) → at + length segment ≤ length first → a ≡ attachedFrom (old .element) segment
-      → middle ≡ putAt at (map (byteAgain old new) (take a segment)) first
-      → output ≡ putAt (at + a) (take (length segment - a) (drop a segment)) middle → output ≡ putAt at (written new (viewOf old segment)) first
-  parts-all fit segment first middle output at a room is m o =
-      parts-put fit segment first middle output at room (m ∙ ap (λ (n : ℕ). putAt at (map (byteAgain old new) (take n segment)) first) is)
-      (o ∙ ap (λ (x : Bytes). putAt (at + a) x middle) (take-all (length segment - a) (drop a segment) (rw (length-drop a segment) (omega arith)))
-      ∙ ap (λ (n : ℕ). putAt (at + n) (drop n segment) middle) is)
-
--- bytes, each changed by f, are written from `at` on into what was `first`
-module _ (f : ℕ → ℕ) (first : Bytes) (at : ℕ) where
+-- the bytes from `from` up to `to`, each changed by f, are written at the same places into what was `first`
+module _ (f : ℕ → ℕ) (first s : Bytes) (from to : ℕ) where
   -- those before i are written
-  pub record WrittenTo (bytes output : Bytes) (i : ℕ) : Type 0 where
-    pub so-far : SoFar first at (map f bytes) output (at + i) (map f (drop i bytes))
+  pub record WrittenTo (output : Bytes) (i : ℕ) : Type 0 where
+    pub inside : to ≤ length s
+    pub so-far : SoFar first from (map f (stretch from to s)) output i (map f (stretch i to s))
 
-  pub written-none : (bytes : Bytes) → at + length bytes ≤ length first → WrittenTo bytes first 0
-  written-none bytes l =
-      let same : at + 0 ≡ at = omega arith in
-      record { so-far = rw same (so-far-none first at (map f bytes) (omega (arith, length-map bytes f, l))) }
+  left-long : (i : ℕ) → to ≤ length s → length (map f (stretch i to s)) ≡ to - i
+  left-long i l = length-map (stretch i to s) f ∙ length-take-le (to - i) (drop i s) (rw (length-drop i s) (omega arith))
 
-  module _ {bytes output : Bytes} {i : ℕ} (w : WrittenTo bytes output i) where
-    next-byte : i < length bytes → map f (drop i bytes) ≡ (f (getD bytes i 0) ∷ []) ++ map f (drop (i + 1) bytes)
-    next-byte l = rw (add-one, drop-cons bytes i 0 l)
+  pub written-none : from ≤ to → to ≤ length s → to ≤ length first → WrittenTo first from
+  written-none m l r = record { inside = l; so-far = so-far-none first from (map f (stretch from to s)) (omega (arith, left-long from l)) }
 
-    pub written-inside : i < length bytes → at + i < length output
-    written-inside l = omega (arith, so-far-room (w .so-far), so-far-length (w .so-far), simp length-append at (ap length (next-byte l)))
+  module _ {output : Bytes} {i : ℕ} (w : WrittenTo output i) where
+    pub written-inside : i < to → i < length output
+    written-inside l = omega (arith, so-far-room (w .so-far), so-far-length (w .so-far), left-long i (w .inside))
 
-    pub written-more : i < length bytes → WrittenTo bytes (set output (at + i) (f (getD bytes i 0))) (i + 1)
+    next-byte : i < to → map f (stretch i to s) ≡ (f (getD s i 0) ∷ []) ++ map f (stretch (i + 1) to s)
+    next-byte l =
+        let one : to - i ≡ suc (to - (i + 1)) = omega arith in
+        rw (one, drop-cons s i 0 (omega (arith, w .inside)), add-one i)
+
+    pub written-more : i < to → WrittenTo (set output i (f (getD s i 0))) (i + 1)
     written-more l = record {
+      inside = w .inside;
       so-far =
-          so-far-more (w .so-far) (f (getD bytes i 0) ∷ []) (map f (drop (i + 1) bytes)) _ (at + (i + 1)) (next-byte l)
-          (put-byte output (at + i) (f (getD bytes i 0)) (written-inside l)) (omega arith);
+          so-far-more (w .so-far) (f (getD s i 0) ∷ []) (map f (stretch (i + 1) to s)) _ (i + 1) (next-byte l)
+          (put-byte output i (f (getD s i 0)) (written-inside l)) refl;
     }
 
-    pub written-all : length bytes ≤ i → output ≡ putAt at (map f bytes) first
-    written-all l = so-far-all (w .so-far) (rw (drop-of-length-le bytes {i = i} l))
+    pub written-all : to ≤ i → output ≡ putAt from (map f (stretch from to s)) first
+    written-all l = let none : to - i ≡ 0 = omega arith in so-far-all (w .so-far) (rw none)

@@ -26,7 +26,7 @@ use Rattle.elements.specs.declared.verdict.Verdict.{Verdict}
 use Rattle.elements.specs.declared.verdict.Verdict.the-variants.{Holds, Broken}
 use Rattle.elements.proofs.Bytewise.{badFrom, each-bad}
 use Rattle.rewriting.specs.Rewrites.{apartFrom, apartChecks, collisionChecks}
-use Rattle.rewriting.specs.internal.AsCut.{AsCut}
+use Rattle.rewriting.specs.internal.CutOff.{AsCut}
 
 -- the first data byte that is one of these separators, where k element separators of the old set stand before
 abbrev pub clashFrom : (old new : Separators) (k : ℕ) → Bytes → Verdict

@@ -1,20 +1,20 @@
 -- The quick test: bytes tested one by one, and why no segment collides where all are harmless.
 -- Assumes nothing.
 use Prim.Native.Nat.{ℕ, suc, _+_, _≤_, _<_}
-use mathlib.Core.Path.{_≡_, refl, sym, ap, _∙_}
+use mathlib.Core.Path.{_≡_, refl, sym, ap, subst, _∙_}
 use mathlib.Core.Logic.{_⊎_, inl, inr}
 use mathlib.Core.Bool.{Bool, true, false, not, cond, _&&_, _||_}
 use mathlib.Core.List.{List, [], _∷_}
 use native.Mathlib.Omega.{arith}
 use native.Mathlib.Numerals.{add-one}
 use lib.Dec.{T, eqb}
-use lib.ListN.{length, getD, drop, drop-of-length-le}
+use lib.ListN.{length, getD, take, drop, drop-of-length-le}
 use lib.Seq.{drop-cons}
 use Rattle.text.specs.Bytes.{Bytes, every}
 use Rattle.text.specs.Separators.{isSeparator, Fitted}
 use Rattle.text.specs.Bin.{isBin}
 use Rattle.text.specs.Pieces.{closed}
-use Rattle.text.specs.View.{plainView, viewOf, empty, elementOf}
+use Rattle.text.specs.View.{plainView, viewOf, empty, elementOf, inspected}
 use Rattle.text.specs.Cut.{Placed, Leads, Whole, cutOf}
 use Rattle.text.specs.declared.separators.Separators.{Separators}
 use Rattle.text.proofs.Bools.{first-of, second-of, and-assoc, and-true, passes}
@@ -27,11 +27,21 @@ use Rattle.elements.specs.declared.verdict.Verdict.{Verdict}
 use Rattle.elements.specs.declared.verdict.Verdict.the-variants.{Holds, Broken}
 use Rattle.elements.proofs.FirstBroken.{each-holds}
 use Rattle.gate.specs.Reads.{cutBy, skipBy}
+use Rattle.gate.specs.Conditions.{usedBy}
 use Rattle.rewriting.specs.Rewrites.{strictly, apartFrom, apartChecks, collisionChecks, collision}
 use Rattle.rewriting.specs.declared.collisions.Clash.the-variants.{Nowhere}
+use Rattle.rewriting.specs.internal.CutOff.{CutOff, AsCut}
 use Rattle.rewriting.specs.internal.QuickTest.{harmlessByte}
-use Rattle.rewriting.proofs.SegmentBytes.{texts}
+use Rattle.rewriting.proofs.SegmentBytes.{texts, used-taken}
 use Rattle.rewriting.proofs.CollidingBytes.{clashFrom, clash-first, plain-checks, bin-apart}
+
+-- a segment that was cut off is looked into whole, if it is no whole BIN
+pub as-cut : (old : Separators) → Fitted old → (s segment more : Bytes) → cutOf old s ≡ Whole segment more → AsCut old segment
+as-cut old fit s segment more e n = by (cut-gives old fit s segment more e)
+  where
+    by : T (isBin (old .element) segment) ⊎ Plainly old segment → inspected (plainView old segment) ≡ plainView old segment
+    by (inl h) = absurd (subst (λ (b : Bool). T b) n h)
+    by (inr p) = plain-inspected old fit segment p
 
 module _ (old new : Separators) where
   -- the bytes before i are tested
@@ -102,3 +112,10 @@ module _ (old new : Separators) where
         let later = second-of (f t) (every f behind) (second-of (every f (g .segment)) (every f (t ∷ behind)) halves) in
         rw here
         (harmless-nowhere (suc n) (at + length (g .segment) + 1 + skipBy (strictly old) (l .0)) (l .0) gs end rest (l .3) later)
+
+-- what the quick test tells of the bytes that segments use
+pub harmless-used : (old new : Separators) (s : Bytes) (gs : List Placed) → CutOff old s gs → Fitted new → every (harmlessByte old new) (take (usedBy gs) s) ≡ true
+    → collision old new 1 gs ≡ Nowhere
+harmless-used old new s gs c new-fit h =
+    let harmless : T (every (harmlessByte old new) (closed (old .terminator) (texts gs))) = rw (← used-taken old s gs (c .end) (c .rest) (c .leads), h) tt in
+    harmless-nowhere old new (c .fit) new-fit 1 0 s gs (c .end) (c .rest) (c .leads) harmless

@@ -5,6 +5,7 @@ pub mod HarmlessBytes
 pub mod ByteByByte
 pub mod RecordByRecord
 pub mod WrittenSegments
+pub mod Runs
 pub mod TableRecords
 pub mod AcceptedTable
 pub mod Outcomes

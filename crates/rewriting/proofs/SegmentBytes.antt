@@ -1,6 +1,6 @@
 -- The segments that a reading cuts, as the bytes they were: one after the other, each with its terminator.
 -- Assumes nothing.
-use Prim.Native.Nat.{ℕ, _+_}
+use Prim.Native.Nat.{ℕ, _+_, _≤_}
 use mathlib.Core.Path.{_≡_, refl, sym, ap, _∙_}
 use mathlib.Core.List.{List, [], _∷_, _++_, map, append-assoc}
 use native.Mathlib.Omega.{arith}
@@ -14,6 +14,7 @@ use Rattle.text.proofs.DocumentCut.{Splits, cut-splits}
 use Rattle.gate.specs.Reads.{cutBy, skipBy}
 use Rattle.gate.specs.Conditions.{usedBy}
 use Rattle.rewriting.specs.Rewrites.{strictly}
+use Rattle.rewriting.specs.internal.CutOff.{CutOff}
 
 -- the bytes of each segment
 abbrev pub texts : List Placed → List Bytes
@@ -30,6 +31,14 @@ module _ (old : Separators) where
   spelt at s (g ∷ gs) end rest l =
       let here : Splits old s (Whole (g .segment) (l .0)) = rw (l .1) at (cut-splits old s) in
       here ∙ rw (append-assoc, spelt (at + length (g .segment) + 1 + skipBy (strictly old) (l .0)) (l .0) gs end rest (l .3))
+
+  -- where they end
+  pub ends : (at : ℕ) (s : Bytes) (gs : List Placed) (end : ℕ) (rest : Bytes) → Leads (cutBy (strictly old)) (skipBy (strictly old)) at s gs end rest
+      → end ≡ at + length (closed t (texts gs))
+  ends at s [] end rest l = omega (arith, l .0)
+  ends at s (g ∷ gs) end rest l =
+      ends (at + length (g .segment) + 1 + skipBy (strictly old) (l .0)) (l .0) gs end rest (l .3)
+      ∙ rw (length-append (g .segment) (t ∷ closed t (texts gs))) (omega arith)
 
   -- the used bytes are those of the segments
   used-from : (at : ℕ) (s : Bytes) (g : Placed) (gs : List Placed) (end : ℕ) (rest : Bytes) → Leads (cutBy (strictly old)) (skipBy (strictly old)) at s (g ∷ gs) end rest
@@ -48,3 +57,8 @@ module _ (old : Separators) where
       → take (usedBy gs) s ≡ closed t (texts gs)
   used-taken s gs end rest l =
       ap (take (usedBy gs)) (spelt 0 s gs end rest l) ∙ take-at (closed t (texts gs)) rest (usedBy gs) (sym (used-length s gs end rest l))
+
+  pub used-within : (s : Bytes) (gs : List Placed) → CutOff old s gs → usedBy gs ≤ length s
+  used-within s gs c =
+      let all = ap length (spelt 0 s gs (c .end) (c .rest) (c .leads)) ∙ length-append (closed t (texts gs)) (c .rest) in
+      omega (arith, all, used-length s gs (c .end) (c .rest) (c .leads))

@@ -3,4 +3,4 @@
 pub mod SegmentTable
 pub mod Output
 pub mod QuickTest
-pub mod AsCut
+pub mod CutOff

@@ -4,10 +4,11 @@ ghost use Rattle.text.specs.Bytes.{every};
 ghost use Rattle.text.specs.Separators.{isSeparator, Fitted};
 ghost use Rattle.text.specs.View.{viewOf};
 ghost use Rattle.elements.specs.Checks.{firstBroken};
+ghost use Rattle.gate.specs.Conditions.{usedBy};
 ghost use Rattle.rewriting.specs.Rewrites.{collisionChecks, collision};
 ghost use Rattle.rewriting.specs.internal.SegmentTable.{segmentsFrom, NamesFrom};
-ghost use Rattle.rewriting.specs.internal.AsCut.{AsCut, Changeable};
-ghost use Rattle.rewriting.specs.internal.QuickTest.{harmlessByte, Telling};
+ghost use Rattle.rewriting.specs.internal.CutOff.{AsCut, CutOff};
+ghost use Rattle.rewriting.specs.internal.QuickTest.{harmlessByte};
 use crate::change::Change;
 use crate::table;
 use elements::verdict::Verdict;
@@ -72,7 +73,8 @@ fn segment_collision(segment: &[u8], change: Change) -> Verdict
 // The first segment that collides, of those that the first `count` records name.
 fn first_collision(s: &[u8], segments: &[u64], count: usize, change: Change) -> Clash
     requires { ⌜ NamesFrom (now s) (now segments) 0 count ⌝ }
-    requires { ⌜ Changeable (change .old) (change .new) (segmentsFrom (now s) (now segments) 0 count) ⌝ }
+    requires { ⌜ CutOff (change .old) (now s) (segmentsFrom (now s) (now segments) 0 count) ⌝ }
+    requires { ⌜ Fitted (change .new) ⌝ }
     ensures { λ r. ⌜ r ≡ collision (change .old) (change .new) 1 (segmentsFrom (now (s .entry)) (now (segments .entry)) 0 count) ⌝ }
 {
     let mut k: usize = 0;
@@ -105,8 +107,9 @@ pub(crate) fn find_clash(
     change: Change,
 ) -> Clash
     requires { ⌜ NamesFrom (now s) (now segments) 0 count ⌝ }
-    requires { ⌜ Changeable (change .old) (change .new) (segmentsFrom (now s) (now segments) 0 count) ⌝ }
-    requires { ⌜ Telling (change .old) (change .new) (now s) bytes (segmentsFrom (now s) (now segments) 0 count) ⌝ }
+    requires { ⌜ CutOff (change .old) (now s) (segmentsFrom (now s) (now segments) 0 count) ⌝ }
+    requires { ⌜ Fitted (change .new) ⌝ }
+    requires { ⌜ bytes ≡ usedBy (segmentsFrom (now s) (now segments) 0 count) ⌝ }
     ensures { λ r. ⌜ r ≡ collision (change .old) (change .new) 1 (segmentsFrom (now (s .entry)) (now (segments .entry)) 0 count) ⌝ }
 {
     if harmless(&s[..bytes], change) {

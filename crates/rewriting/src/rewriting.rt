@@ -1,11 +1,11 @@
 // Rewriting one transaction with other separators.
 ghost use mathlib.Core.Path.{_≡_};
-ghost use lib.ListN.{length};
+ghost use Rattle.text.specs.Separators.{Fitted};
+ghost use Rattle.gate.specs.Conditions.{usedBy};
 ghost use Rattle.gate.specs.declared.answer.Answer.the-variants.{Accepted, Refused};
-ghost use Rattle.rewriting.specs.Rewrites.{rewritten, OutcomeOf, Rewrites};
+ghost use Rattle.rewriting.specs.Rewrites.{OutcomeOf, Rewrites};
 ghost use Rattle.rewriting.specs.internal.SegmentTable.{segmentsFrom, NamesFrom};
-ghost use Rattle.rewriting.specs.internal.AsCut.{Changeable};
-ghost use Rattle.rewriting.specs.internal.QuickTest.{Telling};
+ghost use Rattle.rewriting.specs.internal.CutOff.{CutOff};
 use crate::change::Change;
 use crate::collisions;
 use crate::collisions::Clash;
@@ -37,9 +37,9 @@ fn write_accepted(
     output: &mut [u8],
 ) -> Answer
     requires { ⌜ NamesFrom (now s) (now segments) 0 count ⌝ }
-    requires { ⌜ Changeable (change .old) (change .new) (segmentsFrom (now s) (now segments) 0 count) ⌝ }
-    requires { ⌜ bytes ≡ length (rewritten (change .old) (change .new) (segmentsFrom (now s) (now segments) 0 count)) ⌝ }
-    requires { ⌜ Telling (change .old) (change .new) (now s) bytes (segmentsFrom (now s) (now segments) 0 count) ⌝ }
+    requires { ⌜ CutOff (change .old) (now s) (segmentsFrom (now s) (now segments) 0 count) ⌝ }
+    requires { ⌜ Fitted (change .new) ⌝ }
+    requires { ⌜ bytes ≡ usedBy (segmentsFrom (now s) (now segments) 0 count) ⌝ }
     ensures { λ r. ⌜ OutcomeOf (change .old) (change .new) (segmentsFrom (now (s .entry)) (now (segments .entry)) 0 count) (Accepted count levels bytes) bytes
         (now (output .entry)) r (now (output .exit)) ⌝ }
 {
@@ -58,7 +58,7 @@ fn write_accepted(
             if output.len() < bytes {
                 return refused(19, 0);
             }
-            writing::write_segments(s, segments, count, change, output);
+            writing::write_segments(s, bytes, segments, count, change, output);
             Answer::Accepted {
                 segments: count,
                 levels,

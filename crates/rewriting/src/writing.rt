@@ -1,18 +1,18 @@
 // The segments with other separators.
 ghost use mathlib.Core.Path.{_≡_};
-ghost use Prim.Native.Nat.{_+_, _≤_};
+ghost use Prim.Native.Nat.{_≤_};
 ghost use mathlib.Core.List.{map};
 ghost use lib.ListN.{length};
-ghost use Rattle.text.specs.Separators.{Fitted};
-ghost use Rattle.text.specs.View.{viewOf, written};
+ghost use Rattle.gate.specs.Conditions.{usedBy};
 ghost use Rattle.rewriting.specs.Rewrites.{rewritten};
 ghost use Rattle.rewriting.specs.internal.SegmentTable.{segmentsFrom, NamesFrom};
-ghost use Rattle.rewriting.specs.internal.Output.{putAt, byteAgain};
+ghost use Rattle.rewriting.specs.internal.CutOff.{CutOff};
+ghost use Rattle.rewriting.specs.internal.Output.{putAt, stretch, byteAgain};
 use crate::change::Change;
 use crate::table;
 use text::bin;
 
-// What a byte of a segment becomes.
+// What a byte becomes that does not stand in BIN02.
 fn byte_again(byte: u8, change: Change) -> u8
     ensures { λ r. ⌜ r ≡ byteAgain (change .old) (change .new) byte ⌝ }
 {
@@ -22,66 +22,71 @@ fn byte_again(byte: u8, change: Change) -> u8
     if byte == change.old.component {
         return change.new.component;
     }
+    if byte == change.old.terminator {
+        return change.new.terminator;
+    }
     byte
 }
 
-// Writes bytes from `at` on with the new separators for the old ones, in one loop that can take many bytes at once.
-fn write_again(bytes: &[u8], change: Change, output: &mut [u8], at: usize)
-    requires { ⌜ at + length (now bytes) ≤ length (now output) ⌝ }
-    ensures { λ _. ⌜ now (output .exit) ≡ putAt at (map (byteAgain (change .old) (change .new)) (now (bytes .entry))) (now (output .entry)) ⌝ }
+// Writes the bytes from `from` up to `to` at the same places of the output, with the new separators for the old ones, in one loop that can take many bytes
+// at once.
+fn write_again(s: &[u8], from: usize, to: usize, change: Change, output: &mut [u8])
+    requires { ⌜ from ≤ to ⌝ }
+    requires { ⌜ to ≤ length (now s) ⌝ }
+    requires { ⌜ to ≤ length (now output) ⌝ }
+    ensures { λ _. ⌜ now (output .exit) ≡ putAt from (map (byteAgain (change .old) (change .new)) (stretch from to (now (s .entry)))) (now (output .entry)) ⌝ }
 {
-    let mut i: usize = 0;
-    while i < bytes.len() {
-        output[at + i] = byte_again(bytes[i], change);
+    let mut i = from;
+    while i < to {
+        output[i] = byte_again(s[i], change);
         i += 1;
     }
 }
 
-// Writes bytes from `at` on as they are.
-fn copy(bytes: &[u8], output: &mut [u8], at: usize)
-    requires { ⌜ at + length (now bytes) ≤ length (now output) ⌝ }
-    ensures { λ _. ⌜ now (output .exit) ≡ putAt at (now (bytes .entry)) (now (output .entry)) ⌝ }
+// Writes them as they are.
+fn copy(s: &[u8], from: usize, to: usize, output: &mut [u8])
+    requires { ⌜ from ≤ to ⌝ }
+    requires { ⌜ to ≤ length (now s) ⌝ }
+    requires { ⌜ to ≤ length (now output) ⌝ }
+    ensures { λ _. ⌜ now (output .exit) ≡ putAt from (stretch from to (now (s .entry))) (now (output .entry)) ⌝ }
 {
-    let mut i: usize = 0;
-    while i < bytes.len() {
-        output[at + i] = bytes[i];
+    let mut i = from;
+    while i < to {
+        output[i] = s[i];
         i += 1;
     }
 }
 
-// Writes a segment without its terminator from `at` on: what stands before BIN02 with the new separators, and BIN02 as it is.
-fn write_segment(segment: &[u8], change: Change, output: &mut [u8], at: usize)
-    requires { ⌜ Fitted (change .old) ⌝ }
-    requires { ⌜ at + length (now segment) ≤ length (now output) ⌝ }
-    ensures { λ _. ⌜ now (output .exit) ≡ putAt at (written (change .new) (viewOf (change .old) (now (segment .entry)))) (now (output .entry)) ⌝ }
-{
-    let attached = bin::attached_from(segment, change.old.element);
-    write_again(&segment[..attached], change, output, at);
-    copy(&segment[attached..], output, at + attached);
-}
-
-// Writes the segments that the first `count` records name, each with its terminator, to the start of the output.
+// Writes the segments that the first `count` records name, each with its terminator, to the start of the output. They are the first `bytes` bytes, one behind
+// the other, and every byte keeps its place: what stands between one BIN02 and the next is written as one run, and BIN02 as it is.
 pub(crate) fn write_segments(
     s: &[u8],
+    bytes: usize,
     segments: &[u64],
     count: usize,
     change: Change,
     output: &mut [u8],
 )
-    requires { ⌜ Fitted (change .old) ⌝ }
     requires { ⌜ NamesFrom (now s) (now segments) 0 count ⌝ }
-    requires { ⌜ length (rewritten (change .old) (change .new) (segmentsFrom (now s) (now segments) 0 count)) ≤ length (now output) ⌝ }
+    requires { ⌜ CutOff (change .old) (now s) (segmentsFrom (now s) (now segments) 0 count) ⌝ }
+    requires { ⌜ bytes ≡ usedBy (segmentsFrom (now s) (now segments) 0 count) ⌝ }
+    requires { ⌜ bytes ≤ length (now output) ⌝ }
     ensures { λ _. ⌜ now (output .exit) ≡ putAt 0 (rewritten (change .old) (change .new) (segmentsFrom (now (s .entry)) (now (segments .entry)) 0 count))
         (now (output .entry)) ⌝ }
 {
-    let mut at: usize = 0;
+    let mut from: usize = 0;
     let mut k: usize = 0;
     while k < count {
         let segment = table::segment_in(s, segments, k);
-        write_segment(segment, change, output, at);
-        let end = at + segment.len();
-        output[end] = change.new.terminator;
-        at = end + 1;
+        let attached = bin::attached_from(segment, change.old.element);
+        if attached < segment.len() {
+            let place = table::start_in(segments, k) + attached;
+            let end = place + (segment.len() - attached);
+            write_again(s, from, place, change, output);
+            copy(s, place, end, output);
+            from = end;
+        }
         k += 1;
     }
+    write_again(s, from, bytes, change, output);
 }

@@ -1,8 +1,8 @@
 -- `first_collision` meets its contract: no segment before record k collides.
 -- Assumes nothing.
 use Prim.Native.Nat.{_-_}
-use Rattle.rewriting.specs.internal.SegmentTable.{Names}
-use Rattle.rewriting.proofs.RecordByRecord.{names-next, ApartBefore, apart-start, as-cut-next, apart-end, apart-next, apart-clash}
+use Rattle.rewriting.proofs.HarmlessBytes.{as-cut}
+use Rattle.rewriting.proofs.RecordByRecord.{Next, ahead-next, ApartBefore, apart-start, apart-end, apart-next, apart-clash}
 use native.Mathlib.Omega.{arith}
 use borrow.Author.Needs.{needs}
 use Rattle.rewriting.proofs.collisions.first_collision.Statement.{statement}
@@ -14,21 +14,22 @@ Inv-loop s segments count change k₀ k = ApartBefore s segments count (change .
 abbrev μ-loop : tie.MeasureT-loop
 μ-loop s segments count change k₀ k = count - k
 
--- record k names a segment
-named : (c : tie.In-loop Inv-loop μ-loop) → let a = c .before .before .before .before .args in Names (a .s .now) (a .segments .now) (c .before .loop .k)
-named c = names-next _ _ _ _ (c .loop-test .taken) (c .before .loop .inv .names) .0
+-- record k names the next segment
+next : (c : tie.In-loop Inv-loop μ-loop) → let a = c .before .before .before .before .args in let i = c .before .loop .inv in
+    Next (a .s .now) (a .segments .now) (a .count) (a .change .old) (c .before .loop .k) (i .at) (i .tail)
+next c = ahead-next _ _ _ _ (c .before .loop .inv .ahead) (c .loop-test .taken)
 
 loop-holds : tie.Need-loop-holds Inv-loop μ-loop
-loop-holds c = apart-start _ _ _ _ _ (c .before .before .pre .0) (c .before .before .pre .1 .as-cut)
+loop-holds c = apart-start _ _ _ _ _ (c .before .before .pre .0) (c .before .before .pre .1 .0)
 
 segment-in-requires : tie.Need-segment-in-requires Inv-loop μ-loop
-segment-in-requires c κs = named c
+segment-in-requires c κs = next c .named
 
 segment-collision-requires : tie.Need-segment-collision-requires Inv-loop μ-loop
 segment-collision-requires c κs =
     let round = c .before in (
-      round .before .before .before .before .pre .1 .new-fit,
-      rw (c .segment-in .ensures) (as-cut-next _ _ _ _ _ (round .before .loop .inv) (round .loop-test .taken) .0),
+      round .before .before .before .before .pre .1 .1,
+      rw (c .segment-in .ensures) (as-cut _ (round .before .before .before .before .pre .1 .0 .fit) _ _ _ (next round .cut)),
     )
 
 enum-known-element : tie.Need-enum-known-element Inv-loop μ-loop
@@ -38,7 +39,7 @@ add-number : tie.Need-add-number Inv-loop μ-loop
 add-number c = search needs
 
 start-in-requires : tie.Need-start-in-requires Inv-loop μ-loop
-start-in-requires c κs = omega (arith, named (c .before .before .before .before .before) .there)
+start-in-requires c κs = omega (arith, next (c .before .before .before .before .before) .named .there)
 
 returns : tie.Need-returns Inv-loop μ-loop
 returns c =

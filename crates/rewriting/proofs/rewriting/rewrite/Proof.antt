@@ -5,7 +5,7 @@ use mathlib.Core.Bool.{true}
 use borrow.Author.Tests.{not-true, not-false}
 use Rattle.text.specs.Separators.{fitSeparators}
 use Rattle.text.proofs.View.{fitted}
-use Rattle.rewriting.proofs.AcceptedTable.{accepted-names, accepted-changeable, accepted-length, accepted-telling}
+use Rattle.rewriting.proofs.AcceptedTable.{accepted-names, accepted-bytes, accepted-cut}
 use Rattle.rewriting.proofs.Outcomes.{old-unfit, new-unfit, reading-refused, reading-accepted}
 use borrow.Author.Needs.{needs}
 use Rattle.rewriting.proofs.rewriting.rewrite.Statement.{statement}
@@ -55,10 +55,7 @@ write-accepted-requires c κs =
     let both = read .before .before .before in
     let new-fit = fitted (both .before .before .before .before .before .before .before .before .args .new) (rw (new-fits both) tt) in (
       accepted-names _ _ _ _ _ _ _ accepted,
-      (
-        accepted-changeable _ _ _ _ _ _ _ accepted _ new-fit,
-        (accepted-length _ _ _ _ _ _ _ accepted _, accepted-telling _ _ _ _ _ _ _ accepted _ new-fit),
-      ),
+      (accepted-cut _ _ _ _ _ _ _ accepted, (new-fit, accepted-bytes _ _ _ _ _ _ _ accepted)),
     )
 
 enum-known-number : tie.Need-enum-known-number

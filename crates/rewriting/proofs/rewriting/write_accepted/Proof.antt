@@ -30,7 +30,7 @@ returns c =
 write-segments-requires : tie.Need-write-segments-requires
 write-segments-requires c κs =
     let pre = c .before .before .before .before .before .before .before .before .pre in
-    (pre .1 .0 .old-fit, (pre .0, omega (arith, pre .1 .1 .0, c .before .if1 .left)))
+    (pre .0, (pre .1 .0, (pre .1 .1 .1, c .before .if1 .left)))
 
 returns-2 : tie.Need-returns-2
 returns-2 c =

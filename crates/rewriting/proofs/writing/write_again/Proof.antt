@@ -1,7 +1,6 @@
 -- `write_again` meets its contract: the bytes before i are written.
 -- Assumes nothing.
 use Prim.Native.Nat.{_-_}
-use lib.ListN.{length}
 use Rattle.rewriting.specs.internal.Output.{byteAgain}
 use Rattle.rewriting.proofs.OutputSoFar.{so-far-length}
 use Rattle.rewriting.proofs.ByteByByte.{WrittenTo, written-none, written-inside, written-more, written-all}
@@ -10,13 +9,13 @@ use Rattle.rewriting.proofs.writing.write_again.Statement.{statement}
 use Rattle.rewriting.proofs.writing.write_again.Tie as tie
 
 abbrev Inv-loop : tie.InvT-loop
-Inv-loop bytes change output₀ at i₀ output i = WrittenTo (byteAgain (change .old) (change .new)) output₀ at bytes output i
+Inv-loop s from to change output₀ i₀ output i = WrittenTo (byteAgain (change .old) (change .new)) output₀ s from to output i
 
 abbrev μ-loop : tie.MeasureT-loop
-μ-loop bytes change output₀ at i₀ output i = length bytes - i
+μ-loop s from to change output₀ i₀ output i = to - i
 
 loop-holds : tie.Need-loop-holds Inv-loop μ-loop
-loop-holds c = written-none _ _ _ _ (c .before .before .pre)
+loop-holds c = let pre = c .before .before .pre in written-none _ _ _ _ _ (pre .0) (pre .1 .0) (pre .1 .1)
 
 shared-slice-read-byte-again : tie.Need-shared-slice-read-byte-again Inv-loop μ-loop
 shared-slice-read-byte-again c = search needs
@@ -24,11 +23,8 @@ shared-slice-read-byte-again c = search needs
 byte-again-requires : tie.Need-byte-again-requires Inv-loop μ-loop
 byte-again-requires c κs = search needs
 
-add-output : tie.Need-add-output Inv-loop μ-loop
-add-output c = search needs
-
 slice-write-output : tie.Need-slice-write-output Inv-loop μ-loop
-slice-write-output c = written-inside _ _ _ (c .before .before .before .loop .inv) (c .before .before .loop-test .taken)
+slice-write-output c = written-inside _ _ _ _ _ (c .before .before .before .loop .inv) (c .before .before .loop-test .taken)
 
 add-i : tie.Need-add-i Inv-loop μ-loop
 add-i c = search needs
@@ -38,13 +34,13 @@ loop-less c = search needs
 
 loop-again : tie.Need-loop-again Inv-loop μ-loop
 loop-again c =
-    rw (c .byte-again .ensures) (written-more _ _ _ (c .before .before .before .loop .inv) (c .before .before .loop-test .taken))
+    rw (c .byte-again .ensures) (written-more _ _ _ _ _ (c .before .before .before .loop .inv) (c .before .before .loop-test .taken))
 
 same-length : tie.Need-same-length Inv-loop μ-loop
 same-length c = so-far-length (c .before .loop .inv .so-far)
 
 returns : tie.Need-returns Inv-loop μ-loop
-returns c = written-all _ _ _ (c .before .loop .inv) (c .loop-test .left)
+returns c = written-all _ _ _ _ _ (c .before .loop .inv) (c .loop-test .left)
 
 pub write-again-spec : {M : Type 1} → statement M
 write-again-spec =
@@ -55,7 +51,6 @@ write-again-spec =
     loop-holds
     shared-slice-read-byte-again
     byte-again-requires
-    add-output
     slice-write-output
     add-i
     loop-less
