@@ -4,7 +4,7 @@ use Prim.Native.Nat.{ℕ}
 use mathlib.Core.Path.{_≡_, refl, sym, ap, subst, _∙_}
 use mathlib.Core.Logic.{_⊎_, inl, inr}
 use mathlib.Core.Bool.{Bool}
-use mathlib.Core.List.{[], _∷_, _++_, append-assoc, append-nil, cons≢nil, head-eq-of-cons-eq, tail-eq-of-cons-eq}
+use mathlib.Core.List.{[], _∷_, _++_, append-assoc, append-nil, cons≢nil}
 use native.Mathlib.Omega.{arith}
 use lib.Dec.{T}
 use lib.ListN.{length, length-append}
@@ -15,30 +15,8 @@ use Rattle.text.specs.Bin.{beginsBin, isBin}
 use Rattle.text.specs.Cut.{Cut, Whole, Stop, cutOf}
 use Rattle.text.specs.BinCut.{WholeBin, Inside, BrokenAt, CutOfBin}
 use Rattle.text.specs.declared.separators.Separators.{Separators}
-use Rattle.text.proofs.Lists.{same-front}
+use Rattle.text.proofs.Lists.{Fronts, alike, shorter, longer, fronts, same-but-last}
 use Rattle.text.proofs.BinCut.{bin-whole, cut-of-bin}
-
--- two ways to cut bytes in two: at one place, or one front goes on where the other ends
-data Fronts (xs ys us vs : Bytes) : Type 0 where
-  alike : xs ≡ us → ys ≡ vs → Fronts xs ys us vs
-  shorter : (b : ℕ) (z : Bytes) → us ≡ xs ++ b ∷ z → Fronts xs ys us vs
-  longer : (b : ℕ) (z : Bytes) → xs ≡ us ++ b ∷ z → Fronts xs ys us vs
-
--- the same with one byte in front of both
-fronts-behind : {x u : ℕ} {xs ys us vs : Bytes} → x ≡ u → Fronts xs ys us vs → Fronts (x ∷ xs) ys (u ∷ us) vs
-fronts-behind p (alike e f) = alike (λ i. p i ∷ e i) f
-fronts-behind p (shorter b z e) = shorter b z (λ i. sym p i ∷ e i)
-fronts-behind p (longer b z e) = longer b z (λ i. p i ∷ e i)
-
-fronts : (xs ys us vs : Bytes) → xs ++ ys ≡ us ++ vs → Fronts xs ys us vs
-fronts [] ys [] vs e = alike refl e
-fronts [] ys (u ∷ us) vs e = shorter u us refl
-fronts (x ∷ xs) ys [] vs e = longer x xs refl
-fronts (x ∷ xs) ys (u ∷ us) vs e = fronts-behind (head-eq-of-cons-eq e) (fronts xs ys us vs (tail-eq-of-cons-eq e))
-
--- equal bytes are equal without their last
-same-but-last : (xs us : Bytes) (a b : ℕ) → xs ++ a ∷ [] ≡ us ++ b ∷ [] → xs ≡ us
-same-but-last xs us a b e = same-front xs (a ∷ []) us (b ∷ []) e (omega (arith, simp length-append at (ap length e))) .0
 
 -- the element of a break, by whether a whole BIN stands before it
 abbrev ElementBy : Bool → ℕ → Type 0

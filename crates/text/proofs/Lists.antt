@@ -1,10 +1,10 @@
 -- Laws of lists that every crate uses.
 -- Assumes nothing.
 use Prim.Native.Nat.{ℕ, zero, suc, _<_}
-use mathlib.Core.Path.{_≡_, refl, ap}
+use mathlib.Core.Path.{_≡_, refl, sym, ap}
 use mathlib.Core.List.{List, [], _∷_, _++_, map, nil≢cons, head-eq-of-cons-eq, tail-eq-of-cons-eq}
 use native.Mathlib.Omega.{arith}
-use lib.ListN.{length, getD}
+use lib.ListN.{length, getD, length-append}
 
 pub map-append : {A B : Type 0} (f : A → B) (xs ys : List A) → map f (xs ++ ys) ≡ map f xs ++ map f ys
 map-append f [] ys = refl
@@ -18,6 +18,28 @@ same-front (x ∷ xs) ys [] vs e l = absurd (omega arith)
 same-front (x ∷ xs) ys (u ∷ us) vs e l =
     let i = same-front xs ys us vs (tail-eq-of-cons-eq e) (omega arith) in
     (cc (i .0, head-eq-of-cons-eq e), i .1)
+
+-- equal lists are equal without their last
+pub same-but-last : {A : Type 0} (xs us : List A) (a b : A) → xs ++ a ∷ [] ≡ us ++ b ∷ [] → xs ≡ us
+same-but-last xs us a b e = same-front xs (a ∷ []) us (b ∷ []) e (omega (arith, simp length-append at (ap length e))) .0
+
+-- two ways to cut a list in two: at one place, or one front goes on where the other ends
+pub data Fronts {A : Type 0} (xs ys us vs : List A) : Type 0 where
+  alike : xs ≡ us → ys ≡ vs → Fronts xs ys us vs
+  shorter : (a : A) (z : List A) → us ≡ xs ++ a ∷ z → Fronts xs ys us vs
+  longer : (a : A) (z : List A) → xs ≡ us ++ a ∷ z → Fronts xs ys us vs
+
+-- the same with one element in front of both
+fronts-behind : {A : Type 0} {x u : A} {xs ys us vs : List A} → x ≡ u → Fronts xs ys us vs → Fronts (x ∷ xs) ys (u ∷ us) vs
+fronts-behind p (alike e f) = alike (λ i. p i ∷ e i) f
+fronts-behind p (shorter a z e) = shorter a z (λ i. sym p i ∷ e i)
+fronts-behind p (longer a z e) = longer a z (λ i. p i ∷ e i)
+
+pub fronts : {A : Type 0} (xs ys us vs : List A) → xs ++ ys ≡ us ++ vs → Fronts xs ys us vs
+fronts [] ys [] vs e = alike refl e
+fronts [] ys (u ∷ us) vs e = shorter u us refl
+fronts (x ∷ xs) ys [] vs e = longer x xs refl
+fronts (x ∷ xs) ys (u ∷ us) vs e = fronts-behind (head-eq-of-cons-eq e) (fronts xs ys us vs (tail-eq-of-cons-eq e))
 
 -- a list whose image has an element in its middle has one there
 pub record Splits {A B : Type 0} (f : A → B) (l : List A) (xs : List B) (y : B) : Type 0 where
