@@ -1,15 +1,14 @@
 -- A segment is written byte by byte: what stands before BIN02 with the new separators, and BIN02 as it is.
 -- Assumes nothing.
-use Prim.Native.Nat.{ℕ, suc, _+_, _-_, _≤_, _<_}
+use Prim.Native.Nat.{ℕ, _+_, _-_, _≤_, _<_}
 use mathlib.Core.Path.{_≡_, refl, sym, ap, _∙_}
 use mathlib.Core.Logic.{_⊎_, inl, inr}
 use mathlib.Core.Bool.{Bool, true, false, cond}
 use mathlib.Core.List.{[], _∷_, _++_, map, map-map, append-nil}
 use native.Mathlib.Omega.{arith}
-use native.Mathlib.Numerals.{add-one}
 use lib.Dec.{T, eqb}
-use lib.ListN.{length, take, drop, getD, set, length-append, length-drop, length-map}
-use lib.Seq.{drop-cons, take-length, drop-length, take-at, drop-at, length-take-le, append-snoc}
+use lib.ListN.{length, take, drop, getD, set, length-append, length-map}
+use lib.Seq.{take-length, drop-length, take-at, drop-at, append-snoc}
 use borrow.Author.Tests.{eq-eqb, ne-eqb}
 use Rattle.text.specs.Bytes.{Bytes, bytes, every}
 use Rattle.text.specs.Separators.{isDigit, isIdByte, Fitted}
@@ -30,6 +29,7 @@ use Rattle.text.proofs.BinSpans.{attached-bin, attached-plain, bin-long}
 use Rattle.text.proofs.BinCut.{Plainly, cut-gives}
 use Rattle.text.proofs.Serving.{serves-apart, digit-id-byte}
 use Rattle.rewriting.specs.internal.Output.{putAt, stretch, byteAgain}
+use Rattle.rewriting.proofs.Stretches.{stretch-long, stretch-next, stretch-none}
 use Rattle.rewriting.proofs.OutputSoFar.{SoFar, put-byte, so-far-none, so-far-room, so-far-length, so-far-all, so-far-more}
 
 module _ (old new : Separators) where
@@ -143,7 +143,7 @@ module _ (f : ℕ → ℕ) (first s : Bytes) (from to : ℕ) where
     pub so-far : SoFar first from (map f (stretch from to s)) output i (map f (stretch i to s))
 
   left-long : (i : ℕ) → to ≤ length s → length (map f (stretch i to s)) ≡ to - i
-  left-long i l = length-map (stretch i to s) f ∙ length-take-le (to - i) (drop i s) (rw (length-drop i s) (omega arith))
+  left-long i l = length-map (stretch i to s) f ∙ stretch-long s to i l
 
   pub written-none : from ≤ to → to ≤ length s → to ≤ length first → WrittenTo first from
   written-none m l r = record { inside = l; so-far = so-far-none first from (map f (stretch from to s)) (omega (arith, left-long from l)) }
@@ -152,18 +152,13 @@ module _ (f : ℕ → ℕ) (first s : Bytes) (from to : ℕ) where
     pub written-inside : i < to → i < length output
     written-inside l = omega (arith, so-far-room (w .so-far), so-far-length (w .so-far), left-long i (w .inside))
 
-    next-byte : i < to → map f (stretch i to s) ≡ (f (getD s i 0) ∷ []) ++ map f (stretch (i + 1) to s)
-    next-byte l =
-        let one : to - i ≡ suc (to - (i + 1)) = omega arith in
-        rw (one, drop-cons s i 0 (omega (arith, w .inside)), add-one i)
-
     pub written-more : i < to → WrittenTo (set output i (f (getD s i 0))) (i + 1)
     written-more l = record {
       inside = w .inside;
       so-far =
-          so-far-more (w .so-far) (f (getD s i 0) ∷ []) (map f (stretch (i + 1) to s)) _ (i + 1) (next-byte l)
+          so-far-more (w .so-far) (f (getD s i 0) ∷ []) (map f (stretch (i + 1) to s)) _ (i + 1) (ap (map f) (stretch-next s to i (w .inside) l))
           (put-byte output i (f (getD s i 0)) (written-inside l)) refl;
     }
 
     pub written-all : to ≤ i → output ≡ putAt from (map f (stretch from to s)) first
-    written-all l = let none : to - i ≡ 0 = omega arith in so-far-all (w .so-far) (rw none)
+    written-all l = so-far-all (w .so-far) (ap (map f) (stretch-none s to i l))

@@ -1,15 +1,13 @@
 -- The quick test: bytes tested one by one, and why no segment collides where all are harmless.
 -- Assumes nothing.
-use Prim.Native.Nat.{ℕ, suc, _+_, _≤_, _<_}
+use Prim.Native.Nat.{ℕ, suc, _+_, _-_, _≤_, _<_}
 use mathlib.Core.Path.{_≡_, refl, sym, ap, subst, _∙_}
 use mathlib.Core.Logic.{_⊎_, inl, inr}
 use mathlib.Core.Bool.{Bool, true, false, not, cond, _&&_, _||_}
 use mathlib.Core.List.{List, [], _∷_}
 use native.Mathlib.Omega.{arith}
-use native.Mathlib.Numerals.{add-one}
 use lib.Dec.{T, eqb}
-use lib.ListN.{length, getD, take, drop, drop-of-length-le}
-use lib.Seq.{drop-cons}
+use lib.ListN.{length, getD, take}
 use Rattle.text.specs.Bytes.{Bytes, every}
 use Rattle.text.specs.Separators.{isSeparator, Fitted}
 use Rattle.text.specs.Bin.{isBin}
@@ -32,6 +30,8 @@ use Rattle.rewriting.specs.Rewrites.{strictly, apartFrom, apartChecks, c
 use Rattle.rewriting.specs.declared.collisions.Clash.the-variants.{Nowhere}
 use Rattle.rewriting.specs.internal.CutOff.{CutOff, AsCut}
 use Rattle.rewriting.specs.internal.QuickTest.{harmlessByte}
+use Rattle.rewriting.specs.internal.Output.{stretch}
+use Rattle.rewriting.proofs.Stretches.{stretch-next, stretch-none}
 use Rattle.rewriting.proofs.SegmentBytes.{texts, used-taken}
 use Rattle.rewriting.proofs.CollidingBytes.{clashFrom, clash-first, plain-checks, bin-apart}
 
@@ -44,21 +44,26 @@ as-cut old fit s segment more e n = by (cut-gives old fit s segment more e)
     by (inr p) = plain-inspected old fit segment p
 
 module _ (old new : Separators) where
-  -- the bytes before i are tested
-  pub record TestedTo (s : Bytes) (so-far : Bool) (i : ℕ) : Type 0 where
-    pub all : every (harmlessByte old new) s ≡ so-far && every (harmlessByte old new) (drop i s)
+  -- of the bytes from `from` up to `to` those before i are tested
+  module _ (s : Bytes) (from to : ℕ) where
+    pub record TestedTo (so-far : Bool) (i : ℕ) : Type 0 where
+      pub inside : to ≤ length s
+      pub all : every (harmlessByte old new) (stretch from to s) ≡ so-far && every (harmlessByte old new) (stretch i to s)
 
-  pub tested-none : (s : Bytes) → TestedTo s true 0
-  tested-none s = record { all = refl }
+    pub tested-none : to ≤ length s → TestedTo true from
+    tested-none l = record { inside = l; all = refl }
 
-  module _ {s : Bytes} {so-far : Bool} {i : ℕ} (t : TestedTo s so-far i) where
-    pub tested-more : i < length s → TestedTo s (so-far && harmlessByte old new (getD s i 0)) (i + 1)
-    tested-more l =
-        let f = harmlessByte old new in
-        record { all = t .all ∙ rw (add-one, drop-cons s i 0 l) (sym (and-assoc so-far (f (getD s i 0)) (every f (drop (suc i) s)))) }
+    module _ {so-far : Bool} {i : ℕ} (t : TestedTo so-far i) where
+      pub tested-more : i < to → TestedTo (so-far && harmlessByte old new (getD s i 0)) (i + 1)
+      tested-more l =
+          let f = harmlessByte old new in
+          record {
+            inside = t .inside;
+            all = t .all ∙ rw (stretch-next s to i (t .inside) l) (sym (and-assoc so-far (f (getD s i 0)) (every f (stretch (i + 1) to s))));
+          }
 
-    pub tested-all : length s ≤ i → so-far ≡ every (harmlessByte old new) s
-    tested-all l = sym (t .all ∙ rw (drop-of-length-le s {i = i} l) (and-true so-far))
+      pub tested-all : to ≤ i → so-far ≡ every (harmlessByte old new) (stretch from to s)
+      tested-all l = sym (t .all ∙ rw (stretch-none s to i l) (and-true so-far))
 
   -- one byte: it separates elements, or components, or is harmless and no old separator
   spared : (e c is-new is-old : Bool) (k : ℕ) {x y x′ y′ : Verdict} → T (not is-new || is-old) → (x ≡ Holds → x′ ≡ Holds) → (y ≡ Holds → y′ ≡ Holds)
@@ -88,7 +93,7 @@ module _ (old new : Separators) where
       clash-first old new segment ∙ none-either 0 segment h (sym (clash-first old old segment) ∙ none)
 
   module _ (old-fit : Fitted old) (new-fit : Fitted new) where
-    harmless-holds : (s segment m : Bytes) → cutOf old s ≡ Whole segment m → T (every (harmlessByte old new) segment)
+    pub harmless-holds : (s segment m : Bytes) → cutOf old s ≡ Whole segment m → T (every (harmlessByte old new) segment)
         → firstBroken (collisionChecks new (viewOf old segment)) ≡ Holds
     harmless-holds s segment m e h = by (cut-gives old old-fit s segment m e)
       where
@@ -114,8 +119,10 @@ module _ (old new : Separators) where
         (harmless-nowhere (suc n) (at + length (g .segment) + 1 + skipBy (strictly old) (l .0)) (l .0) gs end rest (l .3) later)
 
 -- what the quick test tells of the bytes that segments use
-pub harmless-used : (old new : Separators) (s : Bytes) (gs : List Placed) → CutOff old s gs → Fitted new → every (harmlessByte old new) (take (usedBy gs) s) ≡ true
-    → collision old new 1 gs ≡ Nowhere
-harmless-used old new s gs c new-fit h =
-    let harmless : T (every (harmlessByte old new) (closed (old .terminator) (texts gs))) = rw (← used-taken old s gs (c .end) (c .rest) (c .leads), h) tt in
-    harmless-nowhere old new (c .fit) new-fit 1 0 s gs (c .end) (c .rest) (c .leads) harmless
+pub harmless-used : (old new : Separators) (s : Bytes) (gs : List Placed) → CutOff old s gs → Fitted new → (bytes : ℕ) → bytes ≡ usedBy gs
+    → every (harmlessByte old new) (stretch 0 bytes s) ≡ true → collision old new 1 gs ≡ Nowhere
+harmless-used old new s gs c new-fit bytes b h =
+    let same : bytes - 0 ≡ usedBy gs = omega (arith, b) in
+    let used : stretch 0 bytes s ≡ closed (old .terminator) (texts gs) =
+    ap (λ (n : ℕ). take n s) same ∙ used-taken old s gs (c .end) (c .rest) (c .leads) in
+    harmless-nowhere old new (c .fit) new-fit 1 0 s gs (c .end) (c .rest) (c .leads) (rw (← used, h) tt)

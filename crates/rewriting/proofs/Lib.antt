@@ -1,4 +1,5 @@
 pub mod SegmentBytes
+pub mod Stretches
 pub mod OutputSoFar
 pub mod CollidingBytes
 pub mod HarmlessBytes
@@ -6,6 +7,8 @@ pub mod ByteByByte
 pub mod RecordByRecord
 pub mod WrittenSegments
 pub mod Runs
+pub mod WrittenRuns
+pub mod HarmlessRuns
 pub mod TableRecords
 pub mod AcceptedTable
 pub mod Outcomes

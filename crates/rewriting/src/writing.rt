@@ -10,7 +10,6 @@ ghost use Rattle.rewriting.specs.internal.CutOff.{CutOff};
 ghost use Rattle.rewriting.specs.internal.Output.{putAt, stretch, byteAgain};
 use crate::change::Change;
 use crate::table;
-use text::bin;
 
 // What a byte becomes that does not stand in BIN02.
 fn byte_again(byte: u8, change: Change) -> u8
@@ -77,14 +76,11 @@ pub(crate) fn write_segments(
     let mut from: usize = 0;
     let mut k: usize = 0;
     while k < count {
-        let segment = table::segment_in(s, segments, k);
-        let attached = bin::attached_from(segment, change.old.element);
-        if attached < segment.len() {
-            let place = table::start_in(segments, k) + attached;
-            let end = place + (segment.len() - attached);
-            write_again(s, from, place, change, output);
-            copy(s, place, end, output);
-            from = end;
+        let attached = table::attached_in(s, segments, k, change.old.element);
+        if attached.from < attached.to {
+            write_again(s, from, attached.from, change, output);
+            copy(s, attached.from, attached.to, output);
+            from = attached.to;
         }
         k += 1;
     }

@@ -5,7 +5,9 @@ use mathlib.Core.List.{List, [], _∷_}
 use lib.ListN.{length, take, drop, getD}
 use Rattle.text.specs.Bytes.{Bytes}
 use Rattle.text.specs.Cut.{Placed}
+use Rattle.text.specs.Lookup.{attachedFrom}
 use Rattle.levels.specs.Widths.{segmentWidth}
+use Rattle.rewriting.specs.declared.table.Part.{Part}
 
 -- where the segment of record k starts, and how long it is
 abbrev pub startIn : List ℕ → ℕ → ℕ
@@ -20,6 +22,13 @@ segmentIn s table k = take (lengthIn table k) (drop (startIn table k) s)
 
 abbrev pub placedIn : Bytes → List ℕ → ℕ → Placed
 placedIn s table k = record { at = startIn table k; segment = segmentIn s table k }
+
+-- BIN02 of it, if it is a whole BIN; else nothing, at its end
+abbrev pub attachedPart : ℕ → Bytes → List ℕ → ℕ → Part
+attachedPart e s table k = record {
+  from = startIn table k + attachedFrom e (segmentIn s table k);
+  to = startIn table k + length (segmentIn s table k);
+}
 
 -- the segments of n records from record k on
 abbrev pub segmentsFrom : Bytes → List ℕ → ℕ → ℕ → List Placed

@@ -1,20 +1,19 @@
 -- `harmless` meets its contract: the bytes before i are tested.
 -- Assumes nothing.
 use Prim.Native.Nat.{_-_}
-use lib.ListN.{length}
 use Rattle.rewriting.proofs.HarmlessBytes.{TestedTo, tested-none, tested-more, tested-all}
 use borrow.Author.Needs.{needs}
 use Rattle.rewriting.proofs.collisions.harmless.Statement.{statement}
 use Rattle.rewriting.proofs.collisions.harmless.Tie as tie
 
 abbrev Inv-loop : tie.InvT-loop
-Inv-loop bytes change so-far₀ i₀ so-far i = TestedTo (change .old) (change .new) bytes so-far i
+Inv-loop s from to change so-far₀ i₀ so-far i = TestedTo (change .old) (change .new) s from to so-far i
 
 abbrev μ-loop : tie.MeasureT-loop
-μ-loop bytes change so-far₀ i₀ so-far i = length bytes - i
+μ-loop s from to change so-far₀ i₀ so-far i = to - i
 
 loop-holds : tie.Need-loop-holds Inv-loop μ-loop
-loop-holds c = tested-none _ _ _
+loop-holds c = tested-none _ _ _ _ _ (c .before .pre)
 
 shared-slice-read-byte : tie.Need-shared-slice-read-byte Inv-loop μ-loop
 shared-slice-read-byte c = search needs
@@ -34,10 +33,10 @@ loop-less c = search needs
 loop-again : tie.Need-loop-again Inv-loop μ-loop
 loop-again c =
     let round = c .before .before .before in
-    rw (c .before .separates .ensures, c .separates2 .ensures) (tested-more _ _ (round .before .loop .inv) (round .loop-test .taken))
+    rw (c .before .separates .ensures, c .separates2 .ensures) (tested-more _ _ _ _ _ (round .before .loop .inv) (round .loop-test .taken))
 
 returns : tie.Need-returns Inv-loop μ-loop
-returns c = tested-all _ _ (c .before .loop .inv) (c .loop-test .left)
+returns c = tested-all _ _ _ _ _ (c .before .loop .inv) (c .loop-test .left)
 
 pub harmless-spec : {M : Type 1} → statement M
 harmless-spec =

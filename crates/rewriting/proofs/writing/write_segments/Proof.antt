@@ -1,13 +1,12 @@
 -- `write_segments` meets its contract: what stands before `from` is written, and no BIN stands from there up to record k.
 -- Assumes nothing.
-use Prim.Native.Nat.{ℕ, _+_, _-_, _≤_, _<_}
-use mathlib.Core.Path.{refl, ap}
+use Prim.Native.Nat.{_-_, _≤_, _<_}
 use mathlib.Core.Logic.{⊎-elim}
 use lib.ListN.{length}
 use Rattle.rewriting.proofs.OutputSoFar.{so-far-length}
 use Rattle.rewriting.proofs.SegmentBytes.{used-within}
-use Rattle.rewriting.proofs.RecordByRecord.{Next, ahead-next}
-use Rattle.rewriting.proofs.Runs.{WrittenBefore, written-start, written-passed, run-from, run-inside, run-room, written-bin, end-from, written-end}
+use Rattle.rewriting.proofs.Runs.{run-next, run-to, last-long}
+use Rattle.rewriting.proofs.WrittenRuns.{WrittenBefore, written-start, written-passed, bin-room, written-bin, written-end}
 use native.Mathlib.Omega.{arith}
 use borrow.Author.Needs.{needs}
 use Rattle.rewriting.proofs.writing.write_segments.Statement.{statement}
@@ -19,67 +18,33 @@ Inv-loop s bytes segments count change output₀ from₀ k₀ output from k = Wr
 abbrev μ-loop : tie.MeasureT-loop
 μ-loop s bytes segments count change output₀ from₀ k₀ output from k = count - k
 
--- record k names the next segment
-next : (c : tie.In-loop Inv-loop μ-loop) → let a = c .before .before .before .before .before .args in let i = c .before .loop .inv in
-    Next (a .s .now) (a .segments .now) (a .count) (a .change .old) (c .before .loop .k) (i .at) (i .tail)
-next c = ahead-next _ _ _ _ (c .before .loop .inv .ahead) (c .loop-test .taken)
+-- what the round over record k knows of BIN02
+lies : (c : tie.After-attached-in Inv-loop μ-loop) → let round = c .before in let a = round .before .before .before .before .before .args in
+    (round .before .loop .from ≤ c .attached-in .result .from) × (c .attached-in .result .from ≤ c .attached-in .result .to)
+    × (c .attached-in .result .to < length (a .s .now))
+lies c = run-to _ _ _ _ (c .before .before .loop .inv .runs) (c .before .loop-test .taken) _ (c .attached-in .ensures)
 
 loop-holds : tie.Need-loop-holds Inv-loop μ-loop
 loop-holds c = let pre = c .before .before .before .pre in written-start _ _ _ _ _ _ (pre .0) (pre .1 .0) (omega (arith, pre .1 .1 .0, pre .1 .1 .1))
 
-segment-in-requires : tie.Need-segment-in-requires Inv-loop μ-loop
-segment-in-requires c κs = next c .named
-
-attached-from-requires : tie.Need-attached-from-requires Inv-loop μ-loop
-attached-from-requires c κs = search needs
-
-start-in-requires : tie.Need-start-in-requires Inv-loop μ-loop
-start-in-requires c κs = omega (arith, next (c .before .before .before) .named .there)
-
--- the run goes up to `place`, and BIN02 from there up to `end`
-abbrev attached : tie.After-start-in Inv-loop μ-loop → ℕ
-attached c = c .before .before .attached-from .result
-
-abbrev place : tie.After-start-in Inv-loop μ-loop → ℕ
-place c = c .start-in .result + attached c
-
-abbrev end : tie.After-start-in Inv-loop μ-loop → ℕ
-end c = place c + (length (c .before .before .before .segment-in .result .now) - attached c)
-
--- both lie in the bytes, and have room in the output
-lies : (c : tie.After-start-in Inv-loop μ-loop) → let round = c .before .before .before .before in
-    let a = round .before .before .before .before .before .args in
-    (round .before .loop .from ≤ place c) × (end c < length (a .s .now)) × (end c < length (a .output .now))
-lies c =
-    let found = c .before .before .before in
-    let inv = found .before .before .loop .inv in
-    let g = found .segment-in .result .now in
-    let l = found .before .loop-test .taken in
-    let is = found .segment-in .ensures in
-    let a = c .before .before .attached-from .ensures in
-    let starts = ap (λ n. n + attached c) (c .start-in .ensures) in
-    (run-from _ _ _ _ _ inv g l is _ _ a starts, run-inside _ _ _ _ _ inv g l is _ _ a starts, run-room _ _ _ _ _ inv g l is _ _ a starts)
-
-add-place : tie.Need-add-place Inv-loop μ-loop
-add-place c = search (needs, lies c .1)
-
-sub-end : tie.Need-sub-end Inv-loop μ-loop
-sub-end c = search needs
-
-add-end : tie.Need-add-end Inv-loop μ-loop
-add-end c = search (needs, lies c .1)
+attached-in-requires : tie.Need-attached-in-requires Inv-loop μ-loop
+attached-in-requires c κs = run-next _ _ _ _ (c .before .loop .inv .runs) (c .loop-test .taken) .named
 
 write-again-requires : tie.Need-write-again-requires Inv-loop μ-loop
 write-again-requires c κs =
-    let l = lies (c .before) in
-    (l .0, (omega (arith, l .1), omega (arith, l .2, so-far-length (c .before .before .before .before .before .before .loop .inv .so-far))))
+    let found = c .before .before .before in
+    let inv = found .before .before .loop .inv in
+    let l = lies found in
+    let room = bin-room _ _ _ _ _ inv (found .before .loop-test .taken) _ (found .attached-in .ensures) in
+    (l .0, (omega (arith, l .1, l .2), omega (arith, l .1, room, so-far-length (inv .so-far))))
 
 copy-requires : tie.Need-copy-requires Inv-loop μ-loop
 copy-requires c κs =
-    let asked = c .before .before .before .before .before in
-    let l = lies asked in
-    let same = so-far-length (asked .before .before .before .before .before .loop .inv .so-far) in
-    (omega arith, (omega (arith, l .1), omega (arith, l .2, same, c .before .before .output .given)))
+    let found = c .before .before .before .before .before .before .before in
+    let inv = found .before .before .loop .inv in
+    let l = lies found in
+    let room = bin-room _ _ _ _ _ inv (found .before .loop-test .taken) _ (found .attached-in .ensures) in
+    (l .1, (omega (arith, l .2), omega (arith, room, so-far-length (inv .so-far), c .before .before .output .given)))
 
 add-k : tie.Need-add-k Inv-loop μ-loop
 add-k c = search needs
@@ -91,21 +56,17 @@ loop-again : tie.Need-loop-again Inv-loop μ-loop
 loop-again c =
     let found = c .before .before in
     let inv = found .before .before .loop .inv in
-    let g = found .segment-in .result .now in
     let l = found .before .loop-test .taken in
-    let is = found .segment-in .ensures in
-    let a = c .before .attached-from in
-    ⊎-elim
-    (λ w. rw (w .10, w .11)
-    (written-bin _ _ _ _ _ inv g l is _ _ (a .ensures) (ap (λ n. n + a .result) (w .1 .ensures)) _ refl _ _ (w .3 .ensures) (w .7 .ensures)))
-    (λ w. rw (w .1, w .2) (written-passed _ _ _ _ _ inv g l is (rw (a .ensures) at (w .0 .left)))) (c .if1 .came)
+    let is = found .attached-in .ensures in
+    ⊎-elim (λ w. rw (w .9, w .10) (written-bin _ _ _ _ _ inv l _ is _ _ (w .2 .ensures) (w .6 .ensures)))
+    (λ w. rw (w .1, w .2) (written-passed _ _ _ _ _ inv l _ is (w .0 .left))) (c .if1 .came)
 
 write-again-requires-2 : tie.Need-write-again-requires-2 Inv-loop μ-loop
 write-again-requires-2 c κs =
     let start = c .before .before .before .before .before .before in
     let pre = start .pre .1 in
     let inv = c .before .before .loop .inv in
-    (end-from _ _ _ _ _ inv _ (c .before .loop-test .left) (pre .1 .0), (rw (pre .1 .0) (used-within _ _ _ (pre .0)), omega (arith, pre .1 .1, so-far-length (inv .so-far))))
+    (omega (arith, last-long _ _ _ _ (inv .runs) _ (c .before .loop-test .left) (pre .1 .0)), (rw (pre .1 .0) (used-within _ _ _ (pre .0)), omega (arith, pre .1 .1, so-far-length (inv .so-far))))
 
 same-length : tie.Need-same-length Inv-loop μ-loop
 same-length c = search (needs, so-far-length (c .before .before .before .before .before .loop .inv .so-far))
@@ -123,12 +84,7 @@ write-segments-spec =
     Inv-loop
     μ-loop
     loop-holds
-    segment-in-requires
-    attached-from-requires
-    start-in-requires
-    add-place
-    sub-end
-    add-end
+    attached-in-requires
     write-again-requires
     copy-requires
     add-k
