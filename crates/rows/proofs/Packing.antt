@@ -1,11 +1,11 @@
 -- Packed bytes stand for the bytes: the place of a tag's packed bytes is the tag's number.
 -- Assumes nothing.
-use mathlib.Core.Path.{_≡_, refl, sym, ap, _∙_}
-use mathlib.Core.Bool.{Bool, true, false, _&&_, _||_}
+use mathlib.Core.Path.{_≡_, refl, sym, ap, subst, _∙_}
+use mathlib.Core.Bool.{Bool, true, false, cond, _&&_, _||_}
 use mathlib.Core.List.{List, [], _∷_, map}
 use Prim.Native.Nat.{ℕ, suc, _+_, _*_, _≤_, _<_}
 use native.Mathlib.Omega.{arith}
-use lib.Dec.{T, eqb, eqb→eq, ltb, ltb→lt, lt→ltb}
+use lib.Dec.{T, eqb, eqb→eq, leb, ltb, ltb→lt, lt→ltb}
 use lib.ListN.{length, getD}
 use borrow.Author.Tests.{eq-eqb, ne-eqb, eqb-true, eqb-false}
 use Rattle.text.specs.Bytes.{Bytes, every, same}
@@ -24,16 +24,37 @@ abbrev pub onto : List ℕ → List ℕ → List ℕ
 onto [] before = before
 onto (k ∷ ks) before = onto ks (k ∷ before)
 
-none-placed : (ks before : List ℕ) (n : ℕ) → NoneOf (onto ks before) n → (placeOf ks n ≡ length ks) × NoneOf before n
-none-placed [] before n h = (refl, h)
-none-placed (k ∷ ks) before n h =
-    let i = none-placed ks (k ∷ before) n h in
-    (rw (ne-eqb k n (λ e. i .1 .1 (sym e)), i .0), i .1 .0)
+-- the keys that pass a test
+abbrev pub passing : (ℕ → Bool) → List ℕ → List ℕ
+passing f [] = []
+passing f (k ∷ ks) = cond (f k) (k ∷ passing f ks) (passing f ks)
 
--- a number that is none of the keys is no tag
-pub none-34 : (n : ℕ) → NoneOf (onto (map packed tags) []) n → 34 ≡ packedNumber n
+-- a number that passes it is none of the keys if it is none of those
+none-placed : (f : ℕ → Bool) (ks before : List ℕ) (n : ℕ) → T (f n) → NoneOf (onto (passing f ks) before) n → (placeOf ks n ≡ length ks) × NoneOf before n
+none-placed f [] before n t h = (refl, h)
+none-placed f (k ∷ ks) before n t h = by (f k) refl h (λ b. none-placed f ks b n t)
+  where
+    by : (b : Bool) → f k ≡ b → NoneOf (onto (passing f (k ∷ ks)) before) n
+        → ((c : List ℕ) → NoneOf (onto (passing f ks) c) n → (placeOf ks n ≡ length ks) × NoneOf c n)
+        → (placeOf (k ∷ ks) n ≡ length (k ∷ ks)) × NoneOf before n
+    by true e h later =
+        let i = later (k ∷ before) (rw e at h) in
+        (rw (ne-eqb k n (λ z. i .1 .1 (sym z)), i .0), i .1 .0)
+    by false e h later =
+        let i = later before (rw e at h) in
+        (rw (ne-eqb k n (λ z. subst (λ (b : Bool). T b) (ap f (sym z) ∙ e) t), i .0), i .1)
+
+-- packed bytes of which there are two, and of which there are three
+abbrev pub ofTwo : ℕ → Bool
+ofTwo n = ltb n 131072
+
+abbrev pub ofThree : ℕ → Bool
+ofThree n = leb 131072 n
+
+-- a number that is none of the keys for as many bytes is no tag
+pub none-34 : (f : ℕ → Bool) (n : ℕ) → T (f n) → NoneOf (onto (passing f (map packed tags)) []) n → 34 ≡ packedNumber n
 unfolding packedNumber
-none-34 n h = sym (none-placed (map packed tags) [] n h .0)
+none-34 f n t h = sym (none-placed f (map packed tags) [] n t h .0)
 
 -- every byte is below 256
 abbrev small : Bytes → Bool

@@ -1,6 +1,6 @@
 // The 34 tags and their numbers.
 ghost use mathlib.Core.Path.{_≡_};
-ghost use Prim.Native.Nat.{_+_, _*_, _<_};
+ghost use Prim.Native.Nat.{_+_, _*_, _≤_, _<_};
 ghost use Rattle.rows.specs.Tags.{tagNumber};
 ghost use Rattle.rows.specs.internal.Packed.{packedNumber};
 
@@ -32,10 +32,10 @@ pub fn tag_number(tag: &[u8]) -> u8
     ensures { λ r. ⌜ r ≡ tagNumber (now (tag .entry)) ⌝ }
 {
     if tag.len() == 2 {
-        return packed_number(packed_before(tag[0], packed_before(tag[1], 1)));
+        return number_of_two(packed_before(tag[0], packed_before(tag[1], 1)));
     }
     if tag.len() == 3 {
-        return packed_number(packed_before(
+        return number_of_three(packed_before(
             tag[0],
             packed_before(tag[1], packed_before(tag[2], 1)),
         ));
@@ -51,33 +51,46 @@ fn packed_before(byte: u8, rest: u32) -> u32
     byte as u32 + 256 * rest
 }
 
-// The number of the tag whose bytes are packed.
-fn packed_number(packed: u32) -> u8
+// The number of the tag whose two bytes are packed. Two matches are faster than one: each has fewer numbers to tell apart.
+fn number_of_two(packed: u32) -> u8
+    requires { ⌜ packed < 131072 ⌝ }
     ensures { λ r. ⌜ r ≡ packedNumber packed ⌝ }
 {
     match packed {
         0x15453 => 0, // ST
+        0x1314e => 7, // N1
+        0x1324e => 8, // N2
+        0x1334e => 9, // N3
+        0x1344e => 10, // N4
+        0x14c48 => 12, // HL
+        0x15343 => 16, // CS
+        0x14d4c => 20, // LM
+        0x1514c => 21, // LQ
+        0x14352 => 29, // RC
+        0x14553 => 33, // SE
+        _ => NO_TAG,
+    }
+}
+
+// The number of the tag whose three bytes are packed.
+fn number_of_three(packed: u32) -> u8
+    requires { ⌜ 131072 ≤ packed ⌝ }
+    ensures { λ r. ⌜ r ≡ packedNumber packed ⌝ }
+{
+    match packed {
         0x1524e42 => 1, // BNR
         0x1464552 => 2, // REF
         0x14d5444 => 3, // DTM
         0x1444950 => 4, // PID
         0x141454d => 5, // MEA
         0x14b5750 => 6, // PWK
-        0x1314e => 7, // N1
-        0x1324e => 8, // N2
-        0x1334e => 9, // N3
-        0x1344e => 10, // N4
         0x1524550 => 11, // PER
-        0x14c48 => 12, // HL
         0x14e494c => 13, // LIN
         0x1535250 => 14, // PRS
         0x1444943 => 15, // CID
-        0x15343 => 16, // CS
         0x1595451 => 17, // QTY
         0x1444d54 => 18, // TMD
         0x1445350 => 19, // PSD
-        0x14d4c => 20, // LM
-        0x1514c => 21, // LQ
         0x1314146 => 22, // FA1
         0x1324146 => 23, // FA2
         0x1535053 => 24, // SPS
@@ -85,11 +98,9 @@ fn packed_number(packed: u32) -> u8
         0x144434e => 26, // NCD
         0x145544e => 27, // NTE
         0x1544d41 => 28, // AMT
-        0x14352 => 29, // RC
         0x1494645 => 30, // EFI
         0x14e4942 => 31, // BIN
         0x141434e => 32, // NCA
-        0x14553 => 33, // SE
         _ => NO_TAG,
     }
 }

@@ -1,13 +1,14 @@
--- `rows::tags::packed_number` meets its contract: each arm by computation, and the rest because no key is left.
+-- `rows::tags::number_of_three` meets its contract: each arm by computation, and the rest because no key is left.
 -- Assumes nothing.
+use lib.Dec.{le→leb}
 use Rattle.rows.specs.internal.Packed.{packedNumber}
-use Rattle.rows.proofs.Packing.{none-34}
-use Rattle.rows.proofs.tags.packed_number.Statement.{statement}
-use Rattle.rows.proofs.tags.packed_number.Tie as tie
+use Rattle.rows.proofs.Packing.{ofThree, none-34}
+use Rattle.rows.proofs.tags.number_of_three.Statement.{statement}
+use Rattle.rows.proofs.tags.number_of_three.Tie as tie
 
-pub packed-number-spec : {M : Type 1} → statement M
+pub number-of-three-spec : {M : Type 1} → statement M
 unfolding packedNumber
-packed-number-spec =
+number-of-three-spec =
     tie.close
     (tie.spec
     (λ c. rw (c .match .keys1))
@@ -33,15 +34,4 @@ packed-number-spec =
     (λ c. rw (c .match .keys21))
     (λ c. rw (c .match .keys22))
     (λ c. rw (c .match .keys23))
-    (λ c. rw (c .match .keys24))
-    (λ c. rw (c .match .keys25))
-    (λ c. rw (c .match .keys26))
-    (λ c. rw (c .match .keys27))
-    (λ c. rw (c .match .keys28))
-    (λ c. rw (c .match .keys29))
-    (λ c. rw (c .match .keys30))
-    (λ c. rw (c .match .keys31))
-    (λ c. rw (c .match .keys32))
-    (λ c. rw (c .match .keys33))
-    (λ c. rw (c .match .keys34))
-    (λ c. none-34 (c .before .args .packed) (c .match .rest)))
+    (λ c. none-34 ofThree (c .before .args .packed) (le→leb 131072 _ (c .before .pre)) (c .match .rest)))
