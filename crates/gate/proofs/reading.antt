@@ -8,4 +8,5 @@ pub mod RowOfSE
 pub mod LastSegment
 pub mod ElementTexts
 pub mod Reference
+pub mod SideBySide
 pub mod Listing
