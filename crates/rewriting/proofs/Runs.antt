@@ -8,13 +8,13 @@ use lib.ListN.{length, take, drop, length-append, length-drop, take-append-drop}
 use lib.Seq.{take-at, drop-at, drop-drop, length-take-le, append-snoc}
 use Rattle.text.specs.Bytes.{Bytes}
 use Rattle.text.specs.Separators.{Fitted}
-use Rattle.text.specs.Cut.{Placed, Whole}
+use Rattle.text.specs.Cut.{Whole}
 use Rattle.text.specs.Lookup.{attachedFrom}
 use Rattle.text.specs.declared.separators.Separators.{Separators}
 use Rattle.text.proofs.BinSpans.{attached-most}
 use Rattle.text.proofs.DocumentCut.{Splits, cut-splits}
 use Rattle.gate.specs.Conditions.{usedBy}
-use Rattle.rewriting.specs.internal.SegmentTable.{startIn, segmentIn, segmentsFrom, attachedPart, NamesFrom}
+use Rattle.rewriting.specs.internal.SegmentTable.{segmentIn, segmentsFrom, attachedPart, NamesFrom}
 use Rattle.rewriting.specs.internal.CutOff.{CutOff}
 use Rattle.rewriting.specs.internal.Output.{stretch}
 use Rattle.rewriting.specs.declared.table.Part.{Part}

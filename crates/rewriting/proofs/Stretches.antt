@@ -1,11 +1,11 @@
 -- The bytes from one place up to another, as a loop goes over them.
 -- Assumes nothing.
 use Prim.Native.Nat.{ℕ, suc, _+_, _-_, _≤_, _<_}
-use mathlib.Core.Path.{_≡_, ap, _∙_}
+use mathlib.Core.Path.{_≡_}
 use mathlib.Core.List.{[], _∷_}
 use native.Mathlib.Omega.{arith}
 use native.Mathlib.Numerals.{add-one}
-use lib.ListN.{length, take, drop, getD, length-drop}
+use lib.ListN.{length, drop, getD, length-drop}
 use lib.Seq.{drop-cons, length-take-le}
 use Rattle.text.specs.Bytes.{Bytes}
 use Rattle.rewriting.specs.internal.Output.{stretch}

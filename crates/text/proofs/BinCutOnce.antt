@@ -1,7 +1,7 @@
 -- Two cuts that `CutOfBin` allows are equal: of bytes that begin like a BIN it allows the cut that `cutOf` gives, and no other.
 -- Assumes nothing.
 use Prim.Native.Nat.{ℕ}
-use mathlib.Core.Path.{_≡_, refl, sym, ap, subst, _∙_}
+use mathlib.Core.Path.{_≡_, sym, ap, subst, _∙_}
 use mathlib.Core.Logic.{_⊎_, inl, inr}
 use mathlib.Core.Bool.{Bool}
 use mathlib.Core.List.{[], _∷_, _++_, append-assoc, append-nil, cons≢nil}

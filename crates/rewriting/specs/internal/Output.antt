@@ -1,4 +1,4 @@
--- What a function that writes leaves in the lent output, and what it writes for a byte.
+-- Bytes from one place up to another, what a function that writes leaves in the lent output, and what it writes for a byte.
 -- Assumes nothing.
 use Prim.Native.Nat.{ℕ, _+_, _-_}
 use mathlib.Core.Bool.{cond}

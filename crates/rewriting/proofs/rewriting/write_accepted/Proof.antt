@@ -2,7 +2,6 @@
 -- Assumes nothing.
 use mathlib.Core.Path.{sym, _∙_}
 use Rattle.rewriting.proofs.Outcomes.{collided, too-short, put}
-use native.Mathlib.Omega.{arith}
 use borrow.Author.Needs.{needs}
 use Rattle.rewriting.proofs.rewriting.write_accepted.Statement.{statement}
 use Rattle.rewriting.proofs.rewriting.write_accepted.Tie as tie
