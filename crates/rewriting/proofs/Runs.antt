@@ -112,17 +112,17 @@ module _ (s : Bytes) (table : List ℕ) (count : ℕ) (old : Separators) where
             ap (λ (m : ℕ). drop m s) sum ∙ sym (drop-drop (place - from) from s) ∙ ap (drop (place - from)) halves
             ∙ drop-at (run ++ take a g) (drop a g ++ old .terminator ∷ n .more) (place - from) run-long
 
-        pub bin-long : length (drop a g) ≡ end - place
-        bin-long = omega (arith, length-drop a g, place-is, end-is)
+        pub attached-long : length (drop a g) ≡ end - place
+        attached-long = omega (arith, length-drop a g, place-is, end-is)
 
-        pub bin-bytes : stretch place end s ≡ drop a g
-        bin-bytes = ap (take (end - place)) from-place ∙ take-at (drop a g) (old .terminator ∷ n .more) (end - place) bin-long
+        pub attached-bytes : stretch place end s ≡ drop a g
+        attached-bytes = ap (take (end - place)) from-place ∙ take-at (drop a g) (old .terminator ∷ n .more) (end - place) attached-long
 
         from-end : drop end s ≡ old .terminator ∷ n .more
         from-end =
             let sum : end ≡ place + (end - place) = omega (arith, run-to .1) in
             ap (λ (m : ℕ). drop m s) sum ∙ sym (drop-drop (end - place) place s) ∙ ap (drop (end - place)) from-place
-            ∙ drop-at (drop a g) (old .terminator ∷ n .more) (end - place) bin-long
+            ∙ drop-at (drop a g) (old .terminator ∷ n .more) (end - place) attached-long
 
         pub run-behind : Run end (k + 1) (at + length g + 1) (old .terminator ∷ []) (n .more)
         run-behind = record { ahead = n .later; fit = r .fit; reach = omega (arith, end-is); there = from-end }

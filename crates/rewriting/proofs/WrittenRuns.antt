@@ -23,7 +23,7 @@ use Rattle.rewriting.proofs.OutputSoFar.{SoFar, so-far-none, so-far-roo
 use Rattle.rewriting.proofs.ByteByByte.{terminator-again, segment-again}
 use Rattle.rewriting.proofs.WrittenSegments.{rewritten-length}
 use Rattle.rewriting.proofs.RecordByRecord.{segmentsLeft, all-left, none-left, next-left}
-use Rattle.rewriting.proofs.Runs.{Run, run-start, run-next, run-passed, place-is, end-is, run-to, run-long, run-bytes, bin-long, bin-bytes, run-behind, last-long, last-bytes}
+use Rattle.rewriting.proofs.Runs.{Run, run-start, run-next, run-passed, place-is, end-is, run-to, run-long, run-bytes, attached-long, attached-bytes, run-behind, last-long, last-bytes}
 
 module _ (s : Bytes) (table : List ℕ) (count : ℕ) (old new : Separators) where
   abbrev all : List Placed
@@ -130,7 +130,7 @@ module _ (s : Bytes) (table : List ℕ) (count : ℕ) (old new : Separators) whe
             → output₂ ≡ putAt (part .from) (stretch (part .from) (part .to) s) output₁ → WrittenBefore first output₂ (part .to) (k + 1)
         written-bin output₁ output₂ o₁ o₂ =
             let run-is = run-bytes s table count old (w .runs) l part is in
-            let bin-is = bin-bytes s table count old (w .runs) l part is in
+            let bin-is = attached-bytes s table count old (w .runs) l part is in
             let to = run-to s table count old (w .runs) l part is in
             let run-written =
             so-far-more (w .so-far) (again (w .run ++ take a g)) (drop a g ++ new .terminator ∷ left (k + 1)) output₁ (part .from) todo-run
@@ -139,7 +139,7 @@ module _ (s : Bytes) (table : List ℕ) (count : ℕ) (old new : Separators) whe
             let bin-written =
             so-far-more run-written (drop a g) (new .terminator ∷ left (k + 1)) output₂ (part .to) refl
             (o₂ ∙ ap (λ (x : Bytes). putAt (part .from) x output₁) bin-is)
-            (omega (arith, bin-long s table count old (w .runs) l part is, to .1)) in
+            (omega (arith, attached-long s table count old (w .runs) l part is, to .1)) in
             record {
               at = _;
               run = _;

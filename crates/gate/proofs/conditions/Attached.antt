@@ -20,6 +20,7 @@ use Rattle.text.proofs.Bools.{passes}
 use Rattle.text.proofs.Lists.{same-front}
 use Rattle.text.proofs.Bins.{bin-parts}
 use Rattle.text.proofs.BinView.{binView, view-bin}
+use Rattle.text.proofs.BinSpans.{bin-long}
 use Rattle.text.proofs.BinCut.{bin-whole}
 use Rattle.text.proofs.View.{fitted}
 use Rattle.text.proofs.CutLaws.{leads-front}
@@ -98,13 +99,8 @@ module _ (q : Separators) (g : Bytes) (bin : T (isBin (q .element) g)) where
   bin-seen : viewOf q g ≡ binView (countIn (q .element) g) (attachedIn (q .element) g)
   bin-seen = view-bin q g (passes (isBin (q .element) g) bin)
 
-  bin-long : length g ≡ length (countIn (q .element) g) + valueOf (countIn (q .element) g) + 5
-  bin-long =
-      let b = bin-parts (q .element) g bin in
-      ap length (b .whole) ∙ simp length-append (omega (arith, b .counted .value))
-
-  bin-begins : (y : Bytes) → g ++ y ≡ byte "B" ∷ (drop 1 g ++ y)
-  bin-begins y =
+  bin-starts : (y : Bytes) → g ++ y ≡ byte "B" ∷ (drop 1 g ++ y)
+  bin-starts y =
       let b = bin-parts (q .element) g bin .whole in
       ap (λ (u : Bytes). u ++ y) b ∙ ap (λ (u : Bytes). byte "B" ∷ (drop 1 u ++ y)) (sym b)
 
@@ -128,7 +124,17 @@ module _ (how : How) (g g′ : Bytes) (x : SameButAttached (how .separators .ele
   q = how .separators
 
   same-long : length g ≡ length g′
-  same-long = bin-long q g (x .bin) ∙ rw (x .counted) (sym (bin-long q g′ (x .bin′)))
+  same-long =
+      let e = q .element in
+      omega (
+        arith,
+        bin-long e g (passes (isBin e g) (x .bin)),
+        bin-long e g′ (passes (isBin e g′) (x .bin′)),
+        ap length (x .counted),
+        ap valueOf (x .counted),
+        bin-parts e g (x .bin) .counted .value,
+        bin-parts e g′ (x .bin′) .counted .value,
+      )
 
   same-said : (profile : Profile) → Plain profile → (w : List ℕ) (h : List View) → says profile w h (viewOf q g) ≡ says profile w h (viewOf q g′)
   same-said profile plain w h =
@@ -241,8 +247,8 @@ module _ (how : How) (front : Bytes) (gs : List Placed) (end : ℕ) (g g′ rest
   leads-other : Fitted (how .separators) → Leads (cutBy how) (skipBy how) 0 (input g′) gs end (g′ ++ behind)
   leads-other fit =
       let q = how .separators in
-      rw (bin-begins q g′ (x .bin′) behind)
-      (leads-still how fit front gs end (byte "B") (drop 1 g ++ behind) (drop 1 g′ ++ behind) (rw (bin-begins q g (x .bin) behind) at leads))
+      rw (bin-starts q g′ (x .bin′) behind)
+      (leads-still how fit front gs end (byte "B") (drop 1 g ++ behind) (drop 1 g′ ++ behind) (rw (bin-starts q g (x .bin) behind) at leads))
 
   computed-same : Fitted (how .separators) → (segments levels : ℕ)
       → Same how (compute (profileOf how) how segments levels (input g)) (compute (profileOf how) how segments levels (input g′))

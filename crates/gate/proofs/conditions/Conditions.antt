@@ -4,26 +4,26 @@ use Prim.Native.Nat.{ℕ, _+_, _*_, _≤_}
 use mathlib.Core.Path.{_≡_, refl, ap, _∙_}
 use mathlib.Core.Logic.{_↔_}
 use mathlib.Core.Bool.{Bool, true, false}
-use mathlib.Core.List.{List, [], _∷_, _++_}
+use mathlib.Core.List.{List, _++_}
 use native.Mathlib.Omega.{arith}
 use lib.Dec.{T, leb}
-use lib.ListN.{length, take, replicate, length-replicate, length-map}
+use lib.ListN.{length, take, replicate, length-replicate}
 use borrow.Author.Tests.{leb-true, le-leb}
 use Rattle.text.specs.Bytes.{Bytes}
 use Rattle.text.specs.Separators.{fitSeparators}
-use Rattle.text.specs.View.{View, viewOf}
 use Rattle.text.specs.Cut.{Placed}
 use Rattle.text.proofs.Bools.{passes}
 use Rattle.text.proofs.View.{fitted}
 use Rattle.gate.specs.Answers.{IsAccepted, Fault}
 use Rattle.gate.specs.Profile.{profileOf}
-use Rattle.gate.specs.Segments.{seen, onto}
+use Rattle.gate.specs.Segments.{seen}
 use Rattle.gate.specs.Records.{Tables, segmentRoom, levelRoom, recorded}
 use Rattle.gate.specs.Reads.{limit, Run, Read, ReadsWithin, ReadsFit, ReadsBy, Reads}
 use Rattle.gate.specs.Conditions.{Condition1, Numbering, HasRoom, Numbered, Shows, Condition2, upToSegment, BeginsWith, Final, Continues, Condition3}
 use Rattle.gate.specs.declared.answer.Answer.{Answer}
 use Rattle.gate.specs.declared.answer.Answer.the-variants.{Accepted, Refused}
 use Rattle.gate.specs.declared.how.How.{How}
+use Rattle.gate.proofs.reading.SideBySide.{history, history-length}
 use Rattle.gate.proofs.reading.Numbers.{refusal-of}
 use Rattle.gate.proofs.reading.Once.{run-once, reads-once}
 use Rattle.gate.proofs.conditions.Accepting.{Transaction, accepted-transaction, transaction-accepted}
@@ -147,16 +147,9 @@ roomy n = record { segments = replicate (n * 3) 0; levels = replicate (n * 4) 0 
 roomy-room : (how : How) (gs : List Placed) (n : ℕ) → length gs ≤ n → HasRoom how (roomy n) gs
 unfolding roomy
 roomy-room how gs n l = record {
-  segments-fit = simp length-replicate (omega (arith, views-number, l));
-  levels-fit = simp length-replicate (omega (arith, views-number, levels-few (onto [] (seen how gs)), l));
+  segments-fit = simp length-replicate (omega (arith, history-length how gs, l));
+  levels-fit = simp length-replicate (omega (arith, history-length how gs, levels-few (history how gs), l));
 }
-  where
-    onto-length : (h vs : List View) → length (onto h vs) ≡ length h + length vs
-    onto-length h [] = omega arith
-    onto-length h (v ∷ vs) = onto-length (v ∷ h) vs ∙ omega arith
-
-    views-number : length (onto [] (seen how gs)) ≡ length gs
-    views-number = onto-length [] (seen how gs) ∙ omega (arith, length-map gs (λ (g : Placed). viewOf (how .separators) (g .segment)))
 
 -- the numbering is the only one
 pub numbering-once : (how : How) (s : Bytes) (gs gs′ : List Placed) (rows rows′ : List ℕ) → Numbering how s gs rows → Numbering how s gs′ rows′
