@@ -1,9 +1,13 @@
 -- The promises of the functions that other languages call: what each writes into the numbers that the caller lends.
 -- Assumes nothing.
-use Prim.Native.Nat.{ℕ}
+use Prim.Native.Nat.{ℕ, _%_}
 use mathlib.Core.Path.{_≡_}
+use mathlib.Core.Bool.{cond}
 use mathlib.Core.List.{List, [], _∷_}
+use lib.Dec.{eqb}
 use Rattle.text.specs.Bytes.{Bytes}
+use Rattle.text.specs.declared.lines.LineEnds.{LineEnds}
+use Rattle.text.specs.declared.lines.LineEnds.the-variants.{Skipped, Strict}
 use Rattle.text.specs.declared.lookup.Span.{Span}
 use Rattle.text.specs.declared.separators.Separators.{Separators}
 use Rattle.gate.specs.Answers.{numbersOf}
@@ -17,9 +21,13 @@ use Rattle.rewriting.specs.Rewrites.{Rewrites}
 abbrev pub separatorsOf : ℕ → ℕ → ℕ → Separators
 separatorsOf element component terminator = record { element = element; component = component; terminator = terminator }
 
--- and as those of a reading
-abbrev pub howOf : ℕ → ℕ → ℕ → How
-howOf element component terminator = record { separators = separatorsOf element component terminator }
+-- what a sum of flags says of line ends: strict with the flag 1, the lowest bit, else they are skipped. No other bit is looked at
+abbrev pub linesOf : ℕ → LineEnds
+linesOf how = cond (eqb (how % 2) 1) Strict Skipped
+
+-- both together
+abbrev pub howOf : ℕ → ℕ → ℕ → ℕ → How
+howOf element component terminator how = record { separators = separatorsOf element component terminator; lines = linesOf how }
 
 -- the two lent tables
 abbrev pub tablesOf : List ℕ → List ℕ → Tables

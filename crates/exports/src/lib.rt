@@ -3,9 +3,10 @@
 ghost use mathlib.Core.Path.{_≡_};
 ghost use Rattle.text.specs.Lookup.{elementSpan, componentSpan};
 ghost use Rattle.gate.specs.Answers.{numbersOf};
-ghost use Rattle.exports.specs.Promises.{separatorsOf, howOf, tablesOf, Told, ToldAgain, spanNumbers};
+ghost use Rattle.exports.specs.Promises.{separatorsOf, linesOf, howOf, tablesOf, Told, ToldAgain, spanNumbers};
 use gate::answer::Answer;
 use gate::how::How;
+use text::lines::LineEnds;
 use text::lookup;
 use text::lookup::Span;
 use text::separators::Separators;
@@ -18,6 +19,27 @@ fn separators_of(element: u8, component: u8, terminator: u8) -> Separators
         element,
         component,
         terminator,
+    }
+}
+
+// What the sum of flags says of line ends.
+fn lines_of(how: u64) -> LineEnds
+    ensures { λ r. ⌜ r ≡ linesOf how ⌝ }
+{
+    if how % 2 == 1 {
+        LineEnds::Strict
+    } else {
+        LineEnds::Skipped
+    }
+}
+
+// How to read, by these separators and this sum of flags.
+fn how_of(element: u8, component: u8, terminator: u8, how: u64) -> How
+    ensures { λ r. ⌜ r ≡ howOf element component terminator how ⌝ }
+{
+    How {
+        separators: separators_of(element, component, terminator),
+        lines: lines_of(how),
     }
 }
 
@@ -47,34 +69,35 @@ fn two(span: Span) -> [u64; 2]
     [span.start as u64, span.len as u64]
 }
 
-// Reads one transaction from the start of the input, as `reading::read` does: both tables, and the four numbers of the answer.
+// Reads one transaction from the start of the input, as `reading::read` does, in the way that the sum of flags `how` names: both tables, and
+// the four numbers of the answer.
 #[no_mangle]
 pub extern "C" fn stormhlaw_read(
     input: &[u8],
     element: u8,
     component: u8,
     terminator: u8,
+    how: u64,
     segments: &mut [u64],
     levels: &mut [u64],
     answer: &mut [u64; 4],
 )
-    ensures { λ _. ⌜ Told (howOf element component terminator) (now (input .entry)) (tablesOf (now (segments .entry)) (now (levels .entry)))
+    ensures { λ _. ⌜ Told (howOf element component terminator how) (now (input .entry)) (tablesOf (now (segments .entry)) (now (levels .entry)))
         (tablesOf (now (segments .exit)) (now (levels .exit))) (now (answer .exit)) ⌝ }
 {
-    let how = How {
-        separators: separators_of(element, component, terminator),
-    };
-    *answer = four(reading::reading::read(input, how, segments, levels));
+    let chosen = how_of(element, component, terminator, how);
+    *answer = four(reading::reading::read(input, chosen, segments, levels));
 }
 
 // Reads one transaction and writes it to the output with the new separators, as `rewriting::rewrite` does: both tables, the output, and the
-// four numbers of the answer.
+// four numbers of the answer. It reads strictly, so that no flag of `how` changes anything.
 #[no_mangle]
 pub extern "C" fn stormhlaw_rewrite(
     input: &[u8],
     element: u8,
     component: u8,
     terminator: u8,
+    how: u64,
     new_element: u8,
     new_component: u8,
     new_terminator: u8,

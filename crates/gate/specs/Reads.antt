@@ -31,7 +31,7 @@ abbrev pub cutBy : How → Bytes → Cut
 cutBy how s = cutOf (how .separators) s
 
 abbrev pub skipBy : How → Bytes → ℕ
-skipBy how s = skipOf (how .separators) s
+skipBy how s = skipOf (how .lines) (how .separators) s
 
 -- segments that were passed, and their rows: they lead from the start of the bytes to `rest`, which starts at `end`; every rule holds of
 -- each after those before it; none is an SE; and there is room for their records

@@ -1,6 +1,9 @@
 // How a transaction is to be read.
+use text::lines::LineEnds;
 use text::separators::Separators;
 
 pub struct How {
     pub separators: Separators,
+    // Whether line ends between segments are skipped.
+    pub lines: LineEnds,
 }

@@ -9,3 +9,4 @@ pub mod Walk
 pub mod Exits
 pub mod Facts
 pub mod BinCuts
+pub mod PastLineEnds

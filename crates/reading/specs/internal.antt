@@ -4,6 +4,7 @@ pub mod Standing
 pub mod SpecialBytes
 pub mod Queue
 pub mod Cutting
+pub mod Between
 pub mod Judgements
 pub mod Settling
 pub mod Loop

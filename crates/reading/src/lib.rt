@@ -1,4 +1,5 @@
 // Reading one transaction: the answer, and what the lent tables then hold.
+mod between;
 mod cutting;
 mod judging;
 mod placing;

@@ -13,6 +13,7 @@ ghost use Rattle.gate.specs.declared.answer.Answer.the-variants.{Refused};
 ghost use Rattle.gate.specs.Reads.{limit, Read, Reads};
 ghost use Rattle.reading.specs.internal.Cutting.{cutOut};
 ghost use Rattle.reading.specs.internal.Settling.{refusedBy};
+use crate::between;
 use crate::cutting;
 use crate::cutting::Left;
 use crate::cutting::Next;
@@ -105,8 +106,9 @@ fn read_on(
                     Step::Done(answer) => return answer,
                     Step::Passed(next) => {
                         state = next;
-                        at = layout.end + 1;
-                        left = behind;
+                        let onward = between::past_line_end(s, how, layout.end + 1, behind);
+                        at = onward.at;
+                        left = onward.left;
                     }
                 }
             }

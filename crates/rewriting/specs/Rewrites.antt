@@ -13,6 +13,7 @@ use Rattle.text.specs.Pieces.{closed}
 use Rattle.text.specs.View.{Piece, View, viewOf, written, elementOf, inspected}
 use Rattle.text.specs.Cut.{Placed}
 use Rattle.text.specs.declared.separators.Separators.{Separators}
+use Rattle.text.specs.declared.lines.LineEnds.the-variants.{Strict}
 use Rattle.elements.specs.Checks.{Check, each, firstBroken}
 use Rattle.elements.specs.declared.verdict.Verdict.{Verdict}
 use Rattle.elements.specs.declared.verdict.Verdict.the-variants.{Holds, Broken}
@@ -27,9 +28,9 @@ use Rattle.gate.specs.declared.how.How.{How}
 use Rattle.rewriting.specs.declared.collisions.Clash.{Clash}
 use Rattle.rewriting.specs.declared.collisions.Clash.the-variants.{At, Nowhere}
 
--- reading by these separators and nothing else; rewriting reads so, whatever its caller's way of reading is
+-- strict reading by these separators; rewriting reads so, whatever its caller's way of reading is
 abbrev pub strictly : Separators → How
-strictly old = record { separators = old }
+strictly old = record { separators = old; lines = Strict }
 
 -- the segments as they are written with the new separators: every view again, and a terminator after each
 abbrev pub rewritten : Separators → Separators → List Placed → Bytes

@@ -12,6 +12,7 @@ use crate::collisions::Clash;
 use crate::writing;
 use gate::answer::Answer;
 use gate::how::How;
+use text::lines::LineEnds;
 use text::separators::Separators;
 
 // A refusal that names no segment.
@@ -87,7 +88,10 @@ pub fn rewrite(
     if !new.fit() {
         return refused(1, 1);
     }
-    let strictly = How { separators: old };
+    let strictly = How {
+        separators: old,
+        lines: LineEnds::Strict,
+    };
     match reading::reading::read(s, strictly, segments, levels) {
         Answer::Accepted {
             segments: count,

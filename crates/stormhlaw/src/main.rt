@@ -1,6 +1,7 @@
 // The gate as a program: reads one report, from the file that the first argument names or from standard input, with the standard
-// separators, and lists its segments and levels on standard output, or says there in one line why it is refused. Standard error gets a
-// hint where the bytes show what was sent instead, and why an input could not be read; then nothing is on standard output.
+// separators and past line ends between segments, and lists its segments and levels on standard output, or says there in one line why it is
+// refused. Standard error gets a hint where the bytes show what was sent instead, and why an input could not be read; then nothing is on
+// standard output.
 // What decides is `reading::read`; this crate only prints. The script `stormhlaw` runs it, once for each report.
 mod hints;
 mod input;
@@ -10,6 +11,7 @@ mod printing;
 use gate::answer::Answer;
 use gate::how::How;
 use text::compare;
+use text::lines::LineEnds;
 use text::separators::Separators;
 
 // Reads the report and prints what came of it. Room for 1,000 segments and 200 levels.
@@ -18,6 +20,7 @@ fn judge(report: &[u8], name: &[u8]) {
     let mut levels = [0u64; 800];
     let how = How {
         separators: Separators::standard(),
+        lines: LineEnds::Skipped,
     };
     match reading::reading::read(report, how, &mut segments, &mut levels) {
         Answer::Accepted {

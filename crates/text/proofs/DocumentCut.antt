@@ -14,12 +14,12 @@ use Rattle.text.specs.Bytes.{Bytes, byte, same}
 use Rattle.text.specs.Separators.{isCapital, Fitted}
 use Rattle.text.specs.Bin.{binMark, beginsBin}
 use Rattle.text.specs.internal.Search.{Free}
-use Rattle.text.specs.Cut.{Cut, Whole, Stop, behind, cutAtTerminator, cutCounted, cutOf, skipOf}
+use Rattle.text.specs.Cut.{Cut, Whole, Stop, behind, cutAtTerminator, cutCounted, cutOf}
 use Rattle.text.specs.declared.separators.Separators.{Separators}
 use Rattle.text.proofs.Bools.{first-of, second-of, fails}
 use Rattle.text.proofs.Bins.{begins-mark, mark-begins}
 use Rattle.text.proofs.Serving.{serves-apart}
-use Rattle.text.proofs.CutLaws.{CutLaw, SkipLaw}
+use Rattle.text.proofs.CutLaws.{CutLaw}
 use Rattle.text.proofs.CountedCut.{law-behind, counted-law}
 
 module _ (q : Separators) where
@@ -146,10 +146,3 @@ module _ (q : Separators) (fit : Fitted q) where
 
   pub cut-law : (s : Bytes) → CutLaw (q .terminator) (cutOf q) s (cutOf q s)
   cut-law s = law-by s (beginsBin (q .element) s) refl
-
-module _ (q : Separators) where
-  near : (gap : Bytes) (b b′ : ℕ) (y z : Bytes) → (b′ ≡ b) ⊎ T (isCapital b′) → 0 ≡ length gap → 0 ≡ length gap
-  near gap b b′ y z o e = e
-
-  pub skip-law : SkipLaw (skipOf q)
-  skip-law = record { few = λ s. omega arith; near = near; none = λ b z h. refl }

@@ -18,6 +18,7 @@ pub mod CountedBytes
 pub mod Counting
 pub mod BinSpans
 pub mod DocumentCut
+pub mod LineEnds
 pub mod BinCut
 pub mod BinCutOnce
 pub mod BinCases

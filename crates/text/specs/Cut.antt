@@ -3,14 +3,16 @@
 -- Assumes nothing.
 use Prim.Native.Nat.{ℕ, suc, _+_, _-_, _*_}
 use mathlib.Core.Path.{_≡_}
-use mathlib.Core.Bool.{Bool, cond, _&&_, _||_}
+use mathlib.Core.Bool.{Bool, not, cond, _&&_, _||_}
 use mathlib.Core.List.{List, [], _∷_, _++_}
 use lib.Dec.{leb, ltb, eqb}
 use lib.ListN.{length, take, drop, getD}
 use Rattle.text.specs.Bytes.{Bytes, byte}
-use Rattle.text.specs.Separators.{isDigit}
+use Rattle.text.specs.Separators.{isDigit, isSeparator}
 use Rattle.text.specs.Bin.{binMark, beginsBin}
 use Rattle.text.specs.declared.separators.Separators.{Separators}
+use Rattle.text.specs.declared.lines.LineEnds.{LineEnds}
+use Rattle.text.specs.declared.lines.LineEnds.the-variants.{Skipped, Strict}
 
 -- what the bytes begin with: a segment, and what follows its terminator; or, where there is none, the answer's number and element, the bytes
 -- that were looked at, and what follows those
@@ -52,9 +54,26 @@ unfoldable pub cutOf : Separators → Bytes → Cut
 cutOf q s =
     cond (beginsBin (q .element) s) (behind (binMark (q .element)) (cutCounted q 0 0 (drop 4 s))) (cutAtTerminator q s)
 
--- how many bytes are skipped between a terminator and the next segment: none, not even line ends
-abbrev pub skipOf : Separators → Bytes → ℕ
-skipOf q s = 0
+-- Line ends, document 02, Item 3
+abbrev pub CR : ℕ
+CR = 13
+
+abbrev pub LF : ℕ
+LF = 10
+
+-- at most one: 1 where the bytes begin with b and b is no separator, else 0
+abbrev pub atMostOne : Separators → ℕ → Bytes → ℕ
+atMostOne q b [] = 0
+atMostOne q b (x ∷ s) = cond (eqb x b && not (isSeparator q b)) 1 0
+
+-- at most one CR and then at most one LF
+abbrev pub lineEnd : Separators → Bytes → ℕ
+lineEnd q s = atMostOne q CR s + atMostOne q LF (drop (atMostOne q CR s) s)
+
+-- how many bytes are skipped after a terminator and before the next segment: a line end, or by the strict choice none
+abbrev pub skipOf : LineEnds → Separators → Bytes → ℕ
+skipOf Skipped q s = lineEnd q s
+skipOf Strict q s = 0
 
 -- a segment and the byte where it starts
 pub record Placed : Type 0 where

@@ -3,13 +3,15 @@
 //   1 to 3   element, component, terminator; of a lookup the separator alone
 //   4 to 6   the new set of a rewriting; how long a long input is, which goes on with bytes `~` behind its own
 //   7, 9     how many numbers the segment table and the level table have, two bytes each, the lower first
-//   11       the number that a lookup asks for, or how many bytes the output of a rewriting has, two bytes
+//   11       the number that a lookup asks for, or how many bytes the output of a rewriting has, two bytes; of a reading one byte, odd where it
+//            is strict with line ends
 //   13       how long the input is, three bytes
 ghost use mathlib.Core.Path.{_≡_};
 ghost use Prim.Native.Nat.{_<_, _≤_};
 ghost use lib.ListN.{length};
 use gate::answer::Answer;
 use gate::how::How;
+use text::lines::LineEnds;
 use text::lookup;
 use text::lookup::Span;
 use text::separators::Separators;
@@ -144,6 +146,15 @@ fn separators_at(header: &[u8], at: usize) -> Separators
     }
 }
 
+// The choice of line ends: strict where the lowest bit is set.
+fn lines_at(header: &[u8], at: usize) -> LineEnds {
+    if byte_at(header, at) % 2 == 1 {
+        LineEnds::Strict
+    } else {
+        LineEnds::Skipped
+    }
+}
+
 // The answer of a reading, and the tables afterwards.
 fn read_lent(input: &[u8], how: How, segments: &mut [u64], levels: &mut [u64]) {
     print_answer(reading::reading::read(input, how, segments, levels));
@@ -155,6 +166,7 @@ fn read_lent(input: &[u8], how: How, segments: &mut [u64], levels: &mut [u64]) {
 fn read_case(header: &[u8], input: &[u8]) {
     let how = How {
         separators: separators_at(header, 1),
+        lines: lines_at(header, 11),
     };
     let segment_numbers = least(two_at(header, 7), 120);
     let level_numbers = least(two_at(header, 9), 120);

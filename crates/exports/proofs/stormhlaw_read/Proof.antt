@@ -5,8 +5,8 @@ use Rattle.exports.proofs.Telling.{tell}
 use Rattle.exports.proofs.stormhlaw_read.Statement.{statement}
 use Rattle.exports.proofs.stormhlaw_read.Tie as tie
 
-separators-of-requires : tie.Need-separators-of-requires
-separators-of-requires c κs = search needs
+how-of-requires : tie.Need-how-of-requires
+how-of-requires c κs = search needs
 
 read-requires : tie.Need-read-requires
 read-requires c κs = search needs
@@ -23,9 +23,10 @@ same-length-2 c = search needs
 returns : tie.Need-returns
 returns c =
     let call = c .before .before .before .before .before in
-    tell _ _ _ _ _ _ (call .before .before .before .separators-of .result) (call .before .before .before .separators-of .ensures) (call .read .ensures) (c .four .ensures)
+    let told = call .before .before .before .how-of in
+    tell _ _ _ _ _ _ (told .result) (told .ensures) (call .read .ensures) (c .four .ensures)
 
 pub stormhlaw-read-spec : {M : Type 1} → statement M
 stormhlaw-read-spec =
     tie.close
-    (tie.spec separators-of-requires read-requires four-requires same-length same-length-2 returns)
+    (tie.spec how-of-requires read-requires four-requires same-length same-length-2 returns)

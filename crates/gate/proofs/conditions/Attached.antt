@@ -24,7 +24,8 @@ use Rattle.text.proofs.BinSpans.{bin-long}
 use Rattle.text.proofs.BinCut.{bin-whole}
 use Rattle.text.proofs.View.{fitted}
 use Rattle.text.proofs.CutLaws.{leads-front}
-use Rattle.text.proofs.DocumentCut.{cut-law, skip-law}
+use Rattle.text.proofs.DocumentCut.{cut-law}
+use Rattle.text.proofs.LineEnds.{skip-law}
 use Rattle.rows.specs.Rows.{list842}
 use Rattle.rows.specs.Tags.{tag, tagNumber}
 use Rattle.rows.proofs.NextRows.{nextOf, after, edges842}
@@ -227,7 +228,7 @@ leads-still : (how : How) → Fitted (how .separators) → (front : Bytes) (gs :
     → Leads (cutBy how) (skipBy how) 0 (front ++ b ∷ y) gs end (b ∷ y) → Leads (cutBy how) (skipBy how) 0 (front ++ b ∷ z) gs end (b ∷ z)
 leads-still how fit front gs end b y z l =
     let q = how .separators in
-    let f = leads-front (q .terminator) (cutBy how) (skipBy how) (cut-law q fit) (skip-law q) 0 (front ++ b ∷ y) gs end b y l in
+    let f = leads-front (q .terminator) (cutBy how) (skipBy how) (cut-law q fit) (skip-law q (how .lines)) 0 (front ++ b ∷ y) gs end b y l in
     let n : length front ≡ length (f .front) = omega (arith, simp length-append at (ap length (f .whole))) in
     subst (λ (u : Bytes). Leads (cutBy how) (skipBy how) 0 (u ++ b ∷ z) gs end (b ∷ z)) (sym (same-front front (b ∷ y) (f .front) (b ∷ y) (f .whole) n .0))
     (f .still b z (inl refl))

@@ -13,7 +13,8 @@ use Rattle.text.specs.Separators.{Fitted}
 use Rattle.text.specs.View.{View, viewOf}
 use Rattle.text.specs.Cut.{Cut, Whole, Placed}
 use Rattle.text.proofs.CutLaws.{Faulty, CutLaw, Front, leads-front}
-use Rattle.text.proofs.DocumentCut.{cut-law, skip-law}
+use Rattle.text.proofs.DocumentCut.{cut-law}
+use Rattle.text.proofs.LineEnds.{skip-law}
 use Rattle.gate.specs.Answers.{Fault}
 use Rattle.gate.specs.Profile.{Profile}
 use Rattle.gate.specs.Segments.{seen, onto}
@@ -31,7 +32,7 @@ room-larger profile t u h l r = record { segments-fit = omega (arith, r .segment
 -- what was passed is passed again where the first byte of the rest stays, in larger tables
 module _ (profile : Profile) (how : How) (fit : Fitted (how .separators)) (t u : Tables) (larger : Larger t u) where
   passed-again : (s : Bytes) (gs : List Placed) (rows : List ℕ) (end b : ℕ) (y z : Bytes) → Passed profile how t s gs rows end (b ∷ y)
-      → (f : Front (how .separators .terminator) (cutBy how) (skipBy how) (cut-law (how .separators) fit) (skip-law (how .separators)) 0 s gs end b y)
+      → (f : Front (how .separators .terminator) (cutBy how) (skipBy how) (cut-law (how .separators) fit) (skip-law (how .separators) (how .lines)) 0 s gs end b y)
       → Passed profile how u (f .front ++ b ∷ z) gs rows end (b ∷ z)
   passed-again s gs rows end b y z p f = record {
     leads = f .still b z (inl refl);
@@ -58,7 +59,7 @@ module _ (profile : Profile) (how : How) (fit : Fitted (how .separators)) (t u :
   looked s gs rows end [] old p l = absurd (omega arith)
   looked s gs rows end (b ∷ x) old p l =
       let f =
-      leads-front (how .separators .terminator) (cutBy how) (skipBy how) (cut-law (how .separators) fit) (skip-law (how .separators)) 0 s gs end b
+      leads-front (how .separators .terminator) (cutBy how) (skipBy how) (cut-law (how .separators) fit) (skip-law (how .separators) (how .lines)) 0 s gs end b
       (x ++ old) (p .leads) in
       record {
         front = f .front;

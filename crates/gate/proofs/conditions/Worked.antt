@@ -1,13 +1,15 @@
 -- The worked reports W1 to W12 of document 01, one table under a single statement about the definitions: whatever the promise of reading
--- allows is the answer that the paper gives, with the records that it lists; and the dates and times are real or not, as it says.
+-- allows, by either choice of line ends, is the answer that the paper gives, with the records that it lists; and the dates and times are real or
+-- not, as it says.
 -- Assumes nothing.
 use Prim.Native.Nat.{ℕ}
 use Prim.Native.String.{String}
-use mathlib.Core.Path.{_≡_, refl, _∙_}
-use mathlib.Core.Bool.{not}
-use mathlib.Core.List.{List, [], _∷_}
-use lib.Dec.{T, leb, leb→le}
+use mathlib.Core.Path.{_≡_, refl, ap, _∙_}
+use mathlib.Core.Bool.{Bool, true, not}
+use mathlib.Core.List.{List, [], _∷_, map}
+use lib.Dec.{T, leb}
 use lib.ListN.{length}
+use borrow.Author.Tests.{leb-true}
 use Rattle.text.specs.Bytes.{bytes}
 use Rattle.text.specs.Separators.{standard, fitSeparators, mayServe}
 use Rattle.rows.specs.Tags.{tagNumber}
@@ -19,6 +21,8 @@ use Rattle.types.specs.Types.{isReal, daysIn, isDate, isTime, fits}
 use Rattle.text.specs.Bin.{beginsBin, isBin}
 use Rattle.text.specs.View.{viewOf, inspected}
 use Rattle.text.specs.Cut.{cutAttached, cutOf}
+use Rattle.text.specs.declared.lines.LineEnds.{LineEnds}
+use Rattle.text.specs.declared.lines.LineEnds.the-variants.{Skipped, Strict}
 use Rattle.elements.specs.Rules.{dataChecks, byteChecks, endChecks, ruledChecks}
 use Rattle.levels.specs.Profile.{codeOf, mayStandAlone, mayBeMarked, mayHang}
 use Rattle.levels.specs.Rules.{filled}
@@ -43,8 +47,9 @@ pub record Case : Type 0 where
   pub segments : List ℕ
   pub levels : List ℕ
 
-abbrev pub usual : How
-usual = record { separators = standard }
+-- the standard separators, by this choice of line ends
+abbrev pub usual : LineEnds → How
+usual lines = record { separators = standard; lines = lines }
 
 -- the records of the segments of W1, from the second on shared by most cases
 abbrev pub heading : List ℕ → List ℕ
@@ -132,74 +137,67 @@ cases =
     ∷ []
 
 -- what a case says of the promise of reading
-abbrev pub Shown : Case → Type 0
-Shown c = (before after : Tables) (r : Answer) → segmentRoom before ≡ c .segment-room → levelRoom before ≡ c .level-room
-    → Reads usual (bytes (c .report)) before r after
+abbrev pub Shown : LineEnds → Case → Type 0
+Shown lines c = (before after : Tables) (r : Answer) → segmentRoom before ≡ c .segment-room → levelRoom before ≡ c .level-room
+    → Reads (usual lines) (bytes (c .report)) before r after
     → (r ≡ c .answer) × (after ≡ record { segments = over (before .segments) (c .segments); levels = over (before .levels) (c .levels) })
 
-abbrev pub AllShown : List Case → Type 0
-AllShown [] = Unit {0}
-AllShown (c ∷ cs) = Shown c × AllShown cs
+abbrev pub AllShown : LineEnds → List Case → Type 0
+AllShown lines [] = Unit {0}
+AllShown lines (c ∷ cs) = Shown lines c × AllShown lines cs
 
--- it is what the computed reading gives
-abbrev Computed : Case → Type 0
-Computed c =
-    let o = compute nonconformance usual (c .segment-room) (c .level-room) (bytes (c .report)) in
-    (o .0 ≡ c .answer) × (segmentRecords usual [] (o .1) (o .2) ≡ c .segments) × (levelRecords nonconformance usual (o .1) ≡ c .levels)
+-- What the computed reading gives of a report that is not too long, and what the case says of it
+abbrev Outcome : Type 0
+Outcome = Answer × List ℕ × List ℕ × Bool
 
-read-shown : (c : Case) → Computed c → (before after : Tables) (r : Answer) → segmentRoom before ≡ c .segment-room → levelRoom before ≡ c .level-room
-    → Read nonconformance usual (bytes (c .report)) before r after
-    → (r ≡ c .answer) × (after ≡ record { segments = over (before .segments) (c .segments); levels = over (before .levels) (c .levels) })
-read-shown c k before after r p q x =
-    let u = run-once (x .run) (rw (p, q) at (computes nonconformance usual before (bytes (c .report)))) in
-    let a : segmentRecords usual [] (x .kept) (x .numbers) ≡ c .segments = (λ i. segmentRecords usual [] (u .1 i) (u .2 i)) ∙ k .1 in
-    let b : levelRecords nonconformance usual (x .kept) ≡ c .levels = (λ i. levelRecords nonconformance usual (u .1 i)) ∙ k .2 in
-    (u .0 ∙ k .0, x .tables ∙ (λ i. record { segments = over (before .segments) (a i); levels = over (before .levels) (b i) }))
+abbrev outcome : LineEnds → Case → Outcome
+outcome lines c =
+    let o = compute nonconformance (usual lines) (c .segment-room) (c .level-room) (bytes (c .report)) in
+    (o .0, segmentRecords (usual lines) [] (o .1) (o .2), levelRecords nonconformance (usual lines) (o .1), leb (length (bytes (c .report))) limit)
 
-abbrev AllComputed : List Case → Type 0
-AllComputed [] = Unit {0}
-AllComputed (c ∷ cs) = Computed c × T (leb (length (bytes (c .report))) limit) × AllComputed cs
+abbrev told : Case → Outcome
+told c = (c .answer, c .segments, c .levels, true)
 
-computed : AllComputed cases
+-- are the same of all cases
+abbrev pub AllComputed : LineEnds → List Case → Type 0
+AllComputed lines cs = map (outcome lines) cs ≡ map told cs
+
+computed : (lines : LineEnds) → AllComputed lines cases
 unfolding compute says stepOf tagIn tagNumber nextOf after edges842 list842 maxOf rowAt beginsBin isBin viewOf inspected cutAttached cutOf byteChecks dataChecks endChecks tagChecks ruledChecks hlChecks seChecks levelsIn fits isReal isDate isTime daysIn codeOf mayStandAlone mayBeMarked mayHang filled
-computed = (
-  (refl, refl, refl),
-  tt,
-  (
-    (refl, refl, refl),
-    tt,
-    (
-      (refl, refl, refl),
-      tt,
-      (
-        (refl, refl, refl),
-        tt,
-        (
-          (refl, refl, refl),
-          tt,
-          ((refl, refl, refl), tt, ((refl, refl, refl), tt, ((refl, refl, refl), tt, ((refl, refl, refl), tt, ((refl, refl, refl), tt, tt))))),
-        ),
-      ),
-    ),
-  ),
-)
+computed Skipped = refl
+computed Strict = refl
+
+read-shown : (lines : LineEnds) (c : Case) → outcome lines c ≡ told c → (before after : Tables) (r : Answer)
+    → segmentRoom before ≡ c .segment-room → levelRoom before ≡ c .level-room
+    → Read nonconformance (usual lines) (bytes (c .report)) before r after
+    → (r ≡ c .answer) × (after ≡ record { segments = over (before .segments) (c .segments); levels = over (before .levels) (c .levels) })
+read-shown lines c k before after r p q x =
+    let u = run-once (x .run) (rw (p, q) at (computes nonconformance (usual lines) before (bytes (c .report)))) in
+    let a : segmentRecords (usual lines) [] (x .kept) (x .numbers) ≡ c .segments =
+    (λ i. segmentRecords (usual lines) [] (u .1 i) (u .2 i)) ∙ ap (λ (o : Outcome). o .1) k in
+    let b : levelRecords nonconformance (usual lines) (x .kept) ≡ c .levels =
+    (λ i. levelRecords nonconformance (usual lines) (u .1 i)) ∙ ap (λ (o : Outcome). o .2) k in
+    (u .0 ∙ ap (λ (o : Outcome). o .0) k, x .tables ∙ (λ i. record { segments = over (before .segments) (a i); levels = over (before .levels) (b i) }))
 
 -- the standard separators are fit
 pub standard-fit : T (fitSeparators standard)
 unfolding mayServe
 standard-fit = tt
 
-all-shown : (cs : List Case) → AllComputed cs → AllShown cs
-all-shown [] k = tt
-all-shown (c ∷ cs) k = (
-  λ before after r p q x.
-      read-shown c (k .0) before after r p q (reads-read usual (bytes (c .report)) standard-fit (leb→le (length (bytes (c .report))) limit (k .1)) before r after x),
-  all-shown cs (k .2),
-)
+pub all-shown : (lines : LineEnds) (cs : List Case) → AllComputed lines cs → AllShown lines cs
+all-shown lines [] k = tt
+all-shown lines (c ∷ cs) k =
+    let first : outcome lines c ≡ told c = cc in
+    let short : leb (length (bytes (c .report))) limit ≡ true = ap (λ (o : Outcome). o .3) first in (
+      λ before after r p q x.
+          read-shown lines c first before after r p q
+          (reads-read (usual lines) (bytes (c .report)) standard-fit (leb-true (length (bytes (c .report))) limit short) before r after x),
+      all-shown lines cs (cc),
+    )
 
 -- W1 to W12
 pub record Worked : Type 0 where
-  pub reports : AllShown cases
+  pub reports : (lines : LineEnds) → AllShown lines cases
   -- W11: a leap day in a leap year and in another
   pub real-date : T (isDate (bytes "20240229"))
   pub unreal-date : T (not (isDate (bytes "20230229")))
@@ -209,4 +207,4 @@ pub record Worked : Type 0 where
 
 pub worked : Worked
 unfolding isDate isTime daysIn
-worked = record { reports = all-shown cases computed; real-date = tt; unreal-date = tt; fit-time = tt; unfit-time = tt }
+worked = record { reports = λ lines. all-shown lines cases (computed lines); real-date = tt; unreal-date = tt; fit-time = tt; unfit-time = tt }

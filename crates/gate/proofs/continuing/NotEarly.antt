@@ -20,7 +20,8 @@ use Rattle.text.proofs.Lists.{map-append}
 use Rattle.text.proofs.Tables.{tab, tab-at}
 use Rattle.text.proofs.View.{fitted}
 use Rattle.text.proofs.CutLaws.{Faulty, CutLaw, Addable, AllAddable, ended, places, past, leads-front, leads-on}
-use Rattle.text.proofs.DocumentCut.{cut-law, skip-law}
+use Rattle.text.proofs.DocumentCut.{cut-law}
+use Rattle.text.proofs.LineEnds.{skip-law}
 use Rattle.text.proofs.Writable.{writes, writes-writable, cut-writable, writable-cut, writable-seen}
 use Rattle.rows.specs.Tags.{tags, tagNumber}
 use Rattle.rows.proofs.TagList.{tag-of-number}
@@ -98,10 +99,10 @@ module _ (how : How) where
         (leads-bare (at + length (g .segment) + 1 + skipBy how (l .0)) (drop (skipBy how (l .0)) (l .0)) gs end rest (l .3))
 
     abbrev AddableBy : Bytes → Type 0
-    AddableBy g = Addable (q .terminator) (cutBy how) (skipBy how) (cut-law q fit) (skip-law q) g
+    AddableBy g = Addable (q .terminator) (cutBy how) (skipBy how) (cut-law q fit) (skip-law q (how .lines)) g
 
     abbrev AllAddableBy : List Bytes → Type 0
-    AllAddableBy gs = AllAddable (q .terminator) (cutBy how) (skipBy how) (cut-law q fit) (skip-law q) gs
+    AllAddableBy gs = AllAddable (q .terminator) (cutBy how) (skipBy how) (cut-law q fit) (skip-law q (how .lines)) gs
 
     added : (v : View) → T (writes q v) → tagIn v < 34 → AddableBy (written q v)
     added v w h =
@@ -123,7 +124,7 @@ module _ (how : How) where
 
     -- they are seen again where they stand
     abbrev placed : ℕ → List Bytes → List Placed
-    placed at gs = places (q .terminator) (cutBy how) (skipBy how) (cut-law q fit) (skip-law q) at gs
+    placed at gs = places (q .terminator) (cutBy how) (skipBy how) (cut-law q fit) (skip-law q (how .lines)) at gs
 
     seen-placed : (at : ℕ) (vs : List View) → T (every (writes q) vs) → seen how (placed at (map (written q) vs)) ≡ vs
     seen-placed at [] w = refl
@@ -137,13 +138,13 @@ module _ (how : How) where
         (short : length s ≤ limit) where
       abbrev Going : List View → Type 0
       Going vs = (front : Bytes) × (s ≡ front ++ b ∷ y) × (end ≡ 0 + length front)
-          × Leads (cutBy how) (skipBy how) 0 (front ++ ended (q .terminator) (cutBy how) (skipBy how) (cut-law q fit) (skip-law q) (map (written q) vs))
-          (gs ++ placed end (map (written q) vs)) (past (q .terminator) (cutBy how) (skipBy how) (cut-law q fit) (skip-law q) end (map (written q) vs)) []
+          × Leads (cutBy how) (skipBy how) 0 (front ++ ended (q .terminator) (cutBy how) (skipBy how) (cut-law q fit) (skip-law q (how .lines)) (map (written q) vs))
+          (gs ++ placed end (map (written q) vs)) (past (q .terminator) (cutBy how) (skipBy how) (cut-law q fit) (skip-law q (how .lines)) end (map (written q) vs)) []
 
       going : (vs : List View) → 0 < length vs → AllAddableBy (map (written q) vs) → Going vs
       going [] l a = absurd (omega arith)
       going (v ∷ vs) l a =
-          leads-on (q .terminator) (cutBy how) (skipBy how) (cut-law q fit) (skip-law q) 0 s gs end b y (p .leads) (written q v) (map (written q) vs) a
+          leads-on (q .terminator) (cutBy how) (skipBy how) (cut-law q fit) (skip-law q (how .lines)) 0 s gs end b y (p .leads) (written q v) (map (written q) vs) a
 
       goes-on : (k : ℕ) → length gs + 1 ≡ k → Continued q (seen how gs) rows → Continues how s k end
       goes-on k n c =
@@ -159,10 +160,10 @@ module _ (how : How) where
             passed = gs;
             number = n;
             leads = rw d (p .leads);
-            more = ended (q .terminator) (cutBy how) (skipBy how) (cut-law q fit) (skip-law q) (map (written q) (c .more));
+            more = ended (q .terminator) (cutBy how) (skipBy how) (cut-law q fit) (skip-law q (how .lines)) (map (written q) (c .more));
             added = added;
             rows = rows ++ c .rows;
-            end = past (q .terminator) (cutBy how) (skipBy how) (cut-law q fit) (skip-law q) end (map (written q) (c .more));
+            end = past (q .terminator) (cutBy how) (skipBy how) (cut-law q fit) (skip-law q (how .lines)) end (map (written q) (c .more));
             whole = rw f (g .3);
             meets = rw all (from-meets nonconformance (seen how gs ++ c .more) (rows ++ c .rows) (c .meets));
           }
@@ -170,7 +171,7 @@ module _ (how : How) where
       -- so few segments stand in so few bytes
       end-within : end ≤ length s
       end-within =
-          let f = leads-front (q .terminator) (cutBy how) (skipBy how) (cut-law q fit) (skip-law q) 0 s gs end b y (p .leads) in
+          let f = leads-front (q .terminator) (cutBy how) (skipBy how) (cut-law q fit) (skip-law q (how .lines)) 0 s gs end b y (p .leads) in
           omega (arith, f .end-is, ap length (f .whole) ∙ length-append (f .front) (b ∷ y))
 
       pub continues : (k : ℕ) → length gs + 1 ≡ k → Continues how s k end

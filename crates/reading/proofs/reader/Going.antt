@@ -12,6 +12,7 @@ use lib.Seq.{take-append-seam}
 use Rattle.text.specs.Bytes.{Bytes}
 use Rattle.text.specs.View.{plainView, viewOf}
 use Rattle.text.specs.Separators.{Fitted}
+use Rattle.text.specs.declared.separators.Separators.{Separators}
 use Rattle.elements.specs.Checks.{firstBroken}
 use Rattle.elements.specs.Rules.{dataChecks, byteChecks}
 use Rattle.gate.specs.Profile.{profileOf}
@@ -22,6 +23,7 @@ use Rattle.gate.specs.Reads.{Read}
 use Rattle.reading.specs.internal.Cutting.{cutOut, Cuts, BadSegment, GoodSegment}
 use Rattle.reading.specs.internal.Judgements.{Inside, JudgesNext}
 use Rattle.reading.specs.internal.Settling.{refusedBy, InRoom, Stands, Settles, SettlesBy}
+use Rattle.reading.specs.internal.Between.{nextStart}
 use Rattle.reading.specs.internal.Loop.{Going}
 use Rattle.gate.specs.declared.answer.Answer.{Answer}
 use Rattle.gate.specs.declared.answer.Answer.the-variants.{Refused}
@@ -116,26 +118,28 @@ module _ {how : How} {s : Bytes} {before : Tables} {segments levels : List ℕ} 
       }))))))
 
 -- a segment that was cut and has data bytes
-pub cut-good : {how : How} {s : Bytes} {specials : List Bool} {queue starts : List ℕ} {at : ℕ} (next : Next) → Cuts (how .separators) specials s at queue starts next
-    → {layout : Layout} {left : Left} → next ≡ Segment layout left → GoodSegment (how .separators) specials s at queue starts layout left
-cut-good {how} {s} {specials} {queue} {starts} {at} next cuts is = subst (λ (n : Next). Cuts (how .separators) specials s at queue starts n) is cuts
+module _ {q : Separators} {s : Bytes} {specials : List Bool} {queue starts : List ℕ} {at : ℕ} where
+  pub cut-good : (next : Next) → Cuts q specials s at queue starts next
+      → {layout : Layout} {left : Left} → next ≡ Segment layout left → GoodSegment q specials s at queue starts layout left
+  cut-good next cuts is = subst (λ (n : Next). Cuts q specials s at queue starts n) is cuts
+
+  module _ {layout : Layout} {left : Left} (good : GoodSegment q specials s at queue starts layout left) where
+    pub good-forward : at ≤ layout .end
+    good-forward = omega (arith, good .cut-as .laid .place, good .at-is)
+
+    pub good-within : layout .end < length s
+    good-within = end-inside (good .cut-as)
+
+    pub good-inside : Inside s layout
+    good-inside = record { forward = omega (arith, good .cut-as .laid .place); within = omega (arith, good-within) }
 
 module _ {how : How} {s : Bytes} {specials : List Bool} {queue starts : List ℕ} {at : ℕ} {layout : Layout} {left : Left}
     (good : GoodSegment (how .separators) specials s at queue starts layout left) where
-  pub good-forward : at ≤ layout .end
-  good-forward = omega (arith, good .cut-as .laid .place, good .at-is)
-
-  pub good-within : layout .end < length s
-  good-within = end-inside (good .cut-as)
-
-  pub good-inside : Inside s layout
-  good-inside = record { forward = omega (arith, good .cut-as .laid .place); within = omega (arith, good-within) }
-
   module _ {before : Tables} {segments levels : List ℕ} {state : State} (stands : Stands how before s segments levels at state) where
     pub in-room : length s ≤ 1048576 → InRoom segments levels layout state
     in-room l = record {
       forward = omega (arith, good .cut-as .laid .place);
-      short = omega (arith, good-within);
+      short = omega (arith, good-within good);
       segments-fit = segments-within stands;
       levels-fit = levels-within stands;
     }
@@ -160,5 +164,5 @@ module _ {how : How} {s : Bytes} {specials : List Bool} {queue starts : List ℕ
       settled-done a e = subst (λ (x : Step). Settles how before s layout segments′ levels′ x) e settled
 
       -- the next place
-      pub settled-passed : (after : State) → r ≡ Passed after → Stands how before s segments′ levels′ (layout .end + 1) after
+      pub settled-passed : (after : State) → r ≡ Passed after → Stands how before s segments′ levels′ (nextStart how s (layout .end + 1)) after
       settled-passed after e = subst (λ (x : Step). Settles how before s layout segments′ levels′ x) e settled

@@ -18,6 +18,7 @@ use Rattle.text.specs.Cut.{Placed}
 use Rattle.text.proofs.Bools.{equal-eqb, passes, fails, not-passes}
 use Rattle.text.proofs.BinView.{view-plain, elements-plain}
 use Rattle.text.specs.Separators.{Fitted}
+use Rattle.text.specs.declared.separators.Separators.{Separators}
 use Rattle.rows.specs.Tags.{tag, tagNumber}
 use Rattle.rows.specs.NextTable.{NextTable}
 use Rattle.rows.specs.Following.{Fits, OneFits}
@@ -58,18 +59,18 @@ use Rattle.reading.proofs.cut.BinCuts.{bin-ends}
 use Rattle.reading.proofs.reader.OpeningControl.{control-of-first, counted-number}
 use Rattle.reading.proofs.reader.Standings.{history-long}
 
-module _ {how : How} {s : Bytes} {starts : List ℕ} {layout : Layout} {g more : Bytes} (nt : CutAs (how .separators) s starts layout g more) where
+module _ {q : Separators} {s : Bytes} {starts : List ℕ} {layout : Layout} {g more : Bytes} (nt : CutAs q s starts layout g more) where
   -- the elements start where they are said to
-  started : (k : ℕ) → k ≤ layout .count → k ≤ 32 → getD starts k 0 ≡ layout .at + elementSpan (how .separators .element) g k .start
+  started : (k : ℕ) → k ≤ layout .count → k ≤ 32 → getD starts k 0 ≡ layout .at + elementSpan (q .element) g k .start
   unfolding elementSpan
   started k l h = nt .laid .begins k h l
 
   -- the layout is right, as the element rules take it
-  right : LaidOut (how .separators) s g starts layout
+  right : LaidOut q s g starts layout
   right = record {
-    here = ap (take (length g)) (nt .laid .whole) ∙ take-append-seam g (how .separators .terminator ∷ more);
+    here = ap (take (length g)) (nt .laid .whole) ∙ take-append-seam g (q .terminator ∷ more);
     ends = nt .laid .place;
-    inside = omega (arith, nt .laid .place, length-drop (layout .at) s, ap length (nt .laid .whole) ∙ length-append g (how .separators .terminator ∷ more));
+    inside = omega (arith, nt .laid .place, length-drop (layout .at) s, ap length (nt .laid .whole) ∙ length-append g (q .terminator ∷ more));
     counted = omega (arith, nt .laid .elements);
     started = λ k l h. started k l h;
     singly = λ e. nt .laid .single (rw e tt);
@@ -82,16 +83,16 @@ module _ {how : How} {s : Bytes} {starts : List ℕ} {layout : Layout} {g more :
       rw e (right .here)
 
   -- its elements
-  text-is : (k : ℕ) → k ≤ 31 → elementIn s starts layout k ≡ getD (elementsOf (how .separators .element) g) k []
+  text-is : (k : ℕ) → k ≤ 31 → elementIn s starts layout k ≡ getD (elementsOf (q .element) g) k []
   text-is k h = text-own right k h
 
   -- which are its pieces where it is no BIN
-  piece-is : isBin (how .separators .element) g ≡ false → (k : ℕ) → k ≤ 31
-      → elementIn s starts layout k ≡ getD (pieces (how .separators .element) g) k []
-  piece-is n k h = text-is k h ∙ ap (λ (ps : List Bytes). getD ps k []) (elements-plain (how .separators .element) g n)
+  piece-is : isBin (q .element) g ≡ false → (k : ℕ) → k ≤ 31
+      → elementIn s starts layout k ≡ getD (pieces (q .element) g) k []
+  piece-is n k h = text-is k h ∙ ap (λ (ps : List Bytes). getD ps k []) (elements-plain (q .element) g n)
 
-  tag-is : Fitted (how .separators) → tagNumber (elementIn s starts layout 0) ≡ tagIn (viewOf (how .separators) g)
-  tag-is fit = ap tagNumber (text-is 0 (omega arith)) ∙ sym (tag-of-view (how .separators) fit g)
+  tag-is : Fitted q → tagNumber (elementIn s starts layout 0) ≡ tagIn (viewOf q g)
+  tag-is fit = ap tagNumber (text-is 0 (omega arith)) ∙ sym (tag-of-view q fit g)
 
 -- a BIN is a plain segment
 plain-bin : (v : View) → firstBroken (ruledChecks (nonconformance .elements) (tag "BIN") v) ≡ Holds
@@ -113,10 +114,10 @@ verdict-cases Holds f g = f refl
 verdict-cases (Faulty n e) f g = g n e refl
 
 -- 4
-pub judges-tag : {how : How} {s : Bytes} {starts : List ℕ} {layout : Layout} {g more : Bytes} (rows : List ℕ) (h : List View) (t : ℕ) → 34 ≤ t
+pub judges-tag : (how : How) {s : Bytes} {starts : List ℕ} {layout : Layout} {g more : Bytes} (rows : List ℕ) (h : List View) (t : ℕ) → 34 ≤ t
     → t ≡ tagNumber (elementIn s starts layout 0) → Fitted (how .separators) → CutAs (how .separators) s starts layout g more
     → Judges (profileOf how) rows h (viewOf (how .separators) g) (Broken 4 0)
-judges-tag {how} {g = g} rows h t l found fit nt =
+judges-tag how {g = g} rows h t l found fit nt =
     unknown-tag (profileOf how) rows h (viewOf (how .separators) g) (nt .laid .data-only) (rw (← (found ∙ tag-is nt fit)) l)
 
 module _ {how : How} {before : Tables} {s : Bytes} {segments levels : List ℕ} {at : ℕ} {state : State} {gs : List Placed} {rows : List ℕ}

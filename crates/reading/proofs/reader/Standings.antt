@@ -26,6 +26,7 @@ use Rattle.gate.specs.Rules.{Sound}
 use Rattle.gate.specs.Records.{Tables, segmentRecords, levelRecords, Room, over}
 use Rattle.gate.specs.Reads.{cutBy, skipBy, Passed, Read}
 use Rattle.reading.specs.internal.Standing.{Standing}
+use Rattle.reading.specs.internal.Between.{nextStart}
 use Rattle.gate.specs.declared.answer.Answer.the-variants.{Accepted, Refused}
 use Rattle.gate.specs.declared.how.How.{How}
 use Rattle.gate.proofs.reading.Laws.{onto-append, onto-length}
@@ -188,14 +189,15 @@ module _ {how : How} {before : Tables} {s : Bytes} {segments levels : List ℕ} 
         let f : suc (length (levelsIn profile before-views)) ≤ length (before .levels) / levelWidth = rw (levels-hl before-views v hl) at (r .levels-fit) in
         omega (arith, levels-long, st .knows .counted, f)
 
-    -- the new place
+    -- where the next segment starts
+    abbrev next : ℕ
+    next = nextStart how s (at + length g + 1)
+
     passed-next : (r : ℕ) → Sound profile rows before-views v r → T (not (isSE v)) → Room profile before (v ∷ before-views)
-        → Passed profile how before s gs′ (rows ++ (r ∷ [])) (at + length g + 1) (drop (at + length g + 1) s)
+        → Passed profile how before s gs′ (rows ++ (r ∷ [])) next (drop next s)
     passed-next r sound o room =
         let p = passed-more profile how before s gs rows at (drop at s) g more (st .passed) cut r sound o room in
-        let e : at + length g + 1 + skipBy how more ≡ at + length g + 1 = omega arith in
-        subst (λ (x : Bytes). Passed profile how before s gs′ (rows ++ (r ∷ [])) (at + length g + 1) x) (sym behind)
-        (subst (λ (x : ℕ). Passed profile how before s gs′ (rows ++ (r ∷ [])) x more) e p)
+        rw (← drop-drop (skipBy how (drop (at + length g + 1) s)) (at + length g + 1) s, behind) p
 
     count-more : length gs′ ≡ state .count + 1
     count-more = length-append gs (record { at = at; segment = g } ∷ []) ∙ omega (arith, st .count-is)
@@ -209,7 +211,7 @@ module _ {how : How} {before : Tables} {s : Bytes} {segments levels : List ℕ} 
     -- a segment that makes no level is passed
     pub standing-other : (r : ℕ) → Sound profile rows before-views v r → isHL v ≡ false → T (not (isSE v))
         → state .count < length segments / segmentWidth
-        → Standing how before s (storedAt segmentWidth segments (state .count) (at ∷ length g ∷ r ∷ [])) levels (at + length g + 1) (stateAfter state r (state .known)) gs′ (rows ++ (r ∷ []))
+        → Standing how before s (storedAt segmentWidth segments (state .count) (at ∷ length g ∷ r ∷ [])) levels next (stateAfter state r (state .known)) gs′ (rows ++ (r ∷ []))
     standing-other r sound hl se room =
         let same : levelsIn profile (onto [] (seen how gs′)) ≡ levelsIn profile before-views =
         ap (levelsIn profile) history-more ∙ levels-other before-views v hl in
@@ -233,7 +235,7 @@ module _ {how : How} {before : Tables} {s : Bytes} {segments levels : List ℕ} 
     pub standing-level : Fitted (how .separators) → (r : ℕ) → Sound profile rows before-views v r → isHL v ≡ true → T (not (isSE v))
         → state .count < length segments / segmentWidth → state .known .levels < length levels / levelWidth → (numbers : List ℕ) → numbers ≡ recordOf new → (after : Known)
         → Knows after (new ∷ levelsIn profile before-views)
-        → Standing how before s (storedAt segmentWidth segments (state .count) (at ∷ length g ∷ r ∷ [])) (storedAt levelWidth levels (state .known .levels) numbers) (at + length g + 1) (stateAfter state r after) gs′ (rows ++ (r ∷ []))
+        → Standing how before s (storedAt segmentWidth segments (state .count) (at ∷ length g ∷ r ∷ [])) (storedAt levelWidth levels (state .known .levels) numbers) next (stateAfter state r after) gs′ (rows ++ (r ∷ []))
     standing-level fit r sound hl se room level-room numbers is after knows =
         let p = passed-next r sound se (room-level hl room level-room) in
         let more-levels : levelsIn profile (onto [] (seen how gs′)) ≡ new ∷ levelsIn profile before-views =

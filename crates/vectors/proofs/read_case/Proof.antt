@@ -9,6 +9,9 @@ use Rattle.vectors.proofs.read_case.Tie as tie
 separators-at-requires : tie.Need-separators-at-requires
 separators-at-requires c κs = search needs
 
+lines-at-requires : tie.Need-lines-at-requires
+lines-at-requires c κs = search needs
+
 two-at-requires : tie.Need-two-at-requires
 two-at-requires c κs = search needs
 
@@ -50,6 +53,7 @@ read-case-spec =
     tie.close
     (tie.spec
     separators-at-requires
+    lines-at-requires
     two-at-requires
     least-requires
     two-at-requires-2

@@ -18,7 +18,9 @@ tag-of-requires : tie.Need-tag-of-requires
 tag-of-requires c κs = search needs
 
 returns : tie.Need-returns
-returns c = λ before gs rows g more fit nt st. judges-tag rows _ _ (c .if1 .taken) (c .before .tag-of .ensures) fit nt
+returns c =
+    let how = c .before .before .before .before .before .args .how in
+    λ before gs rows g more fit nt st. judges-tag how rows _ _ (c .if1 .taken) (c .before .tag-of .ensures) fit nt
 
 bad-end-requires : tie.Need-bad-end-requires
 bad-end-requires c κs = search needs

@@ -141,30 +141,40 @@ returns-4 c =
 enum-known-next : tie.Need-enum-known-next Inv-loop μ-loop
 enum-known-next c = search needs
 
-add-at : tie.Need-add-at Inv-loop μ-loop
-add-at c =
-    let at = laid (judged (c .before .before .before .before .before .before .before .before)) in
+-- where the segment is passed, from the settlement on
+abbrev passed : tie.After-struct-known Inv-loop μ-loop → tie.After-settle Inv-loop μ-loop
+passed c = c .before .before .before .before .before .before .before .before
+
+add-past-line-end : tie.Need-add-past-line-end Inv-loop μ-loop
+add-past-line-end c =
+    let at = laid (judged (passed c)) in
     let cut = at .before .before .next-segment in
     record { fits = omega (arith, good-within (cut-good (cut .result) (cut .ensures) (at .layout .given .1)), start (looped at) .pre .1 .0) }
 
+past-line-end-requires : tie.Need-past-line-end-requires Inv-loop μ-loop
+past-line-end-requires c κs = start (looped (laid (judged (passed c)))) .pre .1 .0
+
 loop-less : tie.Need-loop-less Inv-loop μ-loop
 loop-less c =
-    let at = laid (judged (c .before .before .before .before .before .before .before .before)) in
+    let onward = c .before in
+    let at = laid (judged (passed (onward .before))) in
     let cut = at .before .before .next-segment in
     let good = cut-good (cut .result) (cut .ensures) (at .layout .given .1) in
-    omega (arith, good-within good, good-forward good)
+    omega (arith, good-within good, good-forward good, onward .past-line-end .ensures .start)
 
 loop-again : tie.Need-loop-again Inv-loop μ-loop
 loop-again c =
-    let settled = c .before .before .before .before .before .before .before .before in
+    let onward = c .before in
+    let settled = passed (onward .before) in
     let said = judged settled in
     let at = laid said in
     let cut = at .before .before .next-segment in
     let good = cut-good (cut .result) (cut .ensures) (at .layout .given .1) in
+    let next = onward .past-line-end .ensures in
     record {
-      stands = settled-passed good (looped at .loop .inv .stands) (start (looped at) .pre .0) _ (said .judge .ensures) _ _ _ (settled .settle .ensures) _
-          (c .before .before .next .given .1);
-      ready = good .ready;
+      stands = rw (next .start) (settled-passed good (looped at .loop .inv .stands) (start (looped at) .pre .0) _ (said .judge .ensures) _ _ _ (settled .settle .ensures) _
+          (onward .before .before .before .next .given .1));
+      ready = next .ready _ _ (start (looped at) .pre .1 .1 .0) (good .ready);
       room = good .cut-as .laid .room;
     }
 
@@ -199,6 +209,7 @@ read-on-spec =
     same-length-8
     returns-4
     enum-known-next
-    add-at
+    add-past-line-end
+    past-line-end-requires
     loop-less
     loop-again)
