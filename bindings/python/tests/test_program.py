@@ -72,6 +72,13 @@ class Program(unittest.TestCase):
         self.gives(run("--", stdin=REPORT), 0, LISTING)
         self.gives(run(stdin=with_segment(4, "HL*2*1*F*0")), 1, REFUSED_AT_4)
 
+    def test_line_ends(self):
+        lines, used = REPORT.replace(b"~", b"~\r\n"), "842 segments 7 levels 2 bytes 90\n"
+        status, output, errors = run(stdin=lines)
+        self.assertEqual((status, output.decode()[: len(used)], errors), (0, used, b""))
+        self.assertIn(b"\n2 14 19 2\n", output)
+        self.gives(run(stdin=lines.replace(b"\n", b"\n\n")), 1, "refused 5 segment 2 byte 14 element 0\n")
+
     def test_one_file(self):
         self.gives(run(self.file("report", REPORT)), 0, LISTING)
         self.gives(run(self.file("report", with_segment(4, "HL*2*1*F*0"))), 1, REFUSED_AT_4)
