@@ -17,8 +17,8 @@
 ** A report is one transaction, from ST to SE. Its bytes are cut by three separators, which the caller gives: element,
 ** component and terminator; the standard ones are '*', ':' and '~'. Each must be a byte from 1 to 126 that is no letter,
 ** digit, space, '.' or '-', and the three must differ. A segment runs to the next terminator; its first piece is the tag, the
-** others are its elements 1, 2, .. Line ends are not skipped. Segments, elements, components, levels and rows are counted
-** from 1, bytes from 0.
+** others are its elements 1, 2, .. Between segments there may be line ends: see "How a report is read". Segments, elements,
+** components, levels and rows are counted from 1, bytes from 0.
 **
 ** A BIN, which carries an attachment, is ended by its count instead: BIN, the element separator, BIN01, the element separator,
 ** BIN02, the terminator. BIN01 is 1 to 15 digits that give the number of bytes of BIN02, 1 at least, and BIN02 is exactly that
@@ -39,6 +39,20 @@ extern "C" {
 #define STORMHLAW_LONGEST 1048576
 
 /*
+** How a report is read: `how` is the sum of the flags named here, and 0 is the default. Bits without a name are not looked at; 2 is
+** kept for a profile.
+**
+** By default line ends between segments are skipped: behind a terminator and before the next segment at most one CR (13) and then
+** at most one LF (10), each unless it is itself a separator. Nothing is skipped before the first segment or behind the SE, and what
+** is more than one line end belongs to the next segment. What is skipped belongs to no segment: starts in tables and answers come
+** behind it. It counts among the bytes that the transaction takes.
+**
+** With STORMHLAW_STRICT nothing is skipped. A line end belongs to the segment that it stands before: the answer is 5 there, with
+** element 0, unless it is 3. stormhlaw_rewrite reads so with this flag and without.
+*/
+#define STORMHLAW_STRICT 1
+
+/*
 ** The four numbers of an answer.
 **
 **   answer[STORMHLAW_NUMBER]    0 for acceptance, else one of the refusals below
@@ -47,13 +61,13 @@ extern "C" {
 **
 **   answer[STORMHLAW_SEGMENTS]  how many segments there are, ST and SE counted
 **   answer[STORMHLAW_LEVELS]    how many levels there are
-**   answer[STORMHLAW_BYTES]     how many bytes the transaction takes, with the terminator of its SE; what comes after it
-**                               was not looked at
+**   answer[STORMHLAW_BYTES]     how many bytes the transaction takes, with the line ends between its segments and the
+**                               terminator of its SE; what comes after it was not looked at
 **
 ** After a refusal:
 **
 **   answer[STORMHLAW_SEGMENT]   the segment that is refused
-**   answer[STORMHLAW_BYTE]      the byte where that segment starts
+**   answer[STORMHLAW_BYTE]      the byte where that segment starts, behind the line end that was skipped before it
 **   answer[STORMHLAW_ELEMENT]   the element that is meant; 0 for the tag or for no element in particular
 **
 ** Refusals 1, 2 and 19 point at no segment: segment and byte are 0.
@@ -72,13 +86,13 @@ extern "C" {
 #define STORMHLAW_SEPARATORS_UNFIT 1
 /* The input has more than STORMHLAW_LONGEST bytes. */
 #define STORMHLAW_INPUT_TOO_LONG 2
-/* No terminator from this byte on; the byte may be the input's length. Or the input ends inside the BIN that starts at this byte:
-** in its count or behind it, in BIN02, or where its terminator is due. */
+/* No terminator from this byte on; the byte comes behind a line end that was skipped, and may be the input's length. Or the input
+** ends inside the BIN that starts at this byte: in its count or behind it, in BIN02, or where its terminator is due. */
 #define STORMHLAW_NO_TERMINATOR 3
 /* The tag is none of the 34. */
 #define STORMHLAW_TAG_UNKNOWN 4
-/* A byte that is neither data (32 to 126) nor a separator, in the element named; 0 is the tag. A line end behind a terminator is
-** such a byte, in the tag of the next segment. BIN02 may hold any byte. */
+/* A byte that is neither data (32 to 126) nor a separator, in the element named; 0 is the tag. A line end that is not skipped is
+** such a byte; behind a terminator it stands in the tag of the next segment. BIN02 may hold any byte. */
 #define STORMHLAW_BYTE_UNFIT 5
 /* Element 0: the segment has no element. Else the element named is the last and empty, or its last component is empty. */
 #define STORMHLAW_EMPTY_AT_THE_END 6
@@ -115,7 +129,7 @@ extern "C" {
 /*
 ** The segment table holds three numbers a segment, one record behind the other:
 **
-**   segments[3 * k]      the byte where segment k + 1 starts
+**   segments[3 * k]      the byte where segment k + 1 starts, behind the line end that was skipped before it
 **   segments[3 * k + 1]  how many bytes it has, without its terminator
 **   segments[3 * k + 2]  its row in the table of 79, 1 to 79
 **
@@ -149,6 +163,7 @@ extern "C" {
 **
 **   input, input_length        the bytes
 **   element, component, terminator   the three separators
+**   how                        the sum of the flags, or 0
 **   segments, segments_length  the segment table; it has room for segments_length / 3 segments
 **   levels, levels_length      the level table; it has room for levels_length / 4 levels
 **   answer                     the four numbers of the answer, always written
@@ -159,21 +174,24 @@ extern "C" {
 **
 ** A refusal 4 to 16 is final: it stands whatever bytes follow that segment, up to STORMHLAW_LONGEST in all, and however much
 ** larger the tables are; that of a BIN whose count or end is broken, whatever follows the byte that breaks it. Acceptance stands
-** likewise.
+** likewise. This holds of readings with the same `how`.
 */
 void stormhlaw_read(
     const uint8_t *input, size_t input_length,
     uint8_t element, uint8_t component, uint8_t terminator,
+    uint64_t how,
     uint64_t *segments, size_t segments_length,
     uint64_t *levels, size_t levels_length,
     uint64_t answer[4]);
 
 /*
 ** Reads one transaction from the start of `input` and writes it to `output` with other separators: each separator of the
-** old set becomes that of the new set, and every data byte stays. The bytes of BIN02 stay too, whatever they are.
+** old set becomes that of the new set, and every data byte stays. The bytes of BIN02 stay too, whatever they are. The reading is
+** strict: a report with line ends between its segments is refused.
 **
 **   input, input_length        the bytes
 **   element, component, terminator   the separators of the input
+**   how                        as for stormhlaw_read, but STORMHLAW_STRICT is not looked at
 **   new_element, new_component, new_terminator   those of the output
 **   segments, segments_length  the segment table, as for stormhlaw_read
 **   levels, levels_length      the level table, as for stormhlaw_read
@@ -184,12 +202,13 @@ void stormhlaw_read(
 ** are), then 18 and 19. Acceptance writes exactly answer[STORMHLAW_BYTES] bytes of the output; on any refusal the output keeps
 ** its bytes. What lies beyond in the output keeps what it held.
 **
-** The tables are left as stormhlaw_read would leave them, also at 18 and 19, and are not touched at 1. With the old
+** The tables are left as a strict stormhlaw_read would leave them, also at 18 and 19, and are not touched at 1. With the old
 ** separators given again the output is the same bytes as the input.
 */
 void stormhlaw_rewrite(
     const uint8_t *input, size_t input_length,
     uint8_t element, uint8_t component, uint8_t terminator,
+    uint64_t how,
     uint8_t new_element, uint8_t new_component, uint8_t new_terminator,
     uint64_t *segments, size_t segments_length,
     uint64_t *levels, size_t levels_length,

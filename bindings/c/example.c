@@ -53,7 +53,8 @@ int main(int count, char **words)
         }
         fclose(file);
     }
-    stormhlaw_read(input, length, '*', ':', '~', segments, STORMHLAW_SEGMENT_NUMBERS * SEGMENTS, levels,
+    /* No flags: line ends between segments are skipped. */
+    stormhlaw_read(input, length, '*', ':', '~', 0, segments, STORMHLAW_SEGMENT_NUMBERS * SEGMENTS, levels,
                    STORMHLAW_LEVEL_NUMBERS * LEVELS, answer);
     if (answer[STORMHLAW_NUMBER] != STORMHLAW_ACCEPTED) {
         printf("refused %llu segment %llu byte %llu element %llu\n", (unsigned long long)answer[STORMHLAW_NUMBER],

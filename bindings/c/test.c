@@ -1,4 +1,5 @@
-/* The worked reports of document 01, the lookups and an attachment, through the header alone. Says what differs and ends with status 1. */
+/* The worked reports of document 01, the lookups, an attachment and line ends, through the header alone. Says what differs and ends with
+** status 1. */
 #include <stdio.h>
 #include <string.h>
 
@@ -11,6 +12,12 @@
 #define BEFORE "ST*842*0001~BNR*11*NR7*20240301~HL*1**RP*1~HL*2*1*I*0~NCD*1~EFI*00~"
 #define ATTACHED "~*:\0\xff|'\n"
 #define BEHIND "~NCA**R1~SE*9*0001~"
+
+/* W1 with these line ends behind its first six segments, and with one behind the first. */
+#define LINES(first, second, third, fourth, fifth, sixth)                                                                       \
+    "ST*842*0001~" first "BNR*11*NR7*20240301~" second "HL*1**RP*1~" third "HL*2*1*I*0~" fourth "NCD*1~" fifth "NCA**R1~" sixth \
+    "SE*7*0001~"
+#define LINE(end) LINES(end, "", "", "", "", "")
 
 /* The bytes of a quoted text, zero bytes among them too. */
 #define BYTES(text) (const uint8_t *)(text), sizeof(text) - 1
@@ -34,7 +41,7 @@ static void expect(const char *what, const uint64_t *found, const uint64_t *want
 static void expect_read(const char *report, size_t segment_numbers, const uint64_t wanted[4])
 {
     uint64_t segments[30] = {0}, levels[20] = {0}, answer[4];
-    stormhlaw_read((const uint8_t *)report, strlen(report), '*', ':', '~', segments, segment_numbers, levels, 20, answer);
+    stormhlaw_read((const uint8_t *)report, strlen(report), '*', ':', '~', 0, segments, segment_numbers, levels, 20, answer);
     expect(report, answer, wanted, 4);
 }
 
@@ -47,7 +54,7 @@ static void expect_tables(void)
         segments[k] = 9;
     for (size_t k = 0; k < 12; k++)
         levels[k] = 9;
-    stormhlaw_read((const uint8_t *)W1, strlen(W1), '*', ':', '~', segments, 24, levels, 12, answer);
+    stormhlaw_read((const uint8_t *)W1, strlen(W1), '*', ':', '~', 0, segments, 24, levels, 12, answer);
     expect("segments of W1", segments, wanted_segments, 24);
     expect("levels of W1", levels, wanted_levels, 12);
 }
@@ -58,8 +65,8 @@ static void expect_valid(const char *report, uint8_t element, uint8_t new_elemen
 {
     uint64_t segments[30] = {0}, levels[20] = {0}, answer[4], found[3];
     uint8_t output[80];
-    stormhlaw_rewrite((const uint8_t *)report, strlen(report), element, ':', '~', new_element, '^', '\'', segments, room, levels, 20,
-                      output, length, answer);
+    stormhlaw_rewrite((const uint8_t *)report, strlen(report), element, ':', '~', STORMHLAW_STRICT, new_element, '^', '\'', segments, room,
+                      levels, 20, output, length, answer);
     found[0] = answer[STORMHLAW_NUMBER];
     found[1] = stormhlaw_valid_segments(answer, segments);
     found[2] = stormhlaw_valid_levels(answer, segments);
@@ -115,7 +122,7 @@ static void expect_rewrite(const char *report, size_t length, const uint64_t wan
     char output[81];
     memset(output, '.', 80);
     output[80] = 0;
-    stormhlaw_rewrite((const uint8_t *)report, strlen(report), '*', ':', '~', '|', '^', '\'', segments, 30, levels, 20,
+    stormhlaw_rewrite((const uint8_t *)report, strlen(report), '*', ':', '~', STORMHLAW_STRICT, '|', '^', '\'', segments, 30, levels, 20,
                       (uint8_t *)output, length, answer);
     expect(report, answer, wanted, 4);
     if (strcmp(output, wanted_output) == 0) {
@@ -149,12 +156,18 @@ static void expect_bytes(const char *what, const uint8_t *found, const char *wan
     printf("%s: other bytes\n", what);
 }
 
-/* The answer for the bytes of a report. */
-static void expect_answer(const char *what, const uint8_t *report, size_t length, const uint64_t wanted[4])
+/* The answer for the bytes of a report that is read with these flags. */
+static void expect_how(const char *what, const uint8_t *report, size_t length, uint64_t how, const uint64_t wanted[4])
 {
     uint64_t segments[30], levels[20], answer[4];
-    stormhlaw_read(report, length, '*', ':', '~', segments, 30, levels, 20, answer);
+    stormhlaw_read(report, length, '*', ':', '~', how, segments, 30, levels, 20, answer);
     expect(what, answer, wanted, 4);
+}
+
+/* The answer for the bytes of a report that is read by default. */
+static void expect_answer(const char *what, const uint8_t *report, size_t length, const uint64_t wanted[4])
+{
+    expect_how(what, report, length, 0, wanted);
 }
 
 /* An element of the first so many bytes of the BIN. */
@@ -171,7 +184,7 @@ static void expect_attachment_found(void)
                                                  46, 60, 6,  54, 67, 14, 55, 82, 7,  64, 90, 9,  79};
     static const char report[] = BEFORE "BIN*8*" ATTACHED BEHIND;
     uint64_t segments[27] = {0}, levels[8] = {0}, answer[4], span[2];
-    stormhlaw_read(BYTES(report), '*', ':', '~', segments, 27, levels, 8, answer);
+    stormhlaw_read(BYTES(report), '*', ':', '~', 0, segments, 27, levels, 8, answer);
     expect("an attachment", answer, (const uint64_t[]){0, 9, 2, 100}, 4);
     expect("segments with an attachment", segments, wanted_segments, 27);
     stormhlaw_element((const uint8_t *)report + segments[18], (size_t)segments[19], '*', 2, span);
@@ -194,14 +207,14 @@ static void expect_attachment_rewritten(void)
         "ST|842|0001'BNR|11|NR7|20240301'HL|1||RP|1'HL|2|1|I|0'NCD|1'EFI|00'BIN|8|" ATTACHED "'NCA||R1'SE|9|0001'";
     uint64_t segments[27] = {0}, levels[8] = {0}, segments_again[27] = {0}, levels_again[8] = {0}, answer[4];
     uint8_t output[100] = {0}, again[100] = {0};
-    stormhlaw_rewrite(BYTES(report), '*', ':', '~', '|', '^', '\'', segments, 27, levels, 8, output, 100, answer);
+    stormhlaw_rewrite(BYTES(report), '*', ':', '~', STORMHLAW_STRICT, '|', '^', '\'', segments, 27, levels, 8, output, 100, answer);
     expect("an attachment rewritten", answer, (const uint64_t[]){0, 9, 2, 100}, 4);
     expect_bytes("an attachment rewritten", output, wanted, 100);
-    stormhlaw_read(output, 100, '|', '^', '\'', segments_again, 27, levels_again, 8, answer);
+    stormhlaw_read(output, 100, '|', '^', '\'', 0, segments_again, 27, levels_again, 8, answer);
     expect("an attachment read back", answer, (const uint64_t[]){0, 9, 2, 100}, 4);
     expect("segments of an attachment read back", segments_again, segments, 27);
     expect("levels of an attachment read back", levels_again, levels, 8);
-    stormhlaw_rewrite(output, 100, '|', '^', '\'', '*', ':', '~', segments, 27, levels, 8, again, 100, answer);
+    stormhlaw_rewrite(output, 100, '|', '^', '\'', STORMHLAW_STRICT, '*', ':', '~', segments, 27, levels, 8, again, 100, answer);
     expect_bytes("an attachment written back", again, report, 100);
 }
 
@@ -218,6 +231,49 @@ static void expect_attachment_refused(void)
     expect_answer("a count beyond the end", BYTES(BEFORE "BIN*999*" ATTACHED BEHIND), (const uint64_t[]){3, 7, 67, 0});
 }
 
+static void expect_lines_skipped(void)
+{
+    static const uint64_t wanted_segments[21] = {0, 11, 1, 14, 19, 2, 35, 10, 18, 47, 10, 18, 58, 5, 46, 66, 7, 64, 75, 9, 79};
+    static const uint64_t wanted_levels[8] = {3, 0, 1, 1, 4, 1, 2, 2};
+    static const char report[] = LINES("\r\n", "\n", "\r", "", "\r\n", "\n");
+    uint64_t segments[21] = {0}, levels[8] = {0}, answer[4];
+    stormhlaw_read(BYTES(report), '*', ':', '~', 0, segments, 21, levels, 8, answer);
+    expect("line ends of all kinds", answer, (const uint64_t[]){0, 7, 2, 85}, 4);
+    expect("segments with line ends", segments, wanted_segments, 21);
+    expect("levels with line ends", levels, wanted_levels, 8);
+    expect_answer("CR LF", BYTES(LINES("\r\n", "\r\n", "\r\n", "\r\n", "\r\n", "\r\n") "\r\n"), (const uint64_t[]){0, 7, 2, 90});
+    expect_answer("LF", BYTES(LINES("\n", "\n", "\n", "\n", "\n", "\n") "\n"), (const uint64_t[]){0, 7, 2, 84});
+    expect_how("bits without a name", BYTES(report), ~(uint64_t)3, (const uint64_t[]){0, 7, 2, 85});
+}
+
+static void expect_lines_refused(void)
+{
+    static const uint64_t second[4] = {5, 2, 12, 0};
+    expect_how("CR LF, strictly", BYTES(LINE("\r\n")), STORMHLAW_STRICT, second);
+    expect_how("LF, strictly", BYTES(LINE("\n")), STORMHLAW_STRICT, second);
+    expect_how("CR, strictly", BYTES(LINE("\r")), STORMHLAW_STRICT, second);
+    expect_how("strictly, with bits without a name", BYTES(LINE("\n")), ~(uint64_t)2, second);
+    expect_how("none, strictly", BYTES(W1), STORMHLAW_STRICT, (const uint64_t[]){0, 7, 2, 78});
+    expect_answer("LF CR", BYTES(LINE("\n\r")), (const uint64_t[]){5, 2, 13, 0});
+    expect_answer("an empty line", BYTES(LINES("", "", "", "", "", "\r\n\r\n")), (const uint64_t[]){5, 7, 70, 0});
+    expect_answer("a line end before the ST", BYTES("\n" W1), (const uint64_t[]){5, 1, 0, 0});
+    expect_answer("the end behind a line end", BYTES("ST*842*0001~\r\n"), (const uint64_t[]){3, 2, 14, 0});
+    expect_how("the end behind a line end, strictly", BYTES("ST*842*0001~\r\n"), STORMHLAW_STRICT, (const uint64_t[]){3, 2, 12, 0});
+}
+
+/* A rewriting is strict with the flag and without. */
+static void expect_lines_not_rewritten(void)
+{
+    static const char report[] = LINE("\r\n");
+    for (uint64_t how = 0; how <= STORMHLAW_STRICT; how++) {
+        uint64_t segments[30], levels[20], answer[4];
+        uint8_t output[80] = "kept";
+        stormhlaw_rewrite(BYTES(report), '*', ':', '~', how, '|', '^', '\'', segments, 30, levels, 20, output, 80, answer);
+        expect("line ends rewritten", answer, (const uint64_t[]){5, 2, 12, 0}, 4);
+        expect_bytes("line ends rewritten", output, "kept", 4);
+    }
+}
+
 int main(void)
 {
     expect_read(W1, 30, (const uint64_t[]){0, 7, 2, 78});
@@ -232,6 +288,9 @@ int main(void)
     expect_attachment_found();
     expect_attachment_rewritten();
     expect_attachment_refused();
+    expect_lines_skipped();
+    expect_lines_refused();
+    expect_lines_not_rewritten();
     printf("C: %d passed, %d failed\n", passed, failed);
     return failed != 0;
 }

@@ -50,7 +50,7 @@ def main() -> None:
     read = stormhlaw.read(data)
     small = report(100, 1)
     calls = {
-        "the library alone": lambda: library.stormhlaw_read(data, len(data), 42, 58, 126, *lent),
+        "the library alone": lambda: library.stormhlaw_read(data, len(data), 42, 58, 126, 0, *lent),
         "read bytes": lambda: stormhlaw.read(data),
         "read a view of bytes": lambda: stormhlaw.read(view),
         "read a bytearray": lambda: stormhlaw.read(writable),

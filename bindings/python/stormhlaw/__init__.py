@@ -15,6 +15,11 @@ levels, with their parents. A report that breaks a rule raises Refused, whose `r
 byte and the element. rewrite() gives the transaction with other separators as well. element() and component() look up
 the parts of a segment.
 
+Line ends between segments are skipped: a CR, an LF, or both in this order, behind each terminator. A segment's start
+comes behind them. STRICT asks for a reading that refuses them, and rewrite() always reads so.
+
+    stormhlaw.read(data, how=stormhlaw.STRICT)
+
 A BIN, row 55, carries an attachment: its element 1 is a count, and element 2 is exactly so many bytes of any kind.
 
     for segment in report:
@@ -30,6 +35,7 @@ the message names the argument. Any number of threads may call at once.
 from stormhlaw._library import LONGEST
 from stormhlaw._version import __version__
 from stormhlaw.answers import Reason, Refusal, Refused, Report
+from stormhlaw.how import STRICT, How, LineEnds
 from stormhlaw.lookup import component, element
 from stormhlaw.reading import read
 from stormhlaw.records import Code, Level, Levels, Segment, Segments
@@ -38,9 +44,12 @@ from stormhlaw.separators import Separators
 
 __all__ = [
     "LONGEST",
+    "STRICT",
     "Code",
+    "How",
     "Level",
     "Levels",
+    "LineEnds",
     "Reason",
     "Refusal",
     "Refused",

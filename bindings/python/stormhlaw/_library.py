@@ -10,6 +10,9 @@ from typing import Any, List
 LONGEST = 1_048_576
 """The most bytes an input may have."""
 
+STRICT_FLAG = 1
+"""The flag of a strict reading, in the sum that tells how a report is read."""
+
 NAME = "libstormhlaw.so"
 """The shared library's file."""
 
@@ -45,8 +48,9 @@ def _path() -> str:
 def _load(path: str) -> ctypes.CDLL:
     """The library with its functions declared. A call lets other threads run."""
     library = ctypes.CDLL(path)
-    library.stormhlaw_read.argtypes = [*_LENT, *3 * [_BYTE], *_LENT, *_LENT, _POINTER]
-    library.stormhlaw_rewrite.argtypes = [*_LENT, *6 * [_BYTE], *_LENT, *_LENT, *_LENT, _POINTER]
+    three = 3 * [_BYTE]
+    library.stormhlaw_read.argtypes = [*_LENT, *three, _NUMBER, *_LENT, *_LENT, _POINTER]
+    library.stormhlaw_rewrite.argtypes = [*_LENT, *three, _NUMBER, *three, *_LENT, *_LENT, *_LENT, _POINTER]
     library.stormhlaw_element.argtypes = [*_LENT, _BYTE, _NUMBER, _POINTER]
     library.stormhlaw_component.argtypes = [*_LENT, _BYTE, _NUMBER, _POINTER]
     for function in ("read", "rewrite", "element", "component"):

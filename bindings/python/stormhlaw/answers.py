@@ -20,7 +20,8 @@ class Reason(IntEnum):
     NO_TERMINATOR = 3
     # The tag is none of the 34.
     TAG_UNKNOWN = 4
-    # A byte that is neither data nor a separator, in the element named; 0 is the tag. BIN02 may hold any byte.
+    # A byte that is neither data nor a separator, in the element named; 0 is the tag. A line end that is not skipped is
+    # such a byte. BIN02 may hold any byte.
     BYTE_UNFIT = 5
     # No element, or the last one is empty, or an element's last component is.
     EMPTY_AT_THE_END = 6
@@ -60,7 +61,8 @@ class Report:
     segments: Segments
     levels: Levels
     bytes: int
-    """How many bytes the transaction takes, with the terminator of its SE; what comes after was not looked at."""
+    """How many bytes the transaction takes, with the line ends between its segments and the terminator of its SE; what
+    comes after was not looked at."""
 
     @property
     def segment_table(self) -> memoryview:
@@ -84,7 +86,7 @@ class Refusal:
     segment: int
     """The segment that breaks it, from 1; 0 where no segment is meant (reasons 1, 2 and 19)."""
     byte: int
-    """The byte where that segment starts, from 0."""
+    """The byte where that segment starts, from 0, behind the line end that was skipped before it."""
     element: int
     """The element that is meant; 0 for the tag or for no element in particular."""
     segments: Segments

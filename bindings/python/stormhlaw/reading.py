@@ -8,12 +8,14 @@ from stormhlaw._lending import Data, lend
 from stormhlaw._library import Answer, library
 from stormhlaw._tables import TOO_LONG, Tables
 from stormhlaw.answers import Report
+from stormhlaw.how import DEFAULT, How, flags_of
 from stormhlaw.separators import STANDARD, Separators, numbers_of
 
 
 def read(
     data: Data,
     separators: Separators = STANDARD,
+    how: How = DEFAULT,
     segment_room: Optional[int] = None,
     level_room: Optional[int] = None,
 ) -> Report:
@@ -22,6 +24,8 @@ def read(
     `data` is bytes, or a bytearray or memoryview, whose bytes are taken as they lie, whatever its format. Bytes, and
     a memoryview of bytes without gaps, are read where they are, and other threads run meanwhile; what can be written
     to is copied first.
+
+    Line ends between segments are skipped; with `how=STRICT` they are refused.
 
     `segment_room` and `level_room` are how many records there is room for; a report with more is refused with
     Reason.NO_ROOM. Without `segment_room` there is always enough. Without `level_room` there is room for 4,096 levels,
@@ -33,7 +37,7 @@ def read(
     The room bounds it.
     """
     start, size, _owner = lend("data", data, TOO_LONG)
-    three = numbers_of("separators", separators)
+    three, flags = numbers_of("separators", separators), flags_of("how", how)
     tables, answer = Tables(size, segment_room, level_room), Answer()
-    library.stormhlaw_read(start, size, *three, *tables.lent(), answer)
+    library.stormhlaw_read(start, size, *three, flags, *tables.lent(), answer)
     return tables.told(answer[:])

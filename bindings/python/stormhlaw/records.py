@@ -42,7 +42,7 @@ class Segment(NamedTuple):
     """Where a segment stands, and which it is."""
 
     start: int
-    """The byte where it starts, from 0."""
+    """The byte where it starts, from 0, behind the line end that was skipped before it."""
     length: int
     """How many bytes it has, without its terminator."""
     row: int

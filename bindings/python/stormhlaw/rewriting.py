@@ -9,6 +9,7 @@ from stormhlaw._lending import Data, lend, unwritten
 from stormhlaw._library import LONGEST, Answer, library
 from stormhlaw._tables import TOO_LONG, Tables
 from stormhlaw.answers import Report
+from stormhlaw.how import STRICT, How, flags_of
 from stormhlaw.separators import STANDARD, Separators, numbers_of
 
 
@@ -16,6 +17,7 @@ def rewrite(
     data: Data,
     new: Separators,
     separators: Separators = STANDARD,
+    how: How = STRICT,
     length: Optional[int] = None,
     segment_room: Optional[int] = None,
     level_room: Optional[int] = None,
@@ -26,12 +28,15 @@ def rewrite(
     new separator is refused with Reason.DATA_EQUALS_SEPARATOR. The bytes of BIN02 stay too, whatever they are. `length`
     is how many bytes the output may have; a transaction that takes more is refused with Reason.OUTPUT_TOO_SHORT.
     Without it there is always enough. The other arguments are those of read().
+
+    The reading is strict, whatever `how` says of line ends: a report that has them between its segments is refused with
+    Reason.BYTE_UNFIT.
     """
     start, size, _owner = lend("data", data, TOO_LONG)
-    six = numbers_of("separators", separators) + numbers_of("new", new)
+    three, flags, new_three = numbers_of("separators", separators), flags_of("how", how), numbers_of("new", new)
     # A transaction takes no more bytes than the input has, and an input no more than the longest.
     room = count("length", length, min(size, LONGEST))
     tables, answer, output = Tables(size, segment_room, level_room), Answer(), unwritten(room)
-    library.stormhlaw_rewrite(start, size, *six, *tables.lent(), output, room, answer)
+    library.stormhlaw_rewrite(start, size, *three, flags, *new_three, *tables.lent(), output, room, answer)
     report = tables.told(answer[:])
     return report, output[: report.bytes]

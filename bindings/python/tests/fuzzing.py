@@ -18,7 +18,7 @@ from typing import Any, NamedTuple
 from unittest.mock import Mock
 
 import stormhlaw
-from stormhlaw import Refused, Separators, component, element, read, rewrite
+from stormhlaw import How, LineEnds, Refused, Separators, component, element, read, rewrite
 from stormhlaw._library import library
 from tests.reports import ATTACHED, W1, WITH_BIN, joined, with_items, with_segment
 
@@ -80,6 +80,10 @@ class LyingSeparators(Separators):
         return (1 << 70, None, "~")
 
 
+class LyingHow(How):
+    __class__ = int
+
+
 class Seven(IntEnum):
     SEVEN = 7
 
@@ -96,9 +100,10 @@ class Odd(metaclass=Nameless):
 
 OBJECTS = (
     None, True, False, 1.5, float("nan"), float("inf"), 2j, Decimal(7), Fraction(7), "", "ST*842*0001~", "*", chr(298),
-    "\udcff", [], [42], (), (b"*", b":", b"~"), {}, {b"*"}, range(7), object(), bytes, Separators, Liar(), Odd(),
-    Mock(spec=bytes), Mock(spec=Separators), Mock(spec=int), array.array("B", b"ST*842"), (ctypes.c_char * 6)(),
-    mmap.mmap(-1, 16), ctypes.c_void_p(8), lambda: b"", NotImplemented,
+    "\udcff", [], [42], (), (b"*", b":", b"~"), {}, {b"*"}, range(7), object(), bytes, Separators, How, LineEnds,
+    Liar(), Odd(), Mock(spec=bytes), Mock(spec=Separators), Mock(spec=How), Mock(spec=int),
+    array.array("B", b"ST*842"), (ctypes.c_char * 6)(), mmap.mmap(-1, 16), ctypes.c_void_p(8), lambda: b"",
+    NotImplemented,
 )  # fmt: skip
 
 NUMBERS = (0, 1, 2, 3, 5, 6, 7, 8, 16, 77, 78, 79, 255, 4096, 2**16, 2**20, 2**31 - 1, 2**31)
@@ -108,7 +113,8 @@ HUGE = (-1, -2, -(2**31), -(2**63), 2**64, 2**64 + 7, 2**65, 10**30, 10**5000, -
 REPORTS = [
     joined(W1), joined(W1) + b"\r\nGE*1*1~", 2 * joined(W1), joined(W1[:4]), with_segment(4, "HL*2*1*F*0"),
     with_segment(2, "BNR*11*N|7*20240301"), with_items(3), with_items(40), b"", WITH_BIN, b"BIN*8*" + ATTACHED,
-    b"BIN|08|" + ATTACHED,
+    b"BIN|08|" + ATTACHED, joined(W1).replace(b"~", b"~\r\n"), WITH_BIN.replace(b"~", b"~\n", 5),
+    with_items(3).replace(b"~", b"~\r"), joined(W1).replace(b"~", b"~\r\n\r\n", 3),
 ]  # fmt: skip
 LARGE_REPORTS = [with_items(1500), *(joined(W1).ljust(stormhlaw.LONGEST + more, b"~") for more in (0, 1))]
 
@@ -148,7 +154,7 @@ def any_bytes(chance):
         return bytes(chance.choices(b"ST*842:~|HL1\x00\xff ", k=chance.randrange(60)))
     data = bytearray(chance.choice(REPORTS))
     for _ in range(chance.choice((0, 0, 1, 3)) if data else 0):
-        data[chance.randrange(len(data))] = chance.choice(b"*:~|A0 \x00\xff")
+        data[chance.randrange(len(data))] = chance.choice(b"*:~|A0 \r\n\x00\xff")
     return bytes(data)
 
 
@@ -248,15 +254,46 @@ def any_separators(chance):
     return Given(separators, tuple(field.plain for field in fields) if fit else UNFIT)
 
 
+def any_line_ends(chance):
+    """What may become of line ends, or something else."""
+    kind = chance.random()
+    if kind < 0.8:
+        value = chance.choice(list(LineEnds))
+        return Given(value, value)
+    if kind < 0.9:
+        return Given(chance.choice((0, 1, 2, "strict", "STRICT", How())), UNFIT)
+    return any_object(chance)
+
+
+def any_how(chance):
+    """A choice of how to read, made as it should be or written to afterwards; plainly, what becomes of line ends."""
+    kind = chance.random()
+    if kind < 0.05:
+        return any_object(chance)
+    if kind < 0.1:
+        return Given(chance.choice((*LineEnds, Separators(), *NUMBERS, *HUGE)), UNFIT)
+    if kind < 0.7:
+        value = chance.choice(list(LineEnds))
+        return Given(How(value), value)
+    line_ends = any_line_ends(chance)
+    how = chance.choice((How, LyingHow))()
+    object.__setattr__(how, "line_ends", line_ends.value)
+    return Given(how, line_ends.plain)
+
+
 FUNCTIONS = {
-    read: {"data": any_data, "separators": any_separators, "segment_room": any_count, "level_room": any_count},
+    read: {
+        "data": any_data, "separators": any_separators, "how": any_how, "segment_room": any_count,
+        "level_room": any_count,
+    },
     rewrite: {
-        "data": any_data, "new": any_separators, "separators": any_separators, "length": any_count,
+        "data": any_data, "new": any_separators, "separators": any_separators, "how": any_how, "length": any_count,
         "segment_room": any_count, "level_room": any_count,
     },
     element: {"segment": any_data, "number": any_place, "separator": any_byte},
     component: {"element_bytes": any_data, "number": any_place, "separator": any_byte},
     Separators: {"element": any_byte, "component": any_byte, "terminator": any_byte},
+    How: {"line_ends": any_line_ends},
 }  # fmt: skip
 
 
@@ -266,21 +303,21 @@ def table(room, width):
     return (ctypes.c_uint64 * (width * room + 1))(), width * room
 
 
-def expected_reading(data, separators=(b"*", b":", b"~"), segment_room=None, level_room=None, **rewriting):
+def expected_reading(data, separators, how, segment_room, level_room, **rewriting):
     """The answer of the library, its tables and its output."""
     enough = len(data) // 5
     segments = table(enough if segment_room is None else segment_room, 3)
     levels = table(min(enough, 4096) if level_room is None else level_room, 4)
     answer = (ctypes.c_uint64 * 4)()
-    old = [separator[0] for separator in separators]
+    old, flags = [separator[0] for separator in separators], int(how is LineEnds.STRICT)
     if not rewriting:
-        library.stormhlaw_read(data, len(data), *old, *segments, *levels, answer)
+        library.stormhlaw_read(data, len(data), *old, flags, *segments, *levels, answer)
         return list(answer), segments[0], levels[0], None
     new = [separator[0] for separator in rewriting["new"]]
     length = rewriting["length"]
     room = len(data) if length is None else min(length, 2 * stormhlaw.LONGEST)
     output = ctypes.create_string_buffer(room + 1)
-    library.stormhlaw_rewrite(data, len(data), *old, *new, *segments, *levels, output, room, answer)
+    library.stormhlaw_rewrite(data, len(data), *old, flags, *new, *segments, *levels, output, room, answer)
     return list(answer), segments[0], levels[0], output.raw
 
 
@@ -331,6 +368,8 @@ def check_answer(function, plain, call):
         assert call() == part_of(plain["element_bytes"].split(plain["separator"]), 1, plain["number"])
     elif function is Separators:
         assert call().numbers() == tuple(value[0] for value in plain.values())
+    elif function is How:
+        assert call().line_ends is plain["line_ends"]
     else:
         check_reading(function, expected_reading(**plain), call)
 
@@ -352,9 +391,9 @@ def check_raises(names, call):
     except (TypeError, ValueError) as error:
         assert type(error) in (TypeError, ValueError), type(error)
         assert error.__cause__ is None
-        found = re.fullmatch(r"(\w+)(\.(element|component|terminator))?: .+ wanted.*, not .+", str(error))
+        found = re.fullmatch(r"(\w+)(\.(element|component|terminator|line_ends))?: .+ wanted.*, not .+", str(error))
         assert found, str(error)
-        assert found[1] in names or (found[1] == "separators" and found[3] in names), (str(error), names)
+        assert found[1] in names or (found[1] in ("separators", "how") and found[3] in names), (str(error), names)
         return
     raise AssertionError(f"nothing was raised, but these do not fit: {names}")
 

@@ -4,7 +4,7 @@ import unittest
 from enum import IntEnum
 from unittest.mock import Mock
 
-from stormhlaw import Separators, component, element, read, rewrite
+from stormhlaw import STRICT, How, LineEnds, Separators, component, element, read, rewrite
 from tests.reports import W1, joined
 
 REPORT = joined(W1)
@@ -37,6 +37,13 @@ def tampered(value):
     separators = Separators()
     object.__setattr__(separators, "component", value)
     return separators
+
+
+def written_to(value):
+    """A choice that was written to behind its back."""
+    how = How()
+    object.__setattr__(how, "line_ends", value)
+    return how
 
 
 class Arguments(unittest.TestCase):
@@ -83,6 +90,29 @@ class Arguments(unittest.TestCase):
         message = "separators.component: one byte wanted, not 2 bytes"
         self.refused(ValueError, message, rewrite, REPORT, NEW, tampered(b"::"))
         self.refused(TypeError, "new.component: bytes wanted, not None", rewrite, REPORT, tampered(None))
+
+    def test_how(self):
+        kinds = (
+            (None, "None"), (0, "int"), (1, "int"), (7, "int"), (True, "bool"), ("strict", "str"),
+            (LineEnds.STRICT, "LineEnds"), (Separators(), "Separators"), (How, "type"), (Mock(spec=How), "Mock"),
+        )  # fmt: skip
+        for value, kind in kinds:
+            message = f"how: How wanted, not {kind}"
+            self.refused(TypeError, message, read, REPORT, Separators(), value)
+            self.refused(TypeError, message, read, REPORT, how=value)
+            self.refused(TypeError, message, rewrite, REPORT, NEW, Separators(), value)
+            self.refused(TypeError, message, rewrite, REPORT, NEW, how=value)
+
+    def test_line_ends(self):
+        kinds = (
+            (None, "None"), (0, "int"), (1, "int"), (True, "bool"), ("strict", "str"), (STRICT, "How"),
+            (Mock(spec=LineEnds.STRICT), "Mock"),
+        )  # fmt: skip
+        for value, kind in kinds:
+            message = f"how.line_ends: LineEnds wanted, not {kind}"
+            self.refused(TypeError, message, How, value)
+            self.refused(TypeError, message, read, REPORT, how=written_to(value))
+            self.refused(TypeError, message, rewrite, REPORT, NEW, how=written_to(value))
 
     def test_separator(self):
         for call in (element, component):

@@ -10,6 +10,8 @@ from pathlib import Path
 from tests.reports import HERE, W1, joined, with_items, with_segment
 
 REPORT = joined(W1)
+# W1 with CR LF behind each segment.
+LINES = HERE.parent.parent / "examples" / "lines.edi"
 # As the README says: the counts, then a line for each segment of W1, then one for each level.
 LISTING = """\
 842 segments 7 levels 2 bytes 78
@@ -71,6 +73,15 @@ class Program(unittest.TestCase):
         self.gives(run("-", stdin=REPORT), 0, LISTING)
         self.gives(run("--", stdin=REPORT), 0, LISTING)
         self.gives(run(stdin=with_segment(4, "HL*2*1*F*0")), 1, REFUSED_AT_4)
+
+    def test_line_ends(self):
+        lines = REPORT.replace(b"~", b"~\r\n")
+        self.assertEqual(LINES.read_bytes(), lines)
+        for status, output, errors in (run(str(LINES)), run(stdin=lines)):
+            self.assertEqual((status, errors), (0, b""))
+            begins = "842 segments 7 levels 2 bytes 90\n1 0 11 1\n2 14 19 2\n"
+            self.assertEqual(output.decode()[: len(begins)], begins)
+        self.gives(run(stdin=lines.replace(b"\n", b"\n\n")), 1, "refused 5 segment 2 byte 14 element 0\n")
 
     def test_one_file(self):
         self.gives(run(self.file("report", REPORT)), 0, LISTING)

@@ -6,7 +6,7 @@
 
 use std::borrow::Cow;
 use std::process::ExitCode;
-use stormhlaw::{element, Level, Segment, Separators, Tables};
+use stormhlaw::{element, How, Level, Segment, Separators, Tables};
 
 fn main() -> ExitCode {
     let path = match std::env::args_os().nth(1) {
@@ -28,7 +28,7 @@ fn main() -> ExitCode {
 /// A line for each level: its HL01, what it is, its depth and its parent; or the refusal.
 fn list(report: &[u8]) -> ExitCode {
     let mut tables = Tables::for_input(report);
-    if let Err(refusal) = tables.read(report, Separators::STANDARD) {
+    if let Err(refusal) = tables.read(report, Separators::STANDARD, How::new()) {
         println!("{refusal}: {:?}", refusal.reason);
         return ExitCode::FAILURE;
     }

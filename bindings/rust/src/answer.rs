@@ -12,7 +12,7 @@ pub struct Accepted {
     pub segments: usize,
     /// How many levels there are.
     pub levels: usize,
-    /// How many bytes the transaction takes, with the terminator of its SE.
+    /// How many bytes the transaction takes, with the terminator of its SE and the line ends between its segments.
     pub bytes: usize,
 }
 
@@ -23,7 +23,7 @@ pub struct Refusal {
     pub reason: Reason,
     /// The number of the segment that breaks it, from 1; 0 where no segment is meant.
     pub segment: usize,
-    /// The byte where that segment starts.
+    /// The byte where that segment starts, behind the line end that was skipped before it.
     pub byte: usize,
     /// The number of the element; 0 is the tag, or no element in particular.
     pub element: usize,
@@ -41,7 +41,7 @@ pub enum Reason {
     NoTerminator = 3,
     /// The tag is none of the 34.
     TagUnknown = 4,
-    /// A byte that is neither data nor a separator. BIN02 may hold any byte.
+    /// A byte that is neither data nor a separator, such as a line end that is not skipped. BIN02 may hold any byte.
     ByteUnfit = 5,
     /// No element, or an empty last element, or an element that ends with an empty component.
     EmptyAtTheEnd = 6,

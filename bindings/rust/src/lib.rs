@@ -3,11 +3,11 @@
 //! A report is one transaction, ST to SE. [`Tables`] own room for the records of its segments and levels:
 //!
 //! ```
-//! use stormhlaw::{element, Code, Separators, Tables};
+//! use stormhlaw::{element, Code, How, Separators, Tables};
 //!
 //! let report = b"ST*842*0001~BNR*11*NR7*20240301~HL*1**RP*1~HL*2*1*I*0~NCD*1~NCA**R1~SE*7*0001~";
 //! let mut tables = Tables::for_input(report);
-//! tables.read(report, Separators::STANDARD)?;
+//! tables.read(report, Separators::STANDARD, How::new())?;
 //!
 //! let item = tables.levels()[1];
 //! assert_eq!((item.code(), item.parent, item.depth), (Some(Code::Item), 1, 2));
@@ -19,10 +19,10 @@
 //! A refusal names the rule, the segment, the byte and the element:
 //!
 //! ```
-//! use stormhlaw::{Reason, Separators, Tables};
+//! use stormhlaw::{How, Reason, Separators, Tables};
 //!
 //! let report = b"ST*842*0001~BNR*11*NR7*20240301~HL*1**RP*1~HL*2*1*F*0~";
-//! let refusal = Tables::for_input(report).read(report, Separators::STANDARD).unwrap_err();
+//! let refusal = Tables::for_input(report).read(report, Separators::STANDARD, How::new()).unwrap_err();
 //! assert_eq!(refusal.reason, Reason::LevelNotPermitted);
 //! assert_eq!(refusal.to_string(), "refused 14 segment 4 byte 43 element 2");
 //! ```
@@ -30,16 +30,18 @@
 //! A BIN carries an attachment. Its element 1 is a count, and element 2 is exactly so many bytes of any kind:
 //!
 //! ```
-//! # use stormhlaw::{element, Separators, Tables};
+//! # use stormhlaw::{element, How, Separators, Tables};
 //! let report = b"ST*842*0001~BNR*11*NR7*20240301~HL*1**I~NCD*1~EFI*00~BIN*5*\0*~\n\xff~SE*7*0001~";
 //! let mut tables = Tables::for_input(report);
-//! tables.read(report, Separators::STANDARD)?;
+//! tables.read(report, Separators::STANDARD, How::new())?;
 //!
 //! let bin = tables.segments().iter().find(|segment| segment.row == 55);
 //! let attached = bin.and_then(|bin| bin.bytes(report)).map(|bin| element(bin, b'*', 2));
 //! assert_eq!(attached, Some(&b"\0*~\n\xff"[..]));
 //! # Ok::<(), stormhlaw::Refusal>(())
 //! ```
+//!
+//! Line ends between segments are skipped, or refused where [`How`] asks for a strict reading. A rewriting is always strict.
 //!
 //! [`read`] and [`rewrite`] do the same in records that the caller lends, and allocate nothing. [`element`] and
 //! [`component`] look up parts of a segment. Nothing is kept between calls, no input makes a function panic, and every
@@ -49,6 +51,7 @@
 #![warn(missing_docs)]
 
 mod answer;
+mod how;
 mod lookup;
 pub mod raw;
 mod reading;
@@ -59,6 +62,7 @@ mod tables;
 mod valid;
 
 pub use answer::{Accepted, Reason, Refusal};
+pub use how::{How, LineEnds};
 pub use lookup::{component, component_span, element, element_span};
 pub use reading::{read, LONGEST};
 pub use records::{Code, Level, Segment};

@@ -18,6 +18,7 @@ extern "C" {
         element: u8,
         component: u8,
         terminator: u8,
+        how: u64,
         segments: *mut u64,
         segments_length: usize,
         levels: *mut u64,
@@ -31,6 +32,7 @@ extern "C" {
         element: u8,
         component: u8,
         terminator: u8,
+        how: u64,
         new_element: u8,
         new_component: u8,
         new_terminator: u8,
@@ -63,8 +65,17 @@ extern "C" {
 /// What an answer and a span hold before the call. The library always writes them; a zero would read as an acceptance.
 const UNWRITTEN: u64 = u64::MAX;
 
+/// The flag of a strict reading, in the sum `how`. Bits of the sum without a name are not looked at.
+pub const STRICT: u64 = 1;
+
 /// Reads one transaction: fills both tables and gives the four numbers of the answer.
-pub fn read(input: &[u8], separators: Separators, segments: &mut [u64], levels: &mut [u64]) -> [u64; 4] {
+pub fn read(
+    input: &[u8],
+    separators: Separators,
+    how: u64,
+    segments: &mut [u64],
+    levels: &mut [u64],
+) -> [u64; 4] {
     let mut answer = [UNWRITTEN; 4];
     // SAFETY: every pointer and length is of a slice or an array that lives until the call returns, and those that are
     // written are borrowed for it alone.
@@ -75,6 +86,7 @@ pub fn read(input: &[u8], separators: Separators, segments: &mut [u64], levels: 
             separators.element,
             separators.component,
             separators.terminator,
+            how,
             segments.as_mut_ptr(),
             segments.len(),
             levels.as_mut_ptr(),
@@ -85,11 +97,12 @@ pub fn read(input: &[u8], separators: Separators, segments: &mut [u64], levels: 
     answer
 }
 
-/// Reads one transaction and writes it with other separators: fills both tables and the output and gives the four
-/// numbers of the answer.
+/// Reads one transaction strictly, with or without that flag, and writes it with other separators: fills both tables and
+/// the output and gives the four numbers of the answer.
 pub fn rewrite(
     input: &[u8],
     separators: Separators,
+    how: u64,
     new: Separators,
     segments: &mut [u64],
     levels: &mut [u64],
@@ -104,6 +117,7 @@ pub fn rewrite(
             separators.element,
             separators.component,
             separators.terminator,
+            how,
             new.element,
             new.component,
             new.terminator,

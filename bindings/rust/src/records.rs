@@ -6,7 +6,7 @@
 #[repr(C)]
 #[derive(Clone, Copy, Debug, Default, PartialEq, Eq, Hash)]
 pub struct Segment {
-    /// The byte where it starts.
+    /// The byte where it starts, behind the line end that was skipped before it.
     pub start: u64,
     /// How many bytes it has, without its terminator.
     pub length: u64,

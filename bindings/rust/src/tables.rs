@@ -3,6 +3,7 @@
 #![forbid(unsafe_code)]
 
 use crate::answer::{Accepted, Refusal};
+use crate::how::How;
 use crate::reading::{read, LONGEST};
 use crate::records::{Level, Segment};
 use crate::rewriting::rewrite;
@@ -51,8 +52,8 @@ impl Tables {
     }
 
     /// Reads one transaction from the start of the input, as [`read`] does.
-    pub fn read(&mut self, input: &[u8], separators: Separators) -> Result<Accepted, Refusal> {
-        let answer = read(input, separators, &mut self.segments, &mut self.levels);
+    pub fn read(&mut self, input: &[u8], separators: Separators, how: How) -> Result<Accepted, Refusal> {
+        let answer = read(input, separators, how, &mut self.segments, &mut self.levels);
         self.note(answer)
     }
 
@@ -61,10 +62,11 @@ impl Tables {
         &mut self,
         input: &[u8],
         separators: Separators,
+        how: How,
         new: Separators,
         output: &mut [u8],
     ) -> Result<Accepted, Refusal> {
-        let answer = rewrite(input, separators, new, &mut self.segments, &mut self.levels, output);
+        let answer = rewrite(input, separators, how, new, &mut self.segments, &mut self.levels, output);
         self.note(answer)
     }
 

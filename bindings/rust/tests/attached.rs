@@ -1,6 +1,6 @@
 //! An attachment: BIN02 is ended by its count, may hold any byte, is handed back whole, and is copied by a rewriting.
 
-use stormhlaw::{element, element_span, Accepted, Reason, Refusal, Separators, Tables};
+use stormhlaw::{element, element_span, Accepted, How, Reason, Refusal, Separators, Tables};
 
 /// W1 with an EFI and a BIN behind its NCD: what stands before the BIN, 67 bytes and six segments, the eight bytes of its
 /// BIN02, and what follows them. Separators of both sets, 0, 255 and a line end are among the eight.
@@ -38,7 +38,7 @@ fn segments(tables: &Tables) -> Vec<(u64, u64, u64)> {
 fn an_attachment_is_handed_back_whole() {
     let report = report();
     let mut tables = Tables::for_input(&report);
-    assert_eq!(tables.read(&report, STANDARD), Ok(ACCEPTED));
+    assert_eq!(tables.read(&report, STANDARD, How::new()), Ok(ACCEPTED));
     assert_eq!(segments(&tables), SEGMENTS);
     let bin = tables.segments()[6].bytes(&report).unwrap();
     let found: Vec<&[u8]> = (0..4).map(|number| element(bin, b'*', number)).collect();
@@ -61,21 +61,21 @@ fn lookup_takes_a_count_that_ends_with_the_segment() {
 fn rewriting_copies_it() {
     let report = report();
     let (mut tables, mut output) = (Tables::for_input(&report), [b'.'; 102]);
-    assert_eq!(tables.rewrite(&report, STANDARD, NEW, &mut output), Ok(ACCEPTED));
+    assert_eq!(tables.rewrite(&report, STANDARD, How::strict(), NEW, &mut output), Ok(ACCEPTED));
     let before = b"ST|842|0001'BNR|11|NR7|20240301'HL|1||RP|1'HL|2|1|I|0'NCD|1'EFI|00'BIN|8|";
     assert_eq!(&output[..], [&before[..], ATTACHED, b"'NCA||R1'SE|9|0001'.."].concat());
     let mut again = Tables::for_input(&output);
-    assert_eq!(again.read(&output, NEW), Ok(ACCEPTED));
+    assert_eq!(again.read(&output, NEW, How::new()), Ok(ACCEPTED));
     assert_eq!((again.segments(), again.levels()), (tables.segments(), tables.levels()));
     let mut back = [0; 100];
-    assert_eq!(again.rewrite(&output, NEW, STANDARD, &mut back), Ok(ACCEPTED));
+    assert_eq!(again.rewrite(&output, NEW, How::strict(), STANDARD, &mut back), Ok(ACCEPTED));
     assert_eq!(&back[..], report);
 }
 
 #[test]
 fn a_collision_behind_it_is_found() {
     let report = [BEFORE, b"BIN*8*", ATTACHED, b"~NCA***A|B~SE*9*0001~"].concat();
-    let answer = Tables::for_input(&report).rewrite(&report, STANDARD, NEW, &mut [0; 102]);
+    let answer = Tables::for_input(&report).rewrite(&report, STANDARD, How::strict(), NEW, &mut [0; 102]);
     assert_eq!(
         answer,
         Err(Refusal { reason: Reason::DataEqualsSeparator, segment: 8, byte: 82, element: 3 })
@@ -86,7 +86,7 @@ fn a_collision_behind_it_is_found() {
 fn refusal(bin: &[u8], behind: &[u8]) -> (Reason, usize) {
     let report = [BEFORE, bin, behind].concat();
     let mut tables = Tables::for_input(&report);
-    let refusal = tables.read(&report, STANDARD).unwrap_err();
+    let refusal = tables.read(&report, STANDARD, How::new()).unwrap_err();
     assert_eq!((refusal.segment, refusal.byte), (7, 67), "{refusal}");
     assert_eq!(segments(&tables), SEGMENTS[..6]);
     (refusal.reason, refusal.element)

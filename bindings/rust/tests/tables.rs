@@ -1,7 +1,7 @@
 //! Tables that own their records.
 
 use stormhlaw::{
-    element, Code, Level, Reason, Refusal, Segment, Separators, Tables, DEFAULT_LEVELS, LONGEST,
+    element, Code, How, Level, Reason, Refusal, Segment, Separators, Tables, DEFAULT_LEVELS, LONGEST,
 };
 
 const W1: &[u8] = b"ST*842*0001~BNR*11*NR7*20240301~HL*1**RP*1~HL*2*1*I*0~NCD*1~NCA**R1~SE*7*0001~";
@@ -42,7 +42,7 @@ fn short_segments(count: usize) -> Vec<u8> {
 fn an_accepted_report_gives_all_its_records() {
     let mut tables = Tables::for_input(W1);
     assert_eq!((tables.segments(), tables.levels()), (&[][..], &[][..]));
-    let accepted = tables.read(W1, STANDARD).unwrap();
+    let accepted = tables.read(W1, STANDARD, How::new()).unwrap();
     assert_eq!((accepted.segments, accepted.levels, accepted.bytes), (7, 2, 78));
     assert_eq!(texts(&tables, W1), W1_SEGMENTS);
     assert_eq!(names(&tables, W1), [b"1", b"2"]);
@@ -53,12 +53,12 @@ fn an_accepted_report_gives_all_its_records() {
 #[test]
 fn a_refused_report_gives_the_records_before_it() {
     let mut tables = Tables::for_input(W1);
-    tables.read(W1, STANDARD).unwrap();
-    let refusal = tables.read(&W1[..50], STANDARD).unwrap_err();
+    tables.read(W1, STANDARD, How::new()).unwrap();
+    let refusal = tables.read(&W1[..50], STANDARD, How::new()).unwrap_err();
     assert_eq!(refusal, Refusal { reason: Reason::NoTerminator, segment: 4, byte: 43, element: 0 });
     assert_eq!(texts(&tables, W1), W1_SEGMENTS[..3]);
     assert_eq!(names(&tables, W1), [b"1"]);
-    tables.read(W1, Separators { component: b'*', ..STANDARD }).unwrap_err();
+    tables.read(W1, Separators { component: b'*', ..STANDARD }, How::new()).unwrap_err();
     assert_eq!((tables.segments(), tables.levels()), (&[][..], &[][..]));
 }
 
@@ -66,10 +66,10 @@ fn a_refused_report_gives_the_records_before_it() {
 fn rewriting_gives_the_same_records_and_the_output() {
     let mut tables = Tables::for_input(W1);
     let mut output = [0; 78];
-    assert_eq!(tables.rewrite(W1, STANDARD, NEW, &mut output).unwrap().bytes, 78);
+    assert_eq!(tables.rewrite(W1, STANDARD, How::strict(), NEW, &mut output).unwrap().bytes, 78);
     assert_eq!(texts(&tables, &output)[3], "HL|2|1|I|0");
     assert_eq!(tables.levels().len(), 2);
-    let refusal = tables.rewrite(&output, NEW, STANDARD, &mut [0; 77]).unwrap_err();
+    let refusal = tables.rewrite(&output, NEW, How::strict(), STANDARD, &mut [0; 77]).unwrap_err();
     assert_eq!(refusal.reason, Reason::OutputTooShort);
     assert_eq!((tables.segments().len(), tables.levels().len()), (7, 2));
 }
@@ -78,7 +78,7 @@ fn rewriting_gives_the_same_records_and_the_output() {
 fn default_room_is_enough_for_every_segment() {
     let report = short_segments(200_000);
     let mut tables = Tables::for_input(&report);
-    assert_eq!(tables.read(&report, STANDARD).unwrap().segments, 200_005);
+    assert_eq!(tables.read(&report, STANDARD, How::new()).unwrap().segments, 200_005);
     assert_eq!(tables.segments().len(), 200_005);
 }
 
@@ -86,33 +86,33 @@ fn default_room_is_enough_for_every_segment() {
 fn default_room_is_for_so_many_levels_and_more_is_asked_for() {
     assert_eq!(DEFAULT_LEVELS, 4_096);
     let most = items(DEFAULT_LEVELS);
-    assert_eq!(Tables::for_input(&most).read(&most, STANDARD).unwrap().levels, DEFAULT_LEVELS);
+    assert_eq!(Tables::for_input(&most).read(&most, STANDARD, How::new()).unwrap().levels, DEFAULT_LEVELS);
     let more = items(DEFAULT_LEVELS + 1);
     let mut tables = Tables::for_input(&more);
-    let refusal = tables.read(&more, STANDARD).unwrap_err();
+    let refusal = tables.read(&more, STANDARD, How::new()).unwrap_err();
     assert_eq!((refusal.reason, refusal.segment), (Reason::NoRoom, DEFAULT_LEVELS + 3));
     assert_eq!(tables.levels().len(), DEFAULT_LEVELS);
     let mut tables = Tables::with_room(more.len() / 5, DEFAULT_LEVELS + 1);
-    assert_eq!(tables.read(&more, STANDARD).unwrap().levels, DEFAULT_LEVELS + 1);
+    assert_eq!(tables.read(&more, STANDARD, How::new()).unwrap().levels, DEFAULT_LEVELS + 1);
 }
 
 #[test]
 fn room_that_is_named_is_the_room() {
     for (segments, levels, refused) in [(0, 0, 1), (6, 2, 7), (7, 1, 4), (2, 2, 3)] {
-        let refusal = Tables::with_room(segments, levels).read(W1, STANDARD).unwrap_err();
+        let refusal = Tables::with_room(segments, levels).read(W1, STANDARD, How::new()).unwrap_err();
         assert_eq!((refusal.reason, refusal.segment), (Reason::NoRoom, refused));
     }
-    assert!(Tables::with_room(7, 2).read(W1, STANDARD).is_ok());
+    assert!(Tables::with_room(7, 2).read(W1, STANDARD, How::new()).is_ok());
 }
 
 #[test]
 fn no_length_and_no_room_is_too_much() {
     let mut tables = Tables::with_room(usize::MAX, usize::MAX);
-    assert!(tables.read(W1, STANDARD).is_ok());
+    assert!(tables.read(W1, STANDARD, How::new()).is_ok());
     let long = vec![b'~'; 3 * LONGEST];
-    let refusal = Tables::for_input(&long).read(&long, STANDARD).unwrap_err();
+    let refusal = Tables::for_input(&long).read(&long, STANDARD, How::new()).unwrap_err();
     assert_eq!(refusal.reason, Reason::InputTooLong);
-    let refusal = Tables::for_input(b"").read(b"", STANDARD).unwrap_err();
+    let refusal = Tables::for_input(b"").read(b"", STANDARD, How::new()).unwrap_err();
     assert_eq!(refusal.reason, Reason::NoTerminator);
 }
 

@@ -1,6 +1,6 @@
 //! How many records are valid after a refusal, beside how many the call wrote.
 
-use stormhlaw::{read, rewrite, Accepted, Level, Reason, Refusal, Segment, Separators, Valid, LONGEST};
+use stormhlaw::{read, rewrite, Accepted, How, Level, Reason, Refusal, Segment, Separators, Valid, LONGEST};
 
 const W1: [&str; 7] =
     ["ST*842*0001", "BNR*11*NR7*20240301", "HL*1**RP*1", "HL*2*1*I*0", "NCD*1", "NCA**R1", "SE*7*0001"];
@@ -19,6 +19,11 @@ fn with(number: usize, segment: &str) -> Vec<u8> {
 
 fn w1() -> Vec<u8> {
     with(1, W1[0])
+}
+
+/// What the bytes begin with, of every length.
+fn parts(bytes: &[u8]) -> impl Iterator<Item = &[u8]> {
+    (0..=bytes.len()).map(move |length| &bytes[..length])
 }
 
 /// Two lent tables of old records.
@@ -41,12 +46,12 @@ impl Lent {
     }
 
     fn read(&mut self, input: &[u8], separators: Separators) -> Result<Accepted, Refusal> {
-        read(input, separators, &mut self.segments, &mut self.levels)
+        read(input, separators, How::new(), &mut self.segments, &mut self.levels)
     }
 
     fn rewrite(&mut self, input: &[u8], new: Separators, length: usize) -> Result<Accepted, Refusal> {
-        let mut output = vec![0; length];
-        rewrite(input, Separators::STANDARD, new, &mut self.segments, &mut self.levels, &mut output)
+        let (old, how, mut output) = (Separators::STANDARD, How::strict(), vec![0; length]);
+        rewrite(input, old, how, new, &mut self.segments, &mut self.levels, &mut output)
     }
 
     /// Tests that the answer has that reason, and that so many records are valid and so many were written.
@@ -83,7 +88,7 @@ fn answers_3_to_16_leave_what_stands_before() {
     let answer = lent.read(&w1()[..77], Separators::STANDARD);
     lent.leaves(answer, Reason::NoTerminator, 6, 2);
     refused_there(Reason::TagUnknown, 5, "XXX*1", 2);
-    refused_there(Reason::ByteUnfit, 2, "\nBNR*11*NR7*20240301", 0);
+    refused_there(Reason::ByteUnfit, 2, "\tBNR*11*NR7*20240301", 0);
     refused_there(Reason::EmptyAtTheEnd, 5, "NCD*1*", 2);
     refused_there(Reason::NoRowFits, 5, "NCA**R1", 2);
     refused_there(Reason::ElementMissing, 4, "HL*2*1", 1);
@@ -119,14 +124,16 @@ fn answers_18_and_19_leave_all() {
 
 #[test]
 fn every_part_of_w1_with_every_room() {
-    for length in 0..=w1().len() {
+    let w1 = w1();
+    let lines = W1.map(|segment| format!("{segment}~\r\n")).concat().into_bytes();
+    for part in parts(&w1).chain(parts(&lines)) {
         for room in 0..9 * 4 {
             let mut lent = Lent::new(room / 4, room % 4);
-            let valid = match lent.read(&w1()[..length], Separators::STANDARD) {
+            let valid = match lent.read(part, Separators::STANDARD) {
                 Ok(accepted) => accepted.into(),
                 Err(refusal) => refusal.valid(&lent.segments),
             };
-            assert_eq!(valid, lent.written(), "{length} bytes, room {room}");
+            assert_eq!(valid, lent.written(), "{} bytes, room {room}", part.len());
         }
     }
 }

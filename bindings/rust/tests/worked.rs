@@ -1,6 +1,6 @@
 //! The worked reports W1 to W12 of document 01, and what the tables hold after each.
 
-use stormhlaw::{read, Accepted, Code, Level, Reason, Refusal, Segment, Separators, LONGEST};
+use stormhlaw::{read, Accepted, Code, How, Level, Reason, Refusal, Segment, Separators, LONGEST};
 
 const W1: [&str; 7] =
     ["ST*842*0001", "BNR*11*NR7*20240301", "HL*1**RP*1", "HL*2*1*I*0", "NCD*1", "NCA**R1", "SE*7*0001"];
@@ -31,7 +31,7 @@ fn with(number: usize, segment: &str) -> String {
 fn answer(report: &str, rooms: (usize, usize), kept: (usize, usize)) -> Result<Accepted, Refusal> {
     let mut segments = vec![OLD_SEGMENT; rooms.0];
     let mut levels = vec![OLD_LEVEL; rooms.1];
-    let answer = read(report.as_bytes(), Separators::STANDARD, &mut segments, &mut levels);
+    let answer = read(report.as_bytes(), Separators::STANDARD, How::new(), &mut segments, &mut levels);
     let found: Vec<_> = segments[..kept.0].iter().map(|s| (s.start, s.length, s.row)).collect();
     assert_eq!(found, SEGMENTS[..kept.0], "{report}");
     let found: Vec<_> =
@@ -81,7 +81,7 @@ fn w6_to_w10() {
 fn with_dtm(dtm: &str) -> Result<usize, Refusal> {
     let report = joined(&[W1[0], W1[1], dtm, W1[2], W1[3], W1[4], W1[5], "SE*8*0001"]);
     let (mut segments, mut levels) = ([OLD_SEGMENT; 10], [OLD_LEVEL; 5]);
-    read(report.as_bytes(), Separators::STANDARD, &mut segments, &mut levels)
+    read(report.as_bytes(), Separators::STANDARD, How::new(), &mut segments, &mut levels)
         .map(|accepted| accepted.segments)
 }
 
@@ -99,13 +99,16 @@ fn answers_1_and_2_point_at_no_segment() {
     let twice = Separators { component: b'*', ..Separators::STANDARD };
     let (mut segments, mut levels) = ([OLD_SEGMENT; 10], [OLD_LEVEL; 5]);
     let report = joined(&W1).into_bytes();
-    assert_eq!(read(&report, twice, &mut segments, &mut levels), refused(Reason::SeparatorsUnfit, 0, 0, 0));
+    assert_eq!(
+        read(&report, twice, How::new(), &mut segments, &mut levels),
+        refused(Reason::SeparatorsUnfit, 0, 0, 0)
+    );
     let mut long = report.clone();
     long.resize(LONGEST + 1, b'~');
-    let answer = read(&long, Separators::STANDARD, &mut segments, &mut levels);
+    let answer = read(&long, Separators::STANDARD, How::new(), &mut segments, &mut levels);
     assert_eq!(answer, refused(Reason::InputTooLong, 0, 0, 0));
     assert_eq!((segments, levels), ([OLD_SEGMENT; 10], [OLD_LEVEL; 5]));
-    let answer = read(&long[..LONGEST], Separators::STANDARD, &mut segments, &mut levels);
+    let answer = read(&long[..LONGEST], Separators::STANDARD, How::new(), &mut segments, &mut levels);
     assert_eq!(answer, Ok(Accepted { segments: 7, levels: 2, bytes: 78 }));
 }
 
@@ -122,7 +125,7 @@ fn a_refusal_reads_as_the_program_prints_it() {
 fn a_segment_gives_its_bytes() {
     let report = joined(&W1).into_bytes();
     let (mut segments, mut levels) = ([OLD_SEGMENT; 7], [OLD_LEVEL; 2]);
-    read(&report, Separators::STANDARD, &mut segments, &mut levels).unwrap();
+    read(&report, Separators::STANDARD, How::new(), &mut segments, &mut levels).unwrap();
     let found: Vec<_> = segments.iter().map(|segment| segment.bytes(&report).unwrap()).collect();
     assert_eq!(found, W1.map(str::as_bytes));
     assert_eq!(OLD_SEGMENT.bytes(&report), None);
