@@ -4,6 +4,7 @@ pub mod Laws
 pub mod Passing
 pub mod Numbers
 pub mod Once
+pub mod Moved
 pub mod RowOfSE
 pub mod LastSegment
 pub mod ElementTexts

@@ -19,6 +19,7 @@ pub mod Counting
 pub mod BinSpans
 pub mod DocumentCut
 pub mod LineEnds
+pub mod LineCases
 pub mod BinCut
 pub mod BinCutOnce
 pub mod BinCases

@@ -1,6 +1,6 @@
 -- The worked reports W1 to W12 of document 01, one table under a single statement about the definitions: whatever the promise of reading
 -- allows, by either choice of line ends, is the answer that the paper gives, with the records that it lists; and the dates and times are real or
--- not, as it says.
+-- not, as it says. With a CR LF behind each segment W1 is accepted by the default and refused strictly.
 -- Assumes nothing.
 use Prim.Native.Nat.{ℕ}
 use Prim.Native.String.{String}
@@ -50,6 +50,10 @@ pub record Case : Type 0 where
 -- the standard separators, by this choice of line ends
 abbrev pub usual : LineEnds → How
 usual lines = record { separators = standard; lines = lines }
+
+abbrev of-choice : {A : Type 0} → LineEnds → A → A → A
+of-choice Skipped by-default strictly = by-default
+of-choice Strict by-default strictly = strictly
 
 -- the records of the segments of W1, from the second on shared by most cases
 abbrev pub heading : List ℕ → List ℕ
@@ -136,6 +140,18 @@ cases =
     }
     ∷ []
 
+-- W1 with a CR LF behind each segment. By the default the starts come behind the line ends, and the last one is not used; strictly each belongs to
+-- the segment that it stands before, which is answer 5
+abbrev pub with-line-ends : LineEnds → Case
+with-line-ends lines = record {
+  report = "ST*842*0001~\r\nBNR*11*NR7*20240301~\r\nHL*1**RP*1~\r\nHL*2*1*I*0~\r\nNCD*1~\r\nNCA**R1~\r\nSE*7*0001~\r\n";
+  segment-room = 1000;
+  level-room = 200;
+  answer = of-choice lines (Accepted 7 2 90) (Refused 5 2 12 0);
+  segments = 0 ∷ 11 ∷ 1 ∷ of-choice lines (14 ∷ 19 ∷ 2 ∷ 36 ∷ 10 ∷ 18 ∷ 49 ∷ 10 ∷ 18 ∷ 62 ∷ 5 ∷ 46 ∷ 70 ∷ 7 ∷ 64 ∷ 80 ∷ 9 ∷ 79 ∷ []) [];
+  levels = of-choice lines (3 ∷ 0 ∷ 1 ∷ 1 ∷ 4 ∷ 1 ∷ 2 ∷ 2 ∷ []) [];
+}
+
 -- what a case says of the promise of reading
 abbrev pub Shown : LineEnds → Case → Type 0
 Shown lines c = (before after : Tables) (r : Answer) → segmentRoom before ≡ c .segment-room → levelRoom before ≡ c .level-room
@@ -159,10 +175,10 @@ abbrev told : Case → Outcome
 told c = (c .answer, c .segments, c .levels, true)
 
 -- are the same of all cases
-abbrev pub AllComputed : LineEnds → List Case → Type 0
+abbrev AllComputed : LineEnds → List Case → Type 0
 AllComputed lines cs = map (outcome lines) cs ≡ map told cs
 
-computed : (lines : LineEnds) → AllComputed lines cases
+computed : (lines : LineEnds) → AllComputed lines (with-line-ends lines ∷ cases)
 unfolding compute says stepOf tagIn tagNumber nextOf after edges842 list842 maxOf rowAt beginsBin isBin viewOf inspected cutAttached cutOf byteChecks dataChecks endChecks tagChecks ruledChecks hlChecks seChecks levelsIn fits isReal isDate isTime daysIn codeOf mayStandAlone mayBeMarked mayHang filled
 computed Skipped = refl
 computed Strict = refl
@@ -184,7 +200,7 @@ pub standard-fit : T (fitSeparators standard)
 unfolding mayServe
 standard-fit = tt
 
-pub all-shown : (lines : LineEnds) (cs : List Case) → AllComputed lines cs → AllShown lines cs
+all-shown : (lines : LineEnds) (cs : List Case) → AllComputed lines cs → AllShown lines cs
 all-shown lines [] k = tt
 all-shown lines (c ∷ cs) k =
     let first : outcome lines c ≡ told c = cc in
@@ -198,6 +214,7 @@ all-shown lines (c ∷ cs) k =
 -- W1 to W12
 pub record Worked : Type 0 where
   pub reports : (lines : LineEnds) → AllShown lines cases
+  pub line-ends : (lines : LineEnds) → Shown lines (with-line-ends lines)
   -- W11: a leap day in a leap year and in another
   pub real-date : T (isDate (bytes "20240229"))
   pub unreal-date : T (not (isDate (bytes "20230229")))
@@ -205,6 +222,16 @@ pub record Worked : Type 0 where
   pub fit-time : T (isTime (bytes "2359"))
   pub unfit-time : T (not (isTime (bytes "23595")))
 
+shown : (lines : LineEnds) → AllShown lines (with-line-ends lines ∷ cases)
+shown lines = all-shown lines (with-line-ends lines ∷ cases) (computed lines)
+
 pub worked : Worked
 unfolding isDate isTime daysIn
-worked = record { reports = λ lines. all-shown lines cases (computed lines); real-date = tt; unreal-date = tt; fit-time = tt; unfit-time = tt }
+worked = record {
+  reports = λ lines. shown lines .1;
+  line-ends = λ lines. shown lines .0;
+  real-date = tt;
+  unreal-date = tt;
+  fit-time = tt;
+  unfit-time = tt;
+}
