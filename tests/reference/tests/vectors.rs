@@ -4,7 +4,7 @@ mod plainly;
 
 use reference::plain::read_plain;
 use reference::vectors::{generated, groups, Case, FILE_BYTES, OUTPUT_BYTES, TABLE_NUMBERS};
-use reference::{component_span, rewrite, Separators};
+use reference::{component_span, rewrite, LineEnds, Separators};
 use std::collections::BTreeSet;
 
 #[test]
@@ -88,16 +88,17 @@ fn played(name: &str, mut file: &[u8]) -> String {
         let mut segments: Vec<u64> = (0..number(&header[7..9]) as u64).map(|at| 700_000 + at).collect();
         let mut levels: Vec<u64> = (0..number(&header[9..11]) as u64).map(|at| 800_000 + at).collect();
         let mut output: Vec<u8> = (0..asked).map(|at| ((at * 7 + 3) % 256) as u8).collect();
+        let how = if header[11] % 2 == 1 { LineEnds::Strict } else { LineEnds::Skipped };
+        assert!(header[0] == 2 || header[12] == 0);
         let answer = match header[0] {
             1 => {
                 assert_eq!(header[4..7], [0; 3]);
-                assert_eq!(asked, 0);
-                read_plain(input, old, &mut segments, &mut levels)
+                read_plain(input, old, how, &mut segments, &mut levels)
             }
             2 => plainly::rewrite(input, old, new, &mut segments, &mut levels, &mut output),
             _ => {
                 let behind = vec![b'~'; number(&header[4..7]) - input.len()];
-                read_plain(&[input, &behind].concat(), old, &mut segments, &mut levels)
+                read_plain(&[input, &behind].concat(), old, how, &mut segments, &mut levels)
             }
         };
         out += &answer.numbers().map(|number| number.to_string()).join(" ");

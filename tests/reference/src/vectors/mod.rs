@@ -16,7 +16,7 @@ pub mod text;
 mod whole;
 mod worked;
 
-pub use case::{Case, Told};
+pub use case::{Case, How, Told};
 pub use generated::generated;
 
 use std::fs;

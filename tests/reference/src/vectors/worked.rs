@@ -14,8 +14,7 @@ fn with_dtm(dtm: &str) -> String {
 
 /// W10: room for six segments.
 fn six_segments() -> Told {
-    let case =
-        Case::Read { input: joined(&W1).into_bytes(), separators: Separators::STANDARD, rooms: (20, 8) };
+    let case = Case::read(joined(&W1).into_bytes(), Separators::STANDARD, (20, 8));
     Told { case, answer: Some([17, 7, 68, 0]) }
 }
 
