@@ -6,6 +6,7 @@ mod attached;
 mod bounds;
 mod case;
 mod generated;
+mod lines;
 mod long;
 mod lookups;
 mod pairs;
@@ -45,6 +46,7 @@ pub fn groups() -> Vec<Group> {
         ("astray", astray::cases()),
         ("attached", attached::cases()),
         ("bounds", bounds::cases()),
+        ("lines", lines::cases()),
         ("long", long::cases()),
         ("lookups", lookups::cases()),
         ("pairs", pairs::cases()),

@@ -1,6 +1,6 @@
-//! The worked reports W1 to W12 of document 01.
+//! The worked reports W1 to W12 of document 01, by both choices: they have no line ends.
 
-use super::case::{Case, Told};
+use super::case::{Case, How, Told};
 use super::text::{accepted, joined, refused, w1_with, W1};
 use crate::Separators;
 
@@ -19,6 +19,12 @@ fn six_segments() -> Told {
 }
 
 pub fn cases() -> Vec<Told> {
+    let strictly = reports().into_iter().map(|told| told.by(How::STRICT));
+    reports().into_iter().chain(strictly).collect()
+}
+
+/// The reports, by the default.
+pub fn reports() -> Vec<Told> {
     vec![
         accepted(joined(&W1), 7, 2),
         refused(w1_with(4, "HL*2*1*F*0"), 14, 4, 2),
