@@ -5,28 +5,32 @@ use crate::race::Race;
 use crate::report::Input;
 use crate::sides::{Lent, Side};
 
-/// An input that all sides read and rewrite.
+/// An input that all sides read and, unless line ends stand in it, rewrite.
 struct Contest {
     input: Input,
     /// Segments, levels and bytes.
     counts: [u64; 3],
     reading: Race,
-    rewriting: Race,
+    rewriting: Option<Race>,
 }
 
 impl Contest {
     /// Nothing is timed before all sides agree.
     fn new(input: Input, sides: &[Side]) -> Contest {
         let reading = Race::new(sides.iter().map(|side| side.read).collect());
-        let rewriting = Race::new(sides.iter().map(|side| side.rewrite).collect());
+        let rewriting = (!input.in_lines).then(|| Race::new(sides.iter().map(|side| side.rewrite).collect()));
         let [_, counts @ ..] = reading.agreed(&input);
-        rewriting.agreed(&input);
+        if let Some(race) = &rewriting {
+            race.agreed(&input);
+        }
         Contest { input, counts, reading, rewriting }
     }
 
     fn round(&mut self, lent: &mut Lent) {
         self.reading.round(&self.input.bytes, lent);
-        self.rewriting.round(&self.input.bytes, lent);
+        if let Some(race) = &mut self.rewriting {
+            race.round(&self.input.bytes, lent);
+        }
     }
 
     /// A line about a race: the ratio of each build to the hand-written reader, then MB a second of every side.
@@ -45,8 +49,9 @@ impl Contest {
 
     /// The last figure is the part of its reading speed that the callers' build has when it rewrites.
     fn print_rewriting(&self) {
-        let part = self.reading.best()[0] / self.rewriting.best()[0];
-        println!("{:<30}{} {part:>8.2}", self.input.name, self.figures(&self.rewriting));
+        let Some(rewriting) = &self.rewriting else { return };
+        let part = self.reading.best()[0] / rewriting.best()[0];
+        println!("{:<30}{} {part:>8.2}", self.input.name, self.figures(rewriting));
     }
 }
 

@@ -6,6 +6,9 @@ use crate::report::{Input, Report};
 /// About 1 MB, less than the limit of 1,048,576 bytes.
 const LARGE: usize = 1_000_000;
 
+/// So much of it is left for the segments where line ends stand between them.
+const LARGE_WITHOUT_LINE_ENDS: usize = 925_000;
+
 /// What opens an item's faults.
 const OPENS: &str = "NCD*1";
 
@@ -85,18 +88,19 @@ fn small_bins(bins: usize, levels: usize) -> Vec<u8> {
 /// All inputs, the large ones first.
 pub fn inputs() -> Vec<Input> {
     vec![
-        Input { name: "1 MB, 50 levels", bytes: repeated(LARGE, 50, &FAULT) },
-        Input { name: "1 MB, 50 levels, varied", bytes: varied(LARGE, 50, Values::fault) },
-        Input { name: "1 MB, 1,000 levels", bytes: repeated(LARGE, 1000, &FAULT) },
-        Input { name: "1 MB, 1,000 levels, no order", bytes: scattered(LARGE, 1000, &FAULT) },
-        Input { name: "1 MB, short plain segments", bytes: repeated(LARGE, 50, &SHORT) },
-        Input { name: "1 MB, short plain, varied", bytes: varied(LARGE, 50, Values::short) },
-        Input { name: "1 MB, long elements", bytes: repeated(LARGE, 50, &LONG) },
-        Input { name: "1 MB, 2,000 small BINs", bytes: small_bins(2_000, 50) },
-        Input { name: "900 KB, one BIN", bytes: one_bin(900_000) },
-        Input { name: "100 bytes", bytes: repeated(100, 1, &FAULT[5..6]) },
-        Input { name: "1 KB", bytes: repeated(1_000, 2, &FAULT) },
-        Input { name: "10 KB", bytes: repeated(10_000, 10, &FAULT) },
-        Input { name: "10 KB, varied", bytes: varied(10_000, 10, Values::fault) },
+        Input::new("1 MB, 50 levels", repeated(LARGE, 50, &FAULT)),
+        Input::in_lines("1 MB, 50 levels, CR LF", &repeated(LARGE_WITHOUT_LINE_ENDS, 50, &FAULT)),
+        Input::new("1 MB, 50 levels, varied", varied(LARGE, 50, Values::fault)),
+        Input::new("1 MB, 1,000 levels", repeated(LARGE, 1000, &FAULT)),
+        Input::new("1 MB, 1,000 levels, no order", scattered(LARGE, 1000, &FAULT)),
+        Input::new("1 MB, short plain segments", repeated(LARGE, 50, &SHORT)),
+        Input::new("1 MB, short plain, varied", varied(LARGE, 50, Values::short)),
+        Input::new("1 MB, long elements", repeated(LARGE, 50, &LONG)),
+        Input::new("1 MB, 2,000 small BINs", small_bins(2_000, 50)),
+        Input::new("900 KB, one BIN", one_bin(900_000)),
+        Input::new("100 bytes", repeated(100, 1, &FAULT[5..6])),
+        Input::new("1 KB", repeated(1_000, 2, &FAULT)),
+        Input::new("10 KB", repeated(10_000, 10, &FAULT)),
+        Input::new("10 KB, varied", varied(10_000, 10, Values::fault)),
     ]
 }

@@ -60,10 +60,10 @@ fn alike(number: usize) -> String {
 /// The reports with so many levels.
 fn inputs(count: usize) -> [Input; 4] {
     [
-        Input { name: "names count down, near parent", bytes: near(count) },
-        Input { name: "names count down, far parents", bytes: far(count, |number| number.to_string()) },
-        Input { name: "the same, names alike", bytes: far(count, alike) },
-        Input { name: "marked 1, children far behind", bytes: waiting(count) },
+        Input::new("names count down, near parent", near(count)),
+        Input::new("names count down, far parents", far(count, |number| number.to_string())),
+        Input::new("the same, names alike", far(count, alike)),
+        Input::new("marked 1, children far behind", waiting(count)),
     ]
 }
 

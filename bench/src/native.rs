@@ -2,7 +2,7 @@
 
 #![allow(unsafe_code)]
 
-use crate::sides::{Lent, NEW, OLD};
+use crate::sides::{Lent, HOW, NEW, OLD};
 
 extern "C" {
     fn native_stormhlaw_read(
@@ -11,6 +11,7 @@ extern "C" {
         element: u8,
         component: u8,
         terminator: u8,
+        how: u64,
         segments: *mut u64,
         segments_length: usize,
         levels: *mut u64,
@@ -24,6 +25,7 @@ extern "C" {
         element: u8,
         component: u8,
         terminator: u8,
+        how: u64,
         new_element: u8,
         new_component: u8,
         new_terminator: u8,
@@ -49,6 +51,7 @@ pub fn read(input: &[u8], lent: &mut Lent) -> [u64; 4] {
             OLD.element,
             OLD.component,
             OLD.terminator,
+            HOW.flags(),
             lent.segments.as_mut_ptr(),
             lent.segments.len(),
             lent.levels.as_mut_ptr(),
@@ -70,6 +73,7 @@ pub fn rewrite(input: &[u8], lent: &mut Lent) -> [u64; 4] {
             OLD.element,
             OLD.component,
             OLD.terminator,
+            HOW.flags(),
             NEW.element,
             NEW.component,
             NEW.terminator,

@@ -4,6 +4,21 @@
 pub struct Input {
     pub name: &'static str,
     pub bytes: Vec<u8>,
+    /// Line ends stand between its segments: it can be read and not rewritten.
+    pub in_lines: bool,
+}
+
+impl Input {
+    /// A report without line ends.
+    pub fn new(name: &'static str, bytes: Vec<u8>) -> Input {
+        Input { name, bytes, in_lines: false }
+    }
+
+    /// That report, which has no BIN, with CR LF behind each segment but the last.
+    pub fn in_lines(name: &'static str, report: &[u8]) -> Input {
+        let segments: Vec<&[u8]> = report.split_inclusive(|byte| *byte == b'~').collect();
+        Input { name, bytes: segments.join(&b"\r\n"[..]), in_lines: true }
+    }
 }
 
 /// A report that grows segment by segment.

@@ -1,13 +1,16 @@
 //! The sides of a contest: the builds of the library, and the hand-written reader.
 
-use reference::Separators;
+use reference::{LineEnds, Separators};
 use std::hint::black_box;
-use stormhlaw::{raw, LONGEST};
+use stormhlaw::{raw, How, LONGEST};
 
 /// The separators of every input, and those that it is rewritten to.
 pub const OLD: stormhlaw::Separators = stormhlaw::Separators::STANDARD;
 pub const NEW: stormhlaw::Separators =
     stormhlaw::Separators { element: b'|', component: b'^', terminator: b'\'' };
+
+/// Every input is read by the default, as callers do: line ends are skipped.
+pub const HOW: How = How::new();
 
 /// Room for every segment and every level that is timed.
 const SEGMENT_NUMBERS: usize = 3 * LONGEST / 5;
@@ -48,15 +51,16 @@ pub fn sides() -> Vec<Side> {
 }
 
 fn library_read(input: &[u8], lent: &mut Lent) -> [u64; 4] {
-    raw::read(input, OLD, &mut lent.segments, &mut lent.levels)
+    raw::read(input, OLD, HOW.flags(), &mut lent.segments, &mut lent.levels)
 }
 
 fn library_rewrite(input: &[u8], lent: &mut Lent) -> [u64; 4] {
-    raw::rewrite(input, OLD, NEW, &mut lent.segments, &mut lent.levels, &mut lent.output)
+    raw::rewrite(input, OLD, HOW.flags(), NEW, &mut lent.segments, &mut lent.levels, &mut lent.output)
 }
 
 fn read_by_hand(input: &[u8], lent: &mut Lent) -> [u64; 4] {
-    reference::read(input, told(OLD), &mut lent.segments, &mut lent.levels).numbers()
+    let line_ends = black_box(LineEnds::Skipped);
+    reference::read(input, told(OLD), line_ends, &mut lent.segments, &mut lent.levels).numbers()
 }
 
 fn rewrite_by_hand(input: &[u8], lent: &mut Lent) -> [u64; 4] {

@@ -1,6 +1,6 @@
-//! Drives the proved library, through its C interface, and the independent reader with the same inputs, and compares the
-//! answers, the whole tables and outputs, and guard words around everything that was lent. Ends with status 1 if anything
-//! differs.
+//! Drives the proved library, through its C interface, and the independent reader with the same inputs, line ends skipped and
+//! strictly, and compares the answers, the whole tables and outputs, and guard words around everything that was lent. Ends
+//! with status 1 if anything differs.
 
 mod lent;
 mod outcome;

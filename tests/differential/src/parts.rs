@@ -7,24 +7,38 @@ use reference::generator::{counted_segment, report, Case, Random};
 use reference::Separators;
 
 const W1: &[u8] = b"ST*842*0001~BNR*11*NR7*20240301~HL*1**RP*1~HL*2*1*I*0~NCD*1~NCA**R1~SE*7*0001~";
+/// The same with line ends of every kind.
+const W1_IN_LINES: &[u8] =
+    b"ST*842*0001~\r\nBNR*11*NR7*20240301~\nHL*1**RP*1~\rHL*2*1*I*0~NCD*1~\r\nNCA**R1~\nSE*7*0001~\r\n";
 
 /// One seed in so many has its report read with every table size.
 const EVERY_ROOM_ONE_IN: u64 = 512;
 /// The longest report, in bytes, that is read with every table size.
 const EVERY_ROOM_LONGEST: usize = 600;
 
-/// The case of one seed: its reading, its rewriting, lookups in it and in a BIN, and for some every table size.
+/// The case of one seed: its readings, its rewritings, lookups in it and in a BIN, and for some every table size.
 pub fn generated(tally: &mut Tally, seed: u64) {
     let case = report(seed);
     let name = format!("seed {seed}");
     let sizes = Sizes { segments: case.segment_numbers, levels: case.level_numbers, output: 0 };
-    tally.read(&name, &case.input, case.separators, sizes);
+    let unnamed = unnamed_bits(seed);
+    tally.read(&name, &case.input, case.separators, unnamed, sizes);
     let sets = [case.separators, case.new];
-    rewriting::compare(tally, &name, &case.input, sets, Sizes { output: case.output_length, ..sizes });
+    let with_output = Sizes { output: case.output_length, ..sizes };
+    rewriting::compare(tally, &name, &case.input, sets, unnamed, with_output);
     look_up(tally, &name, &case);
     look_up_bin(tally, &name, &case);
     if seed.is_multiple_of(EVERY_ROOM_ONE_IN) && case.input.len() <= EVERY_ROOM_LONGEST {
         every_room(tally, &name, &case.input, case.separators);
+    }
+}
+
+/// Bits of `how` that are not looked at: none for every other seed, else any but the lowest.
+fn unnamed_bits(seed: u64) -> u64 {
+    if seed.is_multiple_of(2) {
+        0
+    } else {
+        Random::new(seed ^ 0x40).number() & !1
     }
 }
 
@@ -70,18 +84,20 @@ fn look_up_bin(tally: &mut Tally, name: &str, case: &Case) {
 fn every_room(tally: &mut Tally, name: &str, input: &[u8], set: Separators) {
     let most = input.len() / 5 + 1;
     for segments in 0..=3 * most + 2 {
-        tally.read(name, input, set, Sizes { segments, levels: 4 * most, output: 0 });
+        tally.read(name, input, set, 0, Sizes { segments, levels: 4 * most, output: 0 });
     }
     for levels in 0..=4 * most + 3 {
-        tally.read(name, input, set, Sizes { segments: 3 * most, levels, output: 0 });
+        tally.read(name, input, set, 0, Sizes { segments: 3 * most, levels, output: 0 });
     }
 }
 
-/// W1 with every pair of table sizes.
+/// W1, with line ends and without, with every pair of table sizes.
 pub fn rooms(tally: &mut Tally) {
     for segments in 0..=24 {
         for levels in 0..=12 {
-            tally.read("W1, rooms", W1, Separators::STANDARD, Sizes { segments, levels, output: 0 });
+            let sizes = Sizes { segments, levels, output: 0 };
+            tally.read("W1, rooms", W1, Separators::STANDARD, 0, sizes);
+            tally.read("W1 in lines, rooms", W1_IN_LINES, Separators::STANDARD, 0, sizes);
         }
     }
 }
@@ -103,11 +119,17 @@ pub fn sets(tally: &mut Tally) {
     }
 }
 
-/// W1 as it is and translated, read with that set.
+/// W1 as it is, and translated with line ends and without, read with that set.
 fn set(tally: &mut Tally, set: Separators) {
     let sizes = Sizes { segments: 24, levels: 12, output: 0 };
-    tally.read("W1, sets", W1, set, sizes);
-    let translated: Vec<u8> = W1
+    tally.read("W1, sets", W1, set, 0, sizes);
+    tally.read("W1 translated, sets", &translated(W1, set), set, 0, sizes);
+    tally.read("W1 in lines translated, sets", &translated(W1_IN_LINES, set), set, 0, sizes);
+}
+
+/// A report in the standard separators, written with that set.
+fn translated(report: &[u8], set: Separators) -> Vec<u8> {
+    report
         .iter()
         .map(|byte| match byte {
             b'*' => set.element,
@@ -115,6 +137,5 @@ fn set(tally: &mut Tally, set: Separators) {
             b'~' => set.terminator,
             _ => *byte,
         })
-        .collect();
-    tally.read("W1 translated, sets", &translated, set, sizes);
+        .collect()
 }

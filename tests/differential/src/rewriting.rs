@@ -1,35 +1,44 @@
 //! Rewriting by both sides, where the library has it.
 
 use crate::outcome::{Outcome, Sizes};
-use crate::sides::library_set;
+use crate::sides::{library_how, library_set};
 use crate::tally::Tally;
-use reference::Separators;
+use reference::{LineEnds, Separators};
 use stormhlaw::raw;
 
 /// The library's rewriting.
-fn library(input: &[u8], set: Separators, new: Separators, sizes: Sizes) -> Outcome {
+fn library(input: &[u8], [set, new]: [Separators; 2], how: u64, sizes: Sizes) -> Outcome {
     let mut outcome = Outcome::new(sizes);
     let (segments, levels) = (outcome.segments.part(), outcome.levels.part());
-    outcome.answer =
-        raw::rewrite(input, library_set(set), library_set(new), segments, levels, outcome.output.part());
+    let (set, new, output) = (library_set(set), library_set(new), outcome.output.part());
+    outcome.answer = raw::rewrite(input, set, how, new, segments, levels, output);
     outcome
 }
 
 /// The independent rewriting.
-fn independent(input: &[u8], set: Separators, new: Separators, sizes: Sizes) -> Outcome {
+fn independent(input: &[u8], [set, new]: [Separators; 2], sizes: Sizes) -> Outcome {
     let mut outcome = Outcome::new(sizes);
     let (segments, levels) = (outcome.segments.part(), outcome.levels.part());
     outcome.answer = reference::rewrite(input, set, new, segments, levels, outcome.output.part()).numbers();
     outcome
 }
 
-/// Compares one rewriting.
-pub fn compare(tally: &mut Tally, name: &str, input: &[u8], sets: [Separators; 2], sizes: Sizes) {
-    let [set, new] = sets;
-    let one = library(input, set, new, sizes);
-    let two = independent(input, set, new, sizes);
-    tally.rewritten(one.answer[0]);
-    if let Some(difference) = one.difference(&two) {
-        tally.differs(name, &difference, input, &format!("{set:?} to {new:?}, {sizes:?}"));
+/// Compares one rewriting, with both choices about line ends and with these bits besides: it is strict, whatever it is told.
+pub fn compare(
+    tally: &mut Tally,
+    name: &str,
+    input: &[u8],
+    sets: [Separators; 2],
+    unnamed: u64,
+    sizes: Sizes,
+) {
+    let two = independent(input, sets, sizes);
+    let hows = LineEnds::BOTH.map(|line_ends| library_how(line_ends, unnamed));
+    for how in hows {
+        let one = library(input, sets, how, sizes);
+        tally.rewritten(one.answer[0]);
+        if let Some(difference) = one.difference(&two) {
+            tally.differs(name, &difference, input, &format!("{sets:?}, how {how:#x}, {sizes:?}"));
+        }
     }
 }

@@ -1,25 +1,35 @@
 //! The two sides: the library through its C interface, and the independent reader.
 
 use crate::outcome::{Outcome, Sizes};
-use reference::Separators;
-use stormhlaw::raw;
+use reference::{LineEnds, Separators};
+use stormhlaw::{raw, How};
 
 /// The set as the library takes it.
 pub fn library_set(set: Separators) -> stormhlaw::Separators {
     stormhlaw::Separators { element: set.element, component: set.component, terminator: set.terminator }
 }
 
+/// What the library is told of line ends, with these bits besides, to which it must not look.
+pub fn library_how(line_ends: LineEnds, unnamed: u64) -> u64 {
+    let how = match line_ends {
+        LineEnds::Skipped => How::new(),
+        LineEnds::Strict => How::strict(),
+    };
+    how.flags() | unnamed
+}
+
 /// The library's reading.
-pub fn library_read(input: &[u8], set: Separators, sizes: Sizes) -> Outcome {
+pub fn library_read(input: &[u8], set: Separators, how: u64, sizes: Sizes) -> Outcome {
     let mut outcome = Outcome::new(sizes);
-    outcome.answer = raw::read(input, library_set(set), outcome.segments.part(), outcome.levels.part());
+    outcome.answer = raw::read(input, library_set(set), how, outcome.segments.part(), outcome.levels.part());
     outcome
 }
 
 /// The independent reading.
-pub fn reference_read(input: &[u8], set: Separators, sizes: Sizes) -> Outcome {
+pub fn reference_read(input: &[u8], set: Separators, line_ends: LineEnds, sizes: Sizes) -> Outcome {
     let mut outcome = Outcome::new(sizes);
-    outcome.answer = reference::read(input, set, outcome.segments.part(), outcome.levels.part()).numbers();
+    let (segments, levels) = (outcome.segments.part(), outcome.levels.part());
+    outcome.answer = reference::read(input, set, line_ends, segments, levels).numbers();
     outcome
 }
 

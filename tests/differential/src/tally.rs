@@ -1,10 +1,8 @@
 //! Counting what was compared, and telling of what differs.
 
-use reference::Separators;
-
 use crate::outcome::Sizes;
-use crate::sides::{library_component, library_element, library_read, reference_read};
-use reference::{component_span, element_span};
+use crate::sides::{library_component, library_element, library_how, library_read, reference_read};
+use reference::{component_span, element_span, LineEnds, Separators};
 
 /// How many answers there are, 0 to 19.
 const ANSWERS: usize = 20;
@@ -22,12 +20,15 @@ pub struct Tally {
 }
 
 impl Tally {
-    /// Compares one reading.
-    pub fn read(&mut self, name: &str, input: &[u8], set: Separators, sizes: Sizes) {
-        let one = library_read(input, set, sizes);
-        self.readings[(one.answer[0] as usize).min(ANSWERS - 1)] += 1;
-        if let Some(difference) = one.difference(&reference_read(input, set, sizes)) {
-            self.differs(name, &difference, input, &format!("{set:?}, {sizes:?}"));
+    /// Compares one reading by each choice about line ends, with these bits besides.
+    pub fn read(&mut self, name: &str, input: &[u8], set: Separators, unnamed: u64, sizes: Sizes) {
+        for line_ends in LineEnds::BOTH {
+            let how = library_how(line_ends, unnamed);
+            let one = library_read(input, set, how, sizes);
+            self.readings[(one.answer[0] as usize).min(ANSWERS - 1)] += 1;
+            if let Some(difference) = one.difference(&reference_read(input, set, line_ends, sizes)) {
+                self.differs(name, &difference, input, &format!("{set:?}, how {how:#x}, {sizes:?}"));
+            }
         }
     }
 

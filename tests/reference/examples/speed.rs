@@ -1,6 +1,6 @@
 //! How fast `read` is: nanoseconds for each byte and each call, on reports of several sizes.
 
-use reference::{read, Answer, Separators};
+use reference::{read, Answer, LineEnds, Separators};
 use std::hint::black_box;
 use std::time::Instant;
 
@@ -44,6 +44,12 @@ fn bins(count: usize, length: usize) -> Vec<u8> {
     text.into_bytes()
 }
 
+/// The report with CR LF between its segments.
+fn in_lines(report: &[u8]) -> Vec<u8> {
+    let segments: Vec<&[u8]> = report.split_inclusive(|byte| *byte == b'~').collect();
+    segments.join(&b"\r\n"[..])
+}
+
 fn measure(name: &str, input: &[u8], times: usize) {
     let mut segments = vec![0; 3 * 200_000];
     let mut levels = vec![0; 4 * 20_000];
@@ -51,7 +57,8 @@ fn measure(name: &str, input: &[u8], times: usize) {
     for _ in 0..5 {
         let start = Instant::now();
         for _ in 0..times {
-            let answer = read(black_box(input), Separators::STANDARD, &mut segments, &mut levels);
+            let (set, line_ends) = (Separators::STANDARD, black_box(LineEnds::Skipped));
+            let answer = read(black_box(input), set, line_ends, &mut segments, &mut levels);
             assert!(matches!(black_box(answer), Answer::Accepted { .. }), "{answer:?}");
         }
         best = best.min(start.elapsed().as_nanos() as f64 / times as f64);
@@ -67,6 +74,7 @@ fn main() {
         ("1000 items", items(1000), 50),
         ("4000 items", items(4000), 5),
         ("10000 faults", faults(10_000), 20),
+        ("10000 faults, CR LF", in_lines(&faults(10_000)), 20),
         ("2000 BINs", bins(2_000, 45), 500),
         ("one BIN", bins(1, 900_000), 100_000),
     ];

@@ -1,6 +1,6 @@
 //! A reader of X12 842 nonconformance reports, written from the rules of document 01 and of document
-//! 02, Item 1, alone, to compare another reader with: the same answers, the same tables, the same
-//! output.
+//! 02, Items 1 and 3, alone, to compare another reader with: the same answers, the same tables, the
+//! same output.
 //!
 //! `read` is made for speed: one pass, no allocation. `plain::read_plain` says the same in the
 //! plainest way, from the words of the paper, and the tests hold the two together.
@@ -11,6 +11,7 @@ mod cut;
 mod elements;
 pub mod generator;
 mod levels;
+mod line_ends;
 pub mod listing;
 mod lookup;
 pub mod plain;
@@ -24,6 +25,7 @@ pub mod vectors;
 
 pub use answer::Answer;
 pub use levels::CODES;
+pub use line_ends::LineEnds;
 pub use lookup::{component_span, element_span};
 pub use read::{read, LONGEST};
 pub use rewrite::rewrite;

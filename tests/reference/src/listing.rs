@@ -1,8 +1,8 @@
-//! What the program prints for a report (document 01, "Worked reports").
+//! What the program prints for a report (document 01, "Worked reports"). It skips line ends.
 
 use crate::levels::{LEVEL_NUMBERS, SEGMENT_NUMBERS};
 use crate::plain::read_plain;
-use crate::{Answer, Separators, CODES};
+use crate::{Answer, LineEnds, Separators, CODES};
 
 /// The most bytes that the program takes.
 pub const PROGRAM_BYTES: usize = 65_536;
@@ -18,7 +18,7 @@ pub fn listing(report: &[u8]) -> String {
     }
     let mut segments = vec![0; SEGMENT_NUMBERS * PROGRAM_SEGMENTS];
     let mut levels = vec![0; LEVEL_NUMBERS * PROGRAM_LEVELS];
-    match read_plain(report, Separators::STANDARD, &mut segments, &mut levels) {
+    match read_plain(report, Separators::STANDARD, LineEnds::default(), &mut segments, &mut levels) {
         Answer::Refused { number, segment, byte, element } => refusal(number, segment, byte, element),
         Answer::Accepted { segments: count, levels: level_count, bytes } => {
             let mut lines = format!("842 segments {count} levels {level_count} bytes {bytes}\n");

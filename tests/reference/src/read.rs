@@ -4,6 +4,7 @@ use crate::answer::{Answer, Fault};
 use crate::cut::{Cut, Kinds};
 use crate::elements;
 use crate::levels::{Earlier, Level, LEVEL_NUMBERS, SEGMENT_NUMBERS};
+use crate::line_ends::{LineEnds, Skipping};
 use crate::rows::{self, Tag};
 use crate::separators::Separators;
 
@@ -12,15 +13,23 @@ pub const LONGEST: usize = 1_048_576;
 
 /// Reads a transaction and fills both tables (document 01, "What the tables hold" and "Answers in
 /// the order they are tested"). A refusal at segment k leaves the records of segments 1 to k-1;
-/// every other number of both tables keeps what it held.
-pub fn read(input: &[u8], separators: Separators, segments: &mut [u64], levels: &mut [u64]) -> Answer {
+/// every other number of both tables keeps what it held. Starts, in tables and answers, come behind
+/// skipped line ends (document 02, Item 3).
+pub fn read(
+    input: &[u8],
+    separators: Separators,
+    line_ends: LineEnds,
+    segments: &mut [u64],
+    levels: &mut [u64],
+) -> Answer {
     if !separators.fit() {
         return Answer::bare(1, 0);
     }
     if input.len() > LONGEST {
         return Answer::bare(2, 0);
     }
-    Reader::new(input, separators, segments, levels).run()
+    let skipping = Skipping::new(line_ends, separators);
+    Reader::new(input, separators, segments, levels).run(skipping)
 }
 
 /// A reading under way.
@@ -65,7 +74,7 @@ impl<'a> Reader<'a> {
     }
 
     /// Takes segment after segment until SE is accepted or one is refused.
-    fn run(mut self) -> Answer {
+    fn run(mut self, skipping: Skipping) -> Answer {
         let kinds = Kinds::new(self.separators);
         let mut cut = Cut::new();
         let mut start = 0;
@@ -76,14 +85,15 @@ impl<'a> Reader<'a> {
                 }
                 Ok(tag) => {
                     self.count += 1;
-                    start = cut.end + 1;
+                    let behind = cut.end + 1;
                     if tag == Tag::SE as usize {
                         return Answer::Accepted {
                             segments: self.count,
                             levels: self.level_count,
-                            bytes: start,
+                            bytes: behind,
                         };
                     }
+                    start = skipping.start(self.input, behind);
                 }
             }
         }

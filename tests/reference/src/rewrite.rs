@@ -1,9 +1,10 @@
 //! Rewriting a transaction with other separators (document 01, the text after the table of answers;
-//! document 02, Item 1).
+//! document 02, Items 1 and 3).
 
 use crate::answer::Answer;
 use crate::attached;
 use crate::levels::SEGMENT_NUMBERS;
+use crate::line_ends::LineEnds;
 use crate::read::read;
 use crate::separators::Separators;
 use std::iter::once;
@@ -12,7 +13,7 @@ use std::ops::Range;
 /// The row of BIN; there is no other.
 const BIN_ROW: u64 = 55;
 
-/// Tests both sets (1, the old one first), reads, then 18: a data byte equals a new separator; then
+/// Tests both sets (1, the old one first), reads strictly, then 18: a data byte equals a new separator; then
 /// 19: the output is shorter than the bytes used. The tables are left as reading alone leaves them,
 /// and untouched at 1. On any refusal the output keeps its bytes; success writes exactly the used
 /// length and gives the reading's numbers. The bytes of BIN02 are copied and not looked at.
@@ -30,7 +31,7 @@ pub fn rewrite(
     if !new.fit() {
         return Answer::bare(1, 1);
     }
-    let answer = read(input, separators, segments, levels);
+    let answer = read(input, separators, LineEnds::Strict, segments, levels);
     let Answer::Accepted { segments: count, bytes, .. } = answer else {
         return answer;
     };

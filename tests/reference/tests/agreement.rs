@@ -2,7 +2,7 @@
 
 use reference::generator::{report, Case};
 use reference::plain::read_plain;
-use reference::{read, rewrite, Answer, Separators, LONGEST};
+use reference::{read, rewrite, Answer, LineEnds, Separators, LONGEST};
 use std::collections::{BTreeMap, BTreeSet};
 
 fn tables(case: &Case) -> (Vec<u64>, Vec<u64>) {
@@ -11,16 +11,28 @@ fn tables(case: &Case) -> (Vec<u64>, Vec<u64>) {
     (segments, levels)
 }
 
-/// Reads both ways; both tables must be the same to the last number.
-fn both(case: &Case) -> (Answer, Vec<u64>, Vec<u64>) {
+/// What comes of a reading: the answer and both tables.
+type Outcome = (Answer, Vec<u64>, Vec<u64>);
+
+/// Reads by both readers; both tables must be the same to the last number.
+fn both(case: &Case, line_ends: LineEnds) -> Outcome {
     let (mut segments, mut levels) = tables(case);
     let (mut plain_segments, mut plain_levels) = tables(case);
-    let answer = read(&case.input, case.separators, &mut segments, &mut levels);
-    let plain = read_plain(&case.input, case.separators, &mut plain_segments, &mut plain_levels);
-    assert_eq!(answer, plain, "seed {}", case.seed);
-    assert_eq!(segments, plain_segments, "seed {}", case.seed);
-    assert_eq!(levels, plain_levels, "seed {}", case.seed);
+    let answer = read(&case.input, case.separators, line_ends, &mut segments, &mut levels);
+    let plain = read_plain(&case.input, case.separators, line_ends, &mut plain_segments, &mut plain_levels);
+    assert_eq!(answer, plain, "seed {}, {line_ends:?}", case.seed);
+    assert_eq!(segments, plain_segments, "seed {}, {line_ends:?}", case.seed);
+    assert_eq!(levels, plain_levels, "seed {}, {line_ends:?}", case.seed);
     (answer, segments, levels)
+}
+
+/// Reads by both readers, strictly too where there may be a line end, and gives what came where line ends
+/// are skipped.
+fn all(case: &Case) -> Outcome {
+    if case.input.iter().any(|byte| b"\r\n".contains(byte)) {
+        both(case, LineEnds::Strict);
+    }
+    both(case, LineEnds::Skipped)
 }
 
 /// Whether these bytes begin with BIN and the element separator.
@@ -37,7 +49,7 @@ fn both_readers_agree_and_every_answer_and_row_comes() {
     println!("seeds 0 to {}", CASES - 1);
     for seed in 0..CASES {
         let case = report(seed);
-        let (answer, segments, _) = both(&case);
+        let (answer, segments, _) = all(&case);
         assert!(!case.valid || matches!(answer, Answer::Accepted { .. }), "seed {seed}: {answer:?}");
         let [number, ..] = answer.numbers();
         let element = if number == 0 { 0 } else { answer.numbers()[3] };
@@ -73,7 +85,7 @@ fn bins_come_in_every_way() {
     let (mut whole, mut with_terminator, mut ended_by_zeros) = (0, 0, 0);
     for seed in 0..CASES / 3 {
         let case = report(seed);
-        let (answer, segments, _) = both(&case);
+        let (answer, segments, _) = both(&case, LineEnds::Skipped);
         let bins = accepted_bins(&case, answer, &segments);
         whole += bins.len();
         with_terminator += bins.iter().filter(|bin| bin.contains(&case.separators.terminator)).count();
@@ -97,7 +109,7 @@ fn bins_come_in_every_way() {
 #[ignore = "a longer run, asked for by name"]
 fn both_readers_agree_on_many_more() {
     for seed in 1_000_000..1_500_000 {
-        both(&report(seed));
+        all(&report(seed));
     }
 }
 
@@ -116,7 +128,7 @@ fn both_readers_agree_with_every_room() {
         for segment_numbers in 0..20 {
             for level_numbers in 0..10 {
                 (case.segment_numbers, case.level_numbers) = (segment_numbers, level_numbers);
-                both(&case);
+                both(&case, LineEnds::Skipped);
             }
         }
     }
@@ -124,22 +136,20 @@ fn both_readers_agree_with_every_room() {
 
 #[test]
 fn both_readers_agree_on_every_cut_and_every_changed_byte() {
-    for seed in (0..2000).filter(|seed| report(*seed).valid).take(12) {
-        let whole = report(seed);
+    let in_lines = |case: &Case| case.valid && !case.strictly_valid;
+    let reports = || (0..2000).map(report);
+    let plain = reports().filter(|case| case.strictly_valid).take(12);
+    for whole in plain.chain(reports().filter(in_lines).take(6)) {
+        let Separators { element, component, terminator } = whole.separators;
+        let odd = [0, b'0', b'1', b'A', b' ', b'.', b'-', b'X', b'\r', b'\n', 127, 128, 255];
         for at in 0..whole.input.len().min(300) {
             let mut case = whole.clone();
             case.input.truncate(at);
-            both(&case);
-            for byte in [0, b'0', b'1', b'A', b' ', b'.', b'-', b'X', 127, 128, 255] {
+            all(&case);
+            for byte in odd.into_iter().chain([element, component, terminator]) {
                 let mut case = whole.clone();
                 case.input[at] = byte;
-                both(&case);
-            }
-            let separators = whole.separators;
-            for byte in [separators.element, separators.component, separators.terminator] {
-                let mut case = whole.clone();
-                case.input[at] = byte;
-                both(&case);
+                both(&case, LineEnds::Skipped);
             }
         }
     }
@@ -173,7 +183,7 @@ fn collides(segments: &[Vec<Vec<Vec<u8>>>], set: Separators) -> bool {
 
 /// Rewrites, checks tables and output against the reading, and gives the answer.
 fn rewritten(case: &Case) -> Answer {
-    let (reading, segments, levels) = both(case);
+    let (reading, segments, levels) = both(case, LineEnds::Strict);
     let (mut own_segments, mut own_levels) = tables(case);
     let before: Vec<u8> = (0..case.output_length).map(|at| (at * 7 + 3) as u8).collect();
     let mut output = before.clone();
@@ -205,7 +215,7 @@ fn rewritten(case: &Case) -> Answer {
             assert_eq!(output[bytes..], before[bytes..]);
             assert!(case.new != case.separators || output[..bytes] == case.input[..bytes]);
             let again = Case { input: output[..bytes].to_vec(), separators: case.new, ..case.clone() };
-            assert_eq!(both(&again), (reading, segments, levels), "seed {}", case.seed);
+            assert_eq!(both(&again, LineEnds::Strict), (reading, segments, levels), "seed {}", case.seed);
         }
     }
     answer
@@ -235,7 +245,7 @@ fn end_of_segment(case: &Case, start: usize) -> usize {
     }
     let ended = |end: &usize| {
         let cut = Case { input: case.input[..*end].to_vec(), ..case.clone() };
-        both(&cut).0.numbers()[0] != 3
+        both(&cut, LineEnds::Skipped).0.numbers()[0] != 3
     };
     (start..=case.input.len()).find(ended).unwrap()
 }
@@ -244,7 +254,7 @@ fn end_of_segment(case: &Case, start: usize) -> usize {
 fn a_refusal_stands_whatever_follows_and_with_more_room() {
     for seed in 0..4000 {
         let case = report(seed);
-        let (answer, ..) = both(&case);
+        let (answer, ..) = both(&case, LineEnds::Skipped);
         let [number, ..] = answer.numbers();
         let fault = (4..=16).contains(&number) || number == 0;
         if !fault || case.input.len() > 10_000 {
@@ -254,13 +264,13 @@ fn a_refusal_stands_whatever_follows_and_with_more_room() {
             Answer::Accepted { bytes, .. } => bytes,
             Answer::Refused { byte, .. } => end_of_segment(&case, byte),
         };
-        for tail in [&b""[..], b"~", b"SE*4*0001~", b"\0\xFF garbage"] {
+        for tail in [&b""[..], b"~", b"\r\n", b"SE*4*0001~", b"\0\xFF garbage"] {
             let mut other = case.clone();
             other.input.truncate(end);
             other.input.extend_from_slice(tail);
             other.segment_numbers += 7;
             other.level_numbers += 9;
-            assert_eq!(both(&other).0, answer, "seed {seed}");
+            assert_eq!(both(&other, LineEnds::Skipped).0, answer, "seed {seed}");
         }
     }
 }
@@ -271,7 +281,7 @@ fn the_limit_is_the_whole_lent_input() {
     for (length, accepted) in [(LONGEST, true), (LONGEST + 1, false)] {
         let mut case = valid.clone();
         case.input.resize(length, b'X');
-        let (answer, segments, levels) = both(&case);
+        let (answer, segments, levels) = all(&case);
         assert_eq!(matches!(answer, Answer::Accepted { .. }), accepted);
         if !accepted {
             assert_eq!(answer.numbers(), [2, 0, 0, 0]);

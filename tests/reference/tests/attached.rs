@@ -5,7 +5,7 @@ mod plainly;
 
 use reference::generator::{counted_segment, Random};
 use reference::plain::read_plain;
-use reference::{component_span, element_span, read, rewrite, Separators, LONGEST};
+use reference::{component_span, element_span, read, rewrite, LineEnds, Separators, LONGEST};
 
 /// What stands before the BIN, which is then the sixth segment and starts at byte 38.
 const BEFORE: &[u8] = b"ST*842*0001~BNR*1~HL*1**I~NCD*1~EFI*1~";
@@ -14,8 +14,9 @@ const BEFORE: &[u8] = b"ST*842*0001~BNR*1~HL*1**I~NCD*1~EFI*1~";
 fn given(input: &[u8]) -> ([u64; 4], Vec<u64>) {
     let lent = || (vec![7; 60], vec![8; 12]);
     let (mut fast, mut plain) = (lent(), lent());
-    let answer = read(input, Separators::STANDARD, &mut fast.0, &mut fast.1);
-    let plain_answer = read_plain(input, Separators::STANDARD, &mut plain.0, &mut plain.1);
+    let (set, line_ends) = (Separators::STANDARD, LineEnds::Skipped);
+    let answer = read(input, set, line_ends, &mut fast.0, &mut fast.1);
+    let plain_answer = read_plain(input, set, line_ends, &mut plain.0, &mut plain.1);
     assert_eq!((answer, &fast), (plain_answer, &plain), "{}", input.escape_ascii());
     (answer.numbers(), fast.0)
 }

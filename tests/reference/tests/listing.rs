@@ -3,7 +3,7 @@
 use reference::listing::{listing, PROGRAM_BYTES, PROGRAM_LEVELS, PROGRAM_SEGMENTS};
 use reference::reports::{reports, Report};
 use reference::vectors::text::{joined, w1_with, W1};
-use reference::{read, Separators, CODES};
+use reference::{read, LineEnds, Separators, CODES};
 use std::collections::BTreeSet;
 
 /// The listing of W1 as document 01 prints it.
@@ -20,9 +20,25 @@ level 1 3 0 1 RP
 level 2 4 1 2 I
 ";
 
+/// The same with CR LF behind each segment: every start comes behind the line ends before it.
+const W1_LISTING_IN_LINES: &str = "\
+842 segments 7 levels 2 bytes 90
+1 0 11 1
+2 14 19 2
+3 36 10 18
+4 49 10 18
+5 62 5 46
+6 70 7 64
+7 80 9 79
+level 1 3 0 1 RP
+level 2 4 1 2 I
+";
+
 #[test]
 fn listings_of_the_paper() {
     assert_eq!(listing(joined(&W1).as_bytes()), W1_LISTING);
+    let in_lines = joined(&W1).replace('~', "~\r\n");
+    assert_eq!(listing(in_lines.as_bytes()), W1_LISTING_IN_LINES);
     let w2 = w1_with(4, "HL*2*1*F*0");
     assert_eq!(listing(w2.as_bytes()), "refused 14 segment 4 byte 43 element 2\n");
 }
@@ -56,7 +72,8 @@ fn both_readers_list_the_same() {
             continue;
         }
         let (mut segments, mut levels) = (vec![0; 3 * PROGRAM_SEGMENTS], vec![0; 4 * PROGRAM_LEVELS]);
-        let answer = read(&input, Separators::STANDARD, &mut segments, &mut levels).numbers();
+        let answer =
+            read(&input, Separators::STANDARD, LineEnds::Skipped, &mut segments, &mut levels).numbers();
         let mut lines = vec![first_line(answer)];
         if answer[0] == 0 {
             let records = segments.chunks(3).take(answer[1] as usize);

@@ -3,8 +3,8 @@
 mod plainly;
 
 use reference::plain::read_plain;
-use reference::vectors::{generated, groups, Case, FILE_BYTES, OUTPUT_BYTES, TABLE_NUMBERS};
-use reference::{component_span, rewrite, Separators};
+use reference::vectors::{generated, groups, Case, How, FILE_BYTES, OUTPUT_BYTES, TABLE_NUMBERS};
+use reference::{component_span, rewrite, LineEnds, Separators};
 use std::collections::BTreeSet;
 
 #[test]
@@ -31,8 +31,8 @@ fn names_and_limits() {
     assert_eq!(
         names,
         [
-            "answers", "astray", "attached", "bounds", "long", "lookups", "pairs", "rewriting", "rooms",
-            "rowsa", "rowsb", "rowsc", "rowsd", "separators", "truncated", "worked"
+            "answers", "astray", "attached", "bounds", "lines", "long", "lookups", "pairs", "rewriting",
+            "rooms", "rowsa", "rowsb", "rowsc", "rowsd", "separators", "truncated", "worked"
         ]
     );
     let mut names: Vec<String> = Vec::new();
@@ -88,16 +88,17 @@ fn played(name: &str, mut file: &[u8]) -> String {
         let mut segments: Vec<u64> = (0..number(&header[7..9]) as u64).map(|at| 700_000 + at).collect();
         let mut levels: Vec<u64> = (0..number(&header[9..11]) as u64).map(|at| 800_000 + at).collect();
         let mut output: Vec<u8> = (0..asked).map(|at| ((at * 7 + 3) % 256) as u8).collect();
+        let how = if header[11] % 2 == 1 { LineEnds::Strict } else { LineEnds::Skipped };
+        assert!(header[0] == 2 || header[12] == 0);
         let answer = match header[0] {
             1 => {
                 assert_eq!(header[4..7], [0; 3]);
-                assert_eq!(asked, 0);
-                read_plain(input, old, &mut segments, &mut levels)
+                read_plain(input, old, how, &mut segments, &mut levels)
             }
             2 => plainly::rewrite(input, old, new, &mut segments, &mut levels, &mut output),
             _ => {
                 let behind = vec![b'~'; number(&header[4..7]) - input.len()];
-                read_plain(&[input, &behind].concat(), old, &mut segments, &mut levels)
+                read_plain(&[input, &behind].concat(), old, how, &mut segments, &mut levels)
             }
         };
         out += &answer.numbers().map(|number| number.to_string()).join(" ");
@@ -163,4 +164,25 @@ fn the_answers_file_has_every_answer_of_a_reading_with_each_of_its_elements() {
     wanted
         .extend([2, 3, 4, 5, 6, 8, 10, 12, 14, 16, 18, 20, 22, 24, 26, 28, 30].map(|element| (11, element)));
     assert_eq!(came, wanted.into_iter().collect());
+}
+
+#[test]
+fn the_lines_file_has_every_answer_by_the_default_and_every_way_to_say_how() {
+    let group = groups().into_iter().find(|group| group.name == "lines").unwrap();
+    let (mut numbers, mut read, mut long) = (BTreeSet::new(), BTreeSet::new(), BTreeSet::new());
+    for told in &group.cases {
+        let (how, come) = match told.case {
+            Case::Read { how, .. } => (how, &mut read),
+            Case::Long { how, .. } => (how, &mut long),
+            _ => continue,
+        };
+        come.insert(how.0);
+        if how == How::DEFAULT {
+            numbers.extend(told.answer.map(|answer| answer[0]));
+        }
+    }
+    assert_eq!(numbers, (0..=17).collect());
+    for how in [0, 1, 2, 254, 255] {
+        assert!(read.contains(&how) && long.contains(&how), "no case with {how}");
+    }
 }

@@ -1,7 +1,7 @@
 //! The worked reports of document 01 with their tables, and the points where readers went astray.
 
 use reference::vectors::text::{after_bnr, in_fault, in_heading, joined, w1_with, EVERY_ROW, W1};
-use reference::{read, Answer, Separators};
+use reference::{read, Answer, LineEnds, Separators};
 
 /// The tables before a reading.
 fn lent(segments: usize, levels: usize) -> (Vec<u64>, Vec<u64>) {
@@ -11,10 +11,15 @@ fn lent(segments: usize, levels: usize) -> (Vec<u64>, Vec<u64>) {
     )
 }
 
-/// Reads with so much room and checks that everything but the records keeps what it held.
+/// Reads with so much room and checks that everything but the records keeps what it held. No report here
+/// has line ends: a strict reading gives the same.
 fn given(text: &str, rooms: (usize, usize)) -> (Answer, Vec<[u64; 3]>, Vec<[u64; 4]>) {
     let (mut segments, mut levels) = lent(rooms.0, rooms.1);
-    let answer = read(text.as_bytes(), Separators::STANDARD, &mut segments, &mut levels);
+    let answer = read(text.as_bytes(), Separators::STANDARD, LineEnds::Skipped, &mut segments, &mut levels);
+    let mut strict = lent(rooms.0, rooms.1);
+    let strictly =
+        read(text.as_bytes(), Separators::STANDARD, LineEnds::Strict, &mut strict.0, &mut strict.1);
+    assert_eq!((answer, &segments, &levels), (strictly, &strict.0, &strict.1));
     let (untouched, untouched_levels) = lent(rooms.0, rooms.1);
     let count = match answer {
         Answer::Accepted { segments, .. } => segments,
@@ -162,9 +167,11 @@ fn answers_1_and_2_write_nothing() {
     ] {
         let mut input = joined(&W1).into_bytes();
         input.resize(length, b'~');
-        let (mut segments, mut levels) = lent(30, 20);
-        assert_eq!(read(&input, set, &mut segments, &mut levels).numbers(), answer);
-        assert_eq!((segments, levels) == lent(30, 20), answer[0] != 0);
+        for line_ends in LineEnds::BOTH {
+            let (mut segments, mut levels) = lent(30, 20);
+            assert_eq!(read(&input, set, line_ends, &mut segments, &mut levels).numbers(), answer);
+            assert_eq!((segments, levels) == lent(30, 20), answer[0] != 0);
+        }
     }
 }
 
@@ -175,7 +182,7 @@ fn a_long_report_counts_in_many_digits() {
     segments.push("SE*80004*0001".to_string());
     let text = joined(&segments);
     let (mut table, mut levels) = lent(3 * 80_004, 4);
-    let answer = read(text.as_bytes(), Separators::STANDARD, &mut table, &mut levels);
+    let answer = read(text.as_bytes(), Separators::STANDARD, LineEnds::Skipped, &mut table, &mut levels);
     assert_eq!(answer.numbers(), [0, 80_004, 1, text.len() as u64]);
     assert_eq!(table[3 * 80_003..], [text.len() as u64 - 14, 13, 79]);
 }

@@ -29,7 +29,7 @@ fn content(random: &mut Random, separators: Separators, length: usize) -> Vec<u8
 
 fn fragment(random: &mut Random, separators: Separators) -> Vec<u8> {
     let Separators { element, component, terminator } = separators;
-    match random.below(9) {
+    match random.below(10) {
         0 => vec![terminator],
         1 => vec![element; 1 + random.below(3)],
         2 => vec![component; 1 + random.below(2)],
@@ -37,6 +37,7 @@ fn fragment(random: &mut Random, separators: Separators) -> Vec<u8> {
         4 => vec![b'B', b'I', b'N', element, b'0' + random.below(10) as u8, element],
         5 => vec![*random.pick(&[0, 10, 13, 127, 255])],
         6 => (0..4).map(|_| random.below(256) as u8).collect(),
+        7 => vec![terminator, b'\r', b'\n'],
         _ => (0..1 + random.below(8)).map(|_| 32 + random.below(95) as u8).collect(),
     }
 }

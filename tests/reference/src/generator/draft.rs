@@ -1,5 +1,6 @@
 //! A valid report as pieces, before it becomes bytes.
 
+use super::lines::Lines;
 use super::{attached, Random};
 use crate::rows::{Tag, MOST, NEXT, TAGS};
 use crate::{Separators, CODES};
@@ -81,12 +82,13 @@ impl Draft {
         (self.segments.len(), levels)
     }
 
-    /// The bytes of the whole report.
-    pub fn bytes(&self) -> Vec<u8> {
+    /// The bytes of the whole report with these line ends.
+    pub fn bytes(&self, lines: &Lines) -> Vec<u8> {
         let mut bytes = Vec::new();
-        for segment in &self.segments {
+        for (at, segment) in self.segments.iter().enumerate() {
             bytes.extend(segment.join(&self.separators.element));
             bytes.push(self.separators.terminator);
+            bytes.extend(lines.behind(at));
         }
         bytes
     }

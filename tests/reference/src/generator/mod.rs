@@ -4,6 +4,7 @@
 mod attached;
 mod damage;
 mod draft;
+mod lines;
 mod random;
 
 pub use attached::counted_segment;
@@ -11,6 +12,7 @@ pub use random::Random;
 
 use crate::{Separators, LONGEST};
 use draft::Draft;
+use lines::Lines;
 
 /// One case for a reader.
 #[derive(Clone, Debug, PartialEq, Eq)]
@@ -29,8 +31,10 @@ pub struct Case {
     pub level_numbers: usize,
     /// How many bytes the output has.
     pub output_length: usize,
-    /// Nothing was damaged and the room suffices: the report is to be accepted.
+    /// Nothing was damaged and the room suffices: the report is to be accepted where line ends are skipped.
     pub valid: bool,
+    /// The same, and no line end stands between two segments: it is to be accepted strictly too.
+    pub strictly_valid: bool,
 }
 
 /// One seed in so many gives an input about as long as the limit.
@@ -46,11 +50,16 @@ pub fn report(seed: u64) -> Case {
     // Most damage is done to segments and elements, some to bytes.
     let to_bytes = if random.chance(50) { random.below(damages + 1) } else { 0 };
     damage::segments(&mut random, &mut draft, damages - to_bytes);
-    let mut input = draft.bytes();
+    let lines = Lines::new(&mut random, draft.segments.len());
+    let mut input = draft.bytes(&lines);
     let used = input.len();
     damage::bytes(&mut random, &mut input, separators, to_bytes);
+    let line_damaged = random.chance(if lines.none() { 4 } else { 25 });
+    if line_damaged {
+        lines::damage(&mut random, &mut input, separators);
+    }
     trail(&mut random, &mut input, separators);
-    let mut valid = damages == 0;
+    let mut valid = damages == 0 && !line_damaged && lines.skipped(separators);
     if seed % LONG_ONE_IN == LONG_ONE_IN - 1 {
         let length = LONGEST - 1 + random.below(3);
         input.resize(length, b'X');
@@ -68,6 +77,7 @@ pub fn report(seed: u64) -> Case {
         output_length: output_length(&mut random, used),
         input,
         valid,
+        strictly_valid: valid && lines.none(),
     }
 }
 
@@ -134,13 +144,19 @@ fn fit_byte(random: &mut Random) -> u8 {
     }
 }
 
-/// A fit set, the standard one in about half of all cases.
+/// A fit set, the standard one in about half of all cases; CR or LF is now and then one of the three.
 fn fit_set(random: &mut Random) -> Separators {
     if random.chance(50) {
         return Separators::STANDARD;
     }
     loop {
-        let set = Separators::new(fit_byte(random), fit_byte(random), fit_byte(random));
+        let mut set = [fit_byte(random), fit_byte(random), fit_byte(random)];
+        for byte in *b"\r\n" {
+            if random.chance(5) {
+                set[random.below(3)] = byte;
+            }
+        }
+        let set = Separators::new(set[0], set[1], set[2]);
         if set.fit() {
             return set;
         }

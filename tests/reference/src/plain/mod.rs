@@ -1,9 +1,10 @@
 //! The same reading in the plainest way: slow, allocating, and taken from the words of document 01 and
-//! of document 02, Item 1.
+//! of document 02, Items 1 and 3.
 //!
-//! It shares with the fast reader only the types of the separators and of the answer. The row list
-//! and the element rules are read from the paper's text at run time, and rows are found from the
-//! bracketed list itself by keeping every way in which the list may still go on.
+//! It shares with the fast reader only the types of the separators, of the choice between readings and
+//! of the answer. The row list and the element rules are read from the paper's text at run time, and
+//! rows are found from the bracketed list itself by keeping every way in which the list may still go
+//! on.
 
 mod elements;
 mod rows;
@@ -12,14 +13,20 @@ mod segment;
 pub use elements::{rules, Kind, Note, Rule, Rules};
 pub use rows::{candidates, first_ways, parse, Part, Ways, PAPER};
 
-use crate::{Answer, Separators};
+use crate::{Answer, LineEnds, Separators};
 use segment::Segment;
 
 /// A fault: the answer's number and the element.
 type Fault = (usize, usize);
 
 /// Reads a transaction and fills both tables, as `read` does.
-pub fn read_plain(input: &[u8], separators: Separators, segments: &mut [u64], levels: &mut [u64]) -> Answer {
+pub fn read_plain(
+    input: &[u8],
+    separators: Separators,
+    line_ends: LineEnds,
+    segments: &mut [u64],
+    levels: &mut [u64],
+) -> Answer {
     if !fit(separators) {
         return refusal(1, 0, 0, 0);
     }
@@ -30,6 +37,9 @@ pub fn read_plain(input: &[u8], separators: Separators, segments: &mut [u64], le
     let mut start = 0;
     loop {
         let number = reading.accepted.len() + 1;
+        if line_ends == LineEnds::Skipped && number > 1 {
+            start += line_end(&input[start..], separators);
+        }
         let taken = Segment::first(&input[start..], start, separators)
             .and_then(|segment| reading.take(segment, segments.len() / 3, levels.len() / 4));
         let segment = match taken {
@@ -42,6 +52,19 @@ pub fn read_plain(input: &[u8], separators: Separators, segments: &mut [u64], le
             return Answer::Accepted { segments: number, levels: reading.levels.len(), bytes: start };
         }
     }
+}
+
+/// How many bytes are skipped of what stands behind a terminator: at most one CR and then at most one LF,
+/// unless that byte is itself a separator.
+fn line_end(rest: &[u8], separators: Separators) -> usize {
+    let three = [separators.element, separators.component, separators.terminator];
+    let mut left = rest;
+    for byte in *b"\r\n" {
+        if !three.contains(&byte) {
+            left = left.strip_prefix(&[byte]).unwrap_or(left);
+        }
+    }
+    rest.len() - left.len()
 }
 
 fn refusal(number: usize, segment: usize, byte: usize, element: usize) -> Answer {

@@ -56,13 +56,21 @@ fn open(levels: &[String], segments: usize) -> Vec<String> {
     start.into_iter().chain(levels.iter().cloned()).chain(faults.into_iter().cycle()).take(segments).collect()
 }
 
+/// The report with CR LF between its segments.
+fn in_lines(report: &str) -> String {
+    report.split_inclusive('~').collect::<Vec<&str>>().join("\r\n")
+}
+
 fn segments() -> Vec<Report> {
     let open = |segments| open(&["HL*1**I".to_string()], segments);
     let and = |segments, last: &str| [open(segments), vec![last.to_string()]].concat();
+    let last = in_lines(&joined(&open(1000))).len() as u64 + 2;
     vec![
         Report::accepted("segments-999", closed(&open(998)), 999, 1),
         Report::accepted("segments-1000", closed(&open(999)), 1000, 1),
+        Report::accepted("segments-1000-in-lines", in_lines(&closed(&open(999))), 1000, 1),
         Report::refused("segments-1001", closed(&open(1000)), 17, 1001, 0),
+        Report::told("segments-1001-in-lines", in_lines(&closed(&open(1000))), [17, 1001, last, 0]),
         Report::refused("segments-1001-no-se", closed(&open(1001)), 17, 1001, 0),
         Report::refused("segments-1001-hl", closed(&and(1000, "HL*2*1*F")), 17, 1001, 0),
         Report::refused("segments-1001-wrong-se", joined(&and(1000, "SE*1000*0001")), 16, 1001, 1),

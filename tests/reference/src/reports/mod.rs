@@ -7,7 +7,7 @@ mod odd;
 
 use crate::generator;
 use crate::vectors::text::start_of;
-use crate::vectors::{groups, Case, Group, Told};
+use crate::vectors::{groups, Case, Group, How, Told};
 use crate::Separators;
 
 /// How many generated reports there are.
@@ -50,18 +50,17 @@ pub fn reports() -> Vec<Report> {
     of_vectors.chain(made).chain(generated()).collect()
 }
 
-/// The vectors that the program can be given: readings with the standard separators. Those that lack
-/// room, W10 among them, cannot be: the program's room is its own, and `limits` goes to its end.
+/// The vectors that the program can be given: readings by the default with the standard separators. Those
+/// that lack room, W10 among them, cannot be: the program's room is its own, and `limits` goes to its end.
 fn of_vectors(group: Group) -> Vec<Report> {
-    if !["answers", "astray", "attached", "worked"].contains(&group.name.as_str()) {
+    if !["answers", "astray", "attached", "lines", "worked"].contains(&group.name.as_str()) {
         return Vec::new();
     }
     let report = |(number, told): (usize, _)| match told {
-        Told { case: Case::Read { input, separators, .. }, answer: Some(answer) }
-            if separators == Separators::STANDARD && answer[0] != 17 =>
-        {
-            Some(Report::told(&format!("{}-{number:03}", group.name), input, answer))
-        }
+        Told {
+            case: Case::Read { input, separators: Separators::STANDARD, how: How::DEFAULT, .. },
+            answer: Some(answer),
+        } if answer[0] != 17 => Some(Report::told(&format!("{}-{number:03}", group.name), input, answer)),
         _ => None,
     };
     (1..).zip(group.cases).filter_map(report).collect()

@@ -12,17 +12,33 @@ pub fn reports() -> Vec<Report> {
     reports
 }
 
-/// A line end is no data: behind a terminator it spoils the next segment's tag. Behind the SE it is
-/// not looked at.
+/// Between two segments at most one CR and then at most one LF are skipped. Left over, before ST and within
+/// a segment they are no data; behind the SE they are not looked at.
 fn line_ends() -> Vec<Report> {
     let ended = |end: &str| -> String { W1.iter().map(|segment| format!("{segment}~{end}")).collect() };
+    let mixed: String = W1
+        .iter()
+        .zip(["\r\n", "\n", "\r", "", "\r\n", "\n", "\r\n"])
+        .map(|(segment, end)| format!("{segment}~{end}"))
+        .collect();
+    let before_bin = "ST*842*0001~\r\nBNR*1~\r\nHL*1**I~\r\nNCD*1~\r\nEFI*1~\r\n";
     vec![
-        Report::refused("line-end-lf", ended("\n"), 5, 2, 0),
-        Report::refused("line-end-cr-lf", ended("\r\n"), 5, 2, 0),
+        Report::told("line-end-cr-lf", ended("\r\n"), [0, 7, 2, 90]),
+        Report::told("line-end-lf", ended("\n"), [0, 7, 2, 84]),
+        Report::told("line-end-cr", ended("\r"), [0, 7, 2, 84]),
+        Report::told("line-end-none", ended(""), [0, 7, 2, 78]),
+        Report::told("line-end-mixed", mixed, [0, 7, 2, 85]),
+        Report::told("line-end-lf-cr", ended("\n\r"), [5, 2, 13, 0]),
+        Report::told("line-end-cr-cr-lf", ended("\r\r\n"), [5, 2, 13, 0]),
+        Report::told("line-end-twice", ended("\r\n\r\n"), [5, 2, 14, 0]),
+        Report::told("line-end-last", format!("{}~\r\n", W1[0]), [3, 2, 14, 0]),
+        Report::told("line-end-bin", format!("{before_bin}BIN*2*\r\n~\r\nSE*7*0001~\r\n"), [0, 7, 1, 69]),
+        Report::told("line-end-bin-broken", format!("{before_bin}BIN*2*\r\n\r\n~"), [10, 6, 48, 2]),
         Report::refused("line-end-before-st", format!("\n{}", joined(&W1)), 5, 1, 0),
         Report::refused("line-end-in-element", format!("{}\n~", W1[0]), 5, 1, 2),
         Report::refused("line-end-alone", "\n".to_string(), 3, 1, 0),
         Report::told("line-end-behind-se", joined(&W1) + "\n", [0, 7, 2, 78]),
+        Report::told("line-end-behind-se-cr-lf", joined(&W1) + "\r\n", [0, 7, 2, 78]),
     ]
 }
 

@@ -34,7 +34,7 @@ pub fn cases() -> Vec<Told> {
 fn unfit_sets() -> Vec<Told> {
     let input = joined(&W1).into_bytes();
     let separators = Separators::new(b'*', b'*', b'~');
-    let case = Case::Read { input, separators, rooms: (23, 11) };
+    let case = Case::read(input, separators, (23, 11));
     vec![Told { case, answer: Some([1, 0, 0, 0]) }]
 }
 

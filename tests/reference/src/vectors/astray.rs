@@ -1,6 +1,6 @@
 //! Where readers have gone astray, and points that are easily read in two ways.
 
-use super::case::{Case, Told};
+use super::case::{Case, How, Told};
 use super::text::{accepted, after_bnr, closed, in_fault, in_heading, in_level, joined, refused, start_of};
 use crate::Separators;
 
@@ -114,7 +114,7 @@ fn cutting() -> Vec<Told> {
         refused("ST*842*0001", 3, 1, 0),
         refused("ST*842*0001~", 3, 2, 0),
         refused("ST*842*0001~BNR*1", 3, 2, 0),
-        refused("ST*842*0001~\nBNR*1~", 5, 2, 0),
+        refused("ST*842*0001~\nBNR*1~", 5, 2, 0).by(How::STRICT),
         refused("BNR*~", 6, 1, 1),
         refused("BNR*1~", 7, 1, 0),
         refused("SE*1*0001~", 7, 1, 0),
@@ -354,7 +354,7 @@ fn closing() -> Vec<Told> {
 /// A reading with so much room.
 fn with_room(text: &str, rooms: (usize, usize), answer: [u64; 3]) -> Told {
     let byte = start_of(text.as_bytes(), b'~', answer[1]);
-    let case = Case::Read { input: text.into(), separators: Separators::STANDARD, rooms };
+    let case = Case::read(text.into(), Separators::STANDARD, rooms);
     Told { case, answer: Some([answer[0], answer[1], byte, answer[2]]) }
 }
 

@@ -1,6 +1,25 @@
 //! One case: how it is written into a file, and what is printed for it.
 
-use crate::{component_span, element_span, read, rewrite, Answer, Separators};
+use crate::{component_span, element_span, read, rewrite, Answer, LineEnds, Separators};
+
+/// How a report is read: the byte of a case that says so. Only its lowest bit is looked at.
+#[derive(Clone, Copy, Debug, PartialEq, Eq)]
+pub struct How(pub u8);
+
+impl How {
+    /// Line ends are skipped.
+    pub const DEFAULT: How = How(0);
+    /// Line ends belong to the segment that they stand before.
+    pub const STRICT: How = How(1);
+
+    /// What becomes of line ends.
+    pub const fn line_ends(self) -> LineEnds {
+        match self.0 & 1 {
+            0 => LineEnds::Skipped,
+            _ => LineEnds::Strict,
+        }
+    }
+}
 
 /// One case.
 #[derive(Clone, Debug)]
@@ -11,6 +30,8 @@ pub enum Case {
         input: Vec<u8>,
         /// The separators.
         separators: Separators,
+        /// How it is read.
+        how: How,
         /// How many numbers each table has, segments first.
         rooms: (usize, usize),
     },
@@ -33,6 +54,8 @@ pub enum Case {
         input: Vec<u8>,
         /// The separators.
         separators: Separators,
+        /// How it is read.
+        how: How,
         /// How many numbers each table has, segments first.
         rooms: (usize, usize),
         /// How long the input is: behind its first bytes stand bytes `~`.
@@ -67,6 +90,17 @@ pub struct Told {
     pub answer: Option<[u64; 4]>,
 }
 
+impl Told {
+    /// The same reading by that choice.
+    pub fn by(mut self, choice: How) -> Told {
+        match &mut self.case {
+            Case::Read { how, .. } | Case::Long { how, .. } => *how = choice,
+            other => panic!("no reading: {other:?}"),
+        }
+        self
+    }
+}
+
 impl From<Case> for Told {
     fn from(case: Case) -> Told {
         Told { case, answer: None }
@@ -90,17 +124,29 @@ fn little(number: usize, bytes: usize) -> Vec<u8> {
 }
 
 impl Case {
+    /// A reading by the default.
+    pub fn read(input: Vec<u8>, separators: Separators, rooms: (usize, usize)) -> Case {
+        Case::Read { input, separators, how: How::DEFAULT, rooms }
+    }
+
+    /// A reading by the default of an input that is filled up to this length.
+    pub fn long(input: Vec<u8>, separators: Separators, rooms: (usize, usize), length: usize) -> Case {
+        Case::Long { input, separators, how: How::DEFAULT, rooms, length }
+    }
+
     /// The header of sixteen bytes and the input.
     pub fn encode(&self, file: &mut Vec<u8>) {
         let none = Separators::new(0, 0, 0);
         let length = |bytes: &[u8]| Separators::new(bytes[0], bytes[1], bytes[2]);
         let (kind, old, new, rooms, asked, input) = match self {
-            Case::Read { input, separators, rooms } => (1, *separators, none, *rooms, 0, input),
+            Case::Read { input, separators, how, rooms } => {
+                (1, *separators, none, *rooms, usize::from(how.0), input)
+            }
             Case::Rewrite { input, separators, new, rooms, output } => {
                 (2, *separators, *new, *rooms, *output, input)
             }
-            Case::Long { input, separators, rooms, length: bytes } => {
-                (5, *separators, length(&little(*bytes, 3)), *rooms, 0, input)
+            Case::Long { input, separators, how, rooms, length: bytes } => {
+                (5, *separators, length(&little(*bytes, 3)), *rooms, usize::from(how.0), input)
             }
             Case::Element { segment, separator, number } => {
                 (3, Separators::new(*separator, 0, 0), none, (0, 0), *number, segment)
@@ -121,10 +167,8 @@ impl Case {
     /// Runs the case and prints what comes of it.
     pub fn print(&self, out: &mut String) {
         match self {
-            Case::Read { input, separators, rooms } => {
-                let mut tables = Tables::lent(*rooms);
-                let answer = read(input, *separators, &mut tables.segments, &mut tables.levels);
-                print_answer(out, answer, &tables);
+            Case::Read { input, separators, how, rooms } => {
+                print_reading(out, input, *separators, *how, *rooms);
             }
             Case::Rewrite { input, separators, new, rooms, output } => {
                 let mut tables = Tables::lent(*rooms);
@@ -134,12 +178,10 @@ impl Case {
                 print_answer(out, answer, &tables);
                 print_line(out, "output", &output);
             }
-            Case::Long { input, separators, rooms, length } => {
-                let mut tables = Tables::lent(*rooms);
+            Case::Long { input, separators, how, rooms, length } => {
                 let mut long = input.clone();
                 long.resize(*length, b'~');
-                let answer = read(&long, *separators, &mut tables.segments, &mut tables.levels);
-                print_answer(out, answer, &tables);
+                print_reading(out, &long, *separators, *how, *rooms);
             }
             Case::Element { segment, separator, number } => {
                 print_span(out, element_span(segment, *separator, *number));
@@ -161,6 +203,13 @@ impl Tables {
     fn lent(rooms: (usize, usize)) -> Tables {
         Tables { segments: lent_numbers(700_000, rooms.0), levels: lent_numbers(800_000, rooms.1) }
     }
+}
+
+/// Reads and prints what comes of it.
+fn print_reading(out: &mut String, input: &[u8], separators: Separators, how: How, rooms: (usize, usize)) {
+    let mut tables = Tables::lent(rooms);
+    let answer = read(input, separators, how.line_ends(), &mut tables.segments, &mut tables.levels);
+    print_answer(out, answer, &tables);
 }
 
 fn print_answer(out: &mut String, answer: Answer, tables: &Tables) {

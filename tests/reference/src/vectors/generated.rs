@@ -1,14 +1,14 @@
 //! Generated reports in the form of the vectors, for a comparison over many seeds.
 
-use super::case::{Case, Told};
+use super::case::{Case, How, Told};
 use super::{Group, FILE_BYTES, OUTPUT_BYTES, TABLE_NUMBERS};
 use crate::generator;
 
 /// Longer inputs are left out.
 const INPUT_BYTES: usize = 12_000;
 
-/// A reading and a rewriting for each of the seeds, in as many files as it takes. Tables and
-/// outputs are cut down to what a case may have.
+/// Two readings, by the default and strictly, and a rewriting for each of the seeds, in as many files as
+/// it takes. Tables and outputs are cut down to what a case may have.
 pub fn generated(first: u64, count: u64) -> Vec<Group> {
     let mut groups = Vec::new();
     let mut cases = Vec::new();
@@ -18,13 +18,13 @@ pub fn generated(first: u64, count: u64) -> Vec<Group> {
         if report.input.len() > INPUT_BYTES {
             continue;
         }
-        let added = 2 * (16 + report.input.len());
+        let added = 3 * (16 + report.input.len());
         if size + added >= FILE_BYTES {
             groups.push(Group { name: name(groups.len()), cases: std::mem::take(&mut cases) });
             size = 0;
         }
         size += added;
-        cases.extend(both(report));
+        cases.extend(all(report));
     }
     if !cases.is_empty() {
         groups.push(Group { name: name(groups.len()), cases });
@@ -32,13 +32,17 @@ pub fn generated(first: u64, count: u64) -> Vec<Group> {
     groups
 }
 
-/// The reading and the rewriting of a report.
-fn both(report: generator::Case) -> [Told; 2] {
+/// The readings and the rewriting of a report.
+fn all(report: generator::Case) -> [Told; 3] {
     let generator::Case { input, separators, new, .. } = report;
     let rooms = (report.segment_numbers.min(TABLE_NUMBERS), report.level_numbers.min(TABLE_NUMBERS));
     let output = report.output_length.min(OUTPUT_BYTES);
+    let read = Told::from(Case::read(input.clone(), separators, rooms));
+    // Bits that have no name, and that nothing looks at.
+    let unnamed = report.seed as u8 & !3;
     [
-        Case::Read { input: input.clone(), separators, rooms }.into(),
+        read.clone().by(How(unnamed)),
+        read.by(How(unnamed | 1)),
         Case::Rewrite { input, separators, new, rooms, output }.into(),
     ]
 }

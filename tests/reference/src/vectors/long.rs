@@ -9,7 +9,7 @@ const LONGEST: usize = 1_048_576;
 
 /// The report filled up with `~` to that length, and its answer.
 fn filled(report: &str, separators: Separators, length: usize, answer: [u64; 4]) -> Told {
-    let case = Case::Long { input: report.into(), separators, rooms: (23, 9), length };
+    let case = Case::long(report.into(), separators, (23, 9), length);
     Told { case, answer: Some(answer) }
 }
 

@@ -6,6 +6,7 @@ mod attached;
 mod bounds;
 mod case;
 mod generated;
+mod lines;
 mod long;
 mod lookups;
 mod pairs;
@@ -16,7 +17,7 @@ pub mod text;
 mod whole;
 mod worked;
 
-pub use case::{Case, Told};
+pub use case::{Case, How, Told};
 pub use generated::generated;
 
 use std::fs;
@@ -45,6 +46,7 @@ pub fn groups() -> Vec<Group> {
         ("astray", astray::cases()),
         ("attached", attached::cases()),
         ("bounds", bounds::cases()),
+        ("lines", lines::cases()),
         ("long", long::cases()),
         ("lookups", lookups::cases()),
         ("pairs", pairs::cases()),

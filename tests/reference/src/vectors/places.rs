@@ -31,7 +31,7 @@ fn place(way: &[Tag], tag: Tag) -> Told {
     let segments: Vec<String> = tags.iter().enumerate().map(|(at, tag)| segment(*tag, at + 1)).collect();
     let levels = tags.iter().filter(|tag| **tag == Tag::HL).count();
     let rooms = (3 * segments.len() + 1, 4 * levels);
-    Case::Read { input: joined(&segments).into_bytes(), separators: Separators::STANDARD, rooms }.into()
+    Case::read(joined(&segments).into_bytes(), Separators::STANDARD, rooms).into()
 }
 
 /// The shortest way to a row, found by going one row further at a time.

@@ -13,7 +13,7 @@ fn report() -> String {
 fn own(set: Separators, fit: bool) -> Told {
     let input = written_with(&report(), set);
     let answer = if fit { [0, 4, 1, input.len() as u64] } else { [1, 0, 0, 0] };
-    Told { case: Case::Read { input, separators: set, rooms: (13, 5) }, answer: Some(answer) }
+    Told { case: Case::read(input, set, (13, 5)), answer: Some(answer) }
 }
 
 /// Fit as one of three, by the paper's list of what is not.
@@ -65,7 +65,7 @@ fn sets() -> Vec<Told> {
 fn foreign() -> Vec<Told> {
     let read = |set: [u8; 3], answer: [u64; 4]| {
         let separators = Separators::new(set[0], set[1], set[2]);
-        let case = Case::Read { input: report().into_bytes(), separators, rooms: (13, 5) };
+        let case = Case::read(report().into_bytes(), separators, (13, 5));
         Told { case, answer: Some(answer) }
     };
     vec![
@@ -87,7 +87,7 @@ fn controls() -> Vec<Told> {
     let set = Separators::new(1, 2, 3);
     let read = |text: &str, answer: [u64; 4]| {
         let input = written_with(text, set);
-        Told { case: Case::Read { input, separators: set, rooms: (13, 5) }, answer: Some(answer) }
+        Told { case: Case::read(input, set, (13, 5)), answer: Some(answer) }
     };
     vec![
         read("ST*842*0\x0401~", [5, 1, 0, 2]),

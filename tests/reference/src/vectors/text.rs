@@ -61,7 +61,7 @@ pub fn enough(input: &[u8], separators: Separators) -> (usize, usize) {
     let segments = input.iter().filter(|byte| **byte == separators.terminator).count();
     let levels = input
         .split(|byte| *byte == separators.terminator)
-        .filter(|segment| segment.starts_with(&[b'H', b'L', separators.element]))
+        .filter(|segment| segment.trim_ascii_start().starts_with(&[b'H', b'L', separators.element]))
         .count();
     ((3 * segments + 2).min(120), (4 * levels + 3).min(120))
 }
@@ -69,7 +69,7 @@ pub fn enough(input: &[u8], separators: Separators) -> (usize, usize) {
 /// A reading with the standard separators and enough room.
 pub fn reading(input: &[u8]) -> Case {
     let separators = Separators::STANDARD;
-    Case::Read { input: input.to_vec(), separators, rooms: enough(input, separators) }
+    Case::read(input.to_vec(), separators, enough(input, separators))
 }
 
 /// A reading that is accepted with so many segments and levels, and all its bytes.

@@ -16,7 +16,7 @@ pub fn truncated() -> Vec<Told> {
             let before = STARTS.iter().filter(|start| **start <= length as u64).count();
             let answer =
                 if length == whole.len() { [0, 7, 2, 78] } else { [3, before as u64, STARTS[before - 1], 0] };
-            let case = Case::Read { input, separators: Separators::STANDARD, rooms: (22, 9) };
+            let case = Case::read(input, Separators::STANDARD, (22, 9));
             Told { case, answer: Some(answer) }
         })
         .collect()
@@ -35,7 +35,7 @@ pub fn rooms() -> Vec<Told> {
             let whole = (segments / 3).min(by_levels);
             let answer = if whole == 7 { [0, 7, 2, 78] } else { [17, whole as u64 + 1, STARTS[whole], 0] };
             let input = joined(&W1).into_bytes();
-            let case = Case::Read { input, separators: Separators::STANDARD, rooms: (segments, levels) };
+            let case = Case::read(input, Separators::STANDARD, (segments, levels));
             cases.push(Told { case, answer: Some(answer) });
         }
     }

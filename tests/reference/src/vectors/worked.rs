@@ -1,6 +1,6 @@
-//! The worked reports W1 to W12 of document 01.
+//! The worked reports W1 to W12 of document 01, by both choices: they have no line ends.
 
-use super::case::{Case, Told};
+use super::case::{Case, How, Told};
 use super::text::{accepted, joined, refused, w1_with, W1};
 use crate::Separators;
 
@@ -14,12 +14,17 @@ fn with_dtm(dtm: &str) -> String {
 
 /// W10: room for six segments.
 fn six_segments() -> Told {
-    let case =
-        Case::Read { input: joined(&W1).into_bytes(), separators: Separators::STANDARD, rooms: (20, 8) };
+    let case = Case::read(joined(&W1).into_bytes(), Separators::STANDARD, (20, 8));
     Told { case, answer: Some([17, 7, 68, 0]) }
 }
 
 pub fn cases() -> Vec<Told> {
+    let strictly = reports().into_iter().map(|told| told.by(How::STRICT));
+    reports().into_iter().chain(strictly).collect()
+}
+
+/// The reports, by the default.
+pub fn reports() -> Vec<Told> {
     vec![
         accepted(joined(&W1), 7, 2),
         refused(w1_with(4, "HL*2*1*F*0"), 14, 4, 2),

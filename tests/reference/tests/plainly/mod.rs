@@ -1,7 +1,7 @@
 //! Lookup and rewriting said plainly once more, for the tests to compare with.
 
 use reference::plain::read_plain;
-use reference::{Answer, Separators};
+use reference::{Answer, LineEnds, Separators};
 
 /// The elements of a segment, the tag first. BIN02 is whole where the count ends exactly with the
 /// segment's bytes.
@@ -34,7 +34,7 @@ fn refused(number: usize, segment: usize, byte: usize, element: usize) -> Answer
     Answer::Refused { number, segment, byte, element }
 }
 
-/// Rewriting, segment by segment and element by element.
+/// Rewriting, segment by segment and element by element. It reads strictly.
 pub fn rewrite(
     input: &[u8],
     old: Separators,
@@ -49,7 +49,7 @@ pub fn rewrite(
     if !new.fit() {
         return refused(1, 0, 0, 1);
     }
-    let answer = read_plain(input, old, segments, levels);
+    let answer = read_plain(input, old, LineEnds::Strict, segments, levels);
     let Answer::Accepted { segments: count, .. } = answer else { return answer };
     let mut written = Vec::new();
     for (at, record) in segments.chunks(3).take(count).enumerate() {

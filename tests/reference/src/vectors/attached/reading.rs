@@ -217,7 +217,7 @@ fn places() -> Vec<Told> {
 /// Room comes after everything else.
 fn rooms() -> Vec<Told> {
     let with_room = |input: Vec<u8>, segments: usize, answer: [u64; 4]| {
-        let case = Case::Read { input, separators: Separators::STANDARD, rooms: (segments, 4) };
+        let case = Case::read(input, Separators::STANDARD, (segments, 4));
         Told { case, answer: Some(answer) }
     };
     vec![
@@ -238,7 +238,7 @@ fn other_sets() -> Vec<Told> {
         let start = written_with(BEFORE, separators);
         let input = [&start[..], bin, &written_with("SE*7*0001~", separators)].concat();
         let answer = answer.unwrap_or([0, 7, 1, input.len() as u64]);
-        Told { case: Case::Read { input, separators, rooms: (23, 5) }, answer: Some(answer) }
+        Told { case: Case::read(input, separators, (23, 5)), answer: Some(answer) }
     };
     vec![
         read([1, 2, 3], b"BIN\x016\x01*:~\x01\x02\x03\x03", None),
@@ -279,7 +279,7 @@ fn cut_everywhere() -> Vec<Told> {
 fn long() -> Vec<Told> {
     let filled = |count: u64, answer: [u64; 4]| {
         let input = ending(format!("BIN*{count}*").as_bytes());
-        let case = Case::Long { input, separators: Separators::STANDARD, rooms: (23, 5), length: 1_048_576 };
+        let case = Case::long(input, Separators::STANDARD, (23, 5), 1_048_576);
         Told { case, answer: Some(answer) }
     };
     vec![
