@@ -7,6 +7,7 @@ ghost use lib.Dec.{T};
 ghost use lib.ListN.{length, drop, set};
 ghost use Rattle.reading.specs.internal.SpecialBytes.{isSpecialIn, SpecialTable, Fills};
 ghost use Rattle.reading.specs.internal.Queue.{bit, Indexed, Window, Ready};
+ghost use Rattle.reading.specs.internal.Between.{Serves};
 ghost use Rattle.reading.specs.internal.Cutting.{layoutOf, Stops, CutsPlainly, CutsCounted, CutsBin, Cuts};
 ghost use Rattle.text.specs.Separators.{Fitted};
 ghost use Rattle.text.specs.Bin.{beginsBin};
@@ -41,6 +42,13 @@ impl Left {
         tail: 0,
         seen: 0,
     };
+}
+
+// Where the next segment starts, what is left of the queue there, and whether `BIN` and the element separator begin it.
+pub(crate) struct Onward {
+    pub at: usize,
+    pub left: Left,
+    pub bin: bool,
 }
 
 // The bytes from `from` to `last` get this entry.
@@ -274,24 +282,32 @@ fn next_bin(s: &[u8], separators: Separators, at: usize, starts: &mut [usize; 33
     }
 }
 
-// The next segment from `at` on.
+// The next segment from its start on.
 pub(crate) fn next_segment(
     s: &[u8],
     specials: &[bool; 256],
     separators: Separators,
-    at: usize,
-    left: Left,
+    onward: Onward,
     queue: &mut [usize; 72],
     starts: &mut [usize; 33],
 ) -> Next
     requires { ⌜ SpecialTable separators (now specials) ⌝ }
     requires { ⌜ Fitted separators ⌝ }
-    requires { ⌜ Ready (now specials) (now s) at (now queue) (left .head) (left .tail) (left .seen) ⌝ }
+    requires { ⌜ Serves (now specials) (now s) (onward .at) (now queue) (onward .left) ⌝ }
+    requires { ⌜ onward .bin ≡ beginsBin (separators .element) (drop (onward .at) (now s)) ⌝ }
     requires { ⌜ length (now starts) ≡ 33 ⌝ }
-    ensures { λ r. ⌜ Cuts separators (now (specials .entry)) (now (s .entry)) at (now (queue .exit)) (now (starts .exit)) r ⌝ }
+    ensures { λ r. ⌜ Cuts separators (now (specials .entry)) (now (s .entry)) (onward .at) (now (queue .exit)) (now (starts .exit)) r ⌝ }
 {
-    if bin::begins(s, at, separators.element) {
-        return next_bin(s, separators, at, starts);
+    if onward.bin {
+        return next_bin(s, separators, onward.at, starts);
     }
-    next_plain(s, specials, separators, at, left, queue, starts)
+    next_plain(
+        s,
+        specials,
+        separators,
+        onward.at,
+        onward.left,
+        queue,
+        starts,
+    )
 }

@@ -75,23 +75,17 @@ fn read_on(
 {
     let mut queue: [usize; 72] = [0; 72];
     let mut starts: [usize; 33] = [0; 33];
-    let mut at: usize = 0;
+    let mut behind: usize = 0;
     let mut left = Left::NOTHING;
     let mut state = State::START;
     loop {
-        match cutting::next_segment(
-            s,
-            specials,
-            how.separators,
-            at,
-            left,
-            &mut queue,
-            &mut starts,
-        ) {
+        let onward = between::next_start(s, how, behind, left);
+        let at = onward.at;
+        match cutting::next_segment(s, specials, how.separators, onward, &mut queue, &mut starts) {
             Next::Open => return refused(3, state.count, at, 0),
             Next::Bad(end) => return bad_bytes(s, how, at, end, state.count),
             Next::Broken(element) => return refused(10, state.count, at, element),
-            Next::Segment(layout, behind) => {
+            Next::Segment(layout, remaining) => {
                 let judgement = judging::judge(
                     s,
                     how,
@@ -106,9 +100,8 @@ fn read_on(
                     Step::Done(answer) => return answer,
                     Step::Passed(next) => {
                         state = next;
-                        let onward = between::past_line_end(s, how, layout.end + 1, behind);
-                        at = onward.at;
-                        left = onward.left;
+                        behind = layout.end + 1;
+                        left = remaining;
                     }
                 }
             }

@@ -97,6 +97,11 @@ module _ (q : Separators) where
   skip-law Skipped = record { few = few; near = near; none = λ b z h. no-line-end b z (capital-above b h .1) }
   skip-law Strict = record { few = λ s. omega arith; near = λ gap b b′ y z o e. e; none = λ b z h. refl }
 
+-- no byte above CR is skipped
+pub skip-none : (q : Separators) (lines : LineEnds) (x : ℕ) (s : Bytes) → CR < x → skipOf lines q (x ∷ s) ≡ 0
+skip-none q Skipped x s l = no-line-end q x s l
+skip-none q Strict x s l = refl
+
 -- What is skipped
 module _ (q : Separators) where
   -- a byte that is counted is that byte

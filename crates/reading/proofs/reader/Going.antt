@@ -23,7 +23,9 @@ use Rattle.gate.specs.Reads.{Read}
 use Rattle.reading.specs.internal.Cutting.{cutOut, Cuts, BadSegment, GoodSegment}
 use Rattle.reading.specs.internal.Judgements.{Inside, JudgesNext}
 use Rattle.reading.specs.internal.Settling.{refusedBy, InRoom, Stands, Settles, SettlesBy}
-use Rattle.reading.specs.internal.Between.{nextStart}
+use Rattle.reading.specs.internal.SpecialBytes.{SpecialTable}
+use Rattle.reading.specs.internal.Queue.{Ready}
+use Rattle.reading.specs.internal.Between.{startAt, Starts}
 use Rattle.reading.specs.internal.Loop.{Going}
 use Rattle.gate.specs.declared.answer.Answer.{Answer}
 use Rattle.gate.specs.declared.answer.Answer.the-variants.{Refused}
@@ -34,6 +36,7 @@ use Rattle.elements.specs.declared.layout.Layout.{Layout}
 use Rattle.reading.specs.declared.judging.State.{State}
 use Rattle.reading.specs.declared.settling.Step.{Step}
 use Rattle.reading.specs.declared.settling.Step.the-variants.{Done, Passed}
+use Rattle.reading.specs.declared.cutting.Onward.{Onward}
 use Rattle.reading.specs.declared.cutting.Left.{Left}
 use Rattle.reading.specs.declared.cutting.Next.{Next}
 use Rattle.reading.specs.declared.cutting.Next.the-variants.{Open, Bad, Broken, Segment}
@@ -47,10 +50,22 @@ use Rattle.reading.proofs.reader.Standings.{standing-start, standing-re
 pub going-start : (how : How) (s : Bytes) (specials : List Bool) (before : Tables) (queue starts : List ℕ) → length queue ≡ 72 → length starts ≡ 33
     → Going how s specials before (before .segments) (before .levels) queue starts 0 (record { head = 0; tail = 0; seen = 0 }) (record { count = 0; row = 0; again = false; known = knownNone })
 going-start how s specials before queue starts q r = record {
-  stands = record { gs = []; rows = []; standing = standing-start how before s };
+  stands = let z : 0 ≡ 0 + 0 = omega arith in rw (← z) (record { gs = []; rows = []; standing = standing-start how before s });
   ready = ready-none specials s 0 queue (omega arith) q;
   room = r;
 }
+
+-- past the line end the reader stands where the next segment starts, and the queue serves the cut there
+module _ {how : How} {s : Bytes} {specials : List Bool} {before : Tables} {segments levels queue starts : List ℕ} {behind : ℕ} {left : Left}
+    {state : State} (going : Going how s specials before segments levels queue starts behind left state) {r : Onward} (past : Starts how s behind left r) where
+  pub onward-stands : Stands how before s segments levels (r .at) state
+  onward-stands = rw (past .start) (going .stands)
+
+  pub onward-ready : SpecialTable (how .separators) specials → Ready specials s (r .at) queue (r .left .head) (r .left .tail) (r .left .seen)
+  onward-ready table = past .ready specials queue table (going .ready)
+
+  pub onward-forward : behind ≤ r .at
+  onward-forward = omega (arith, past .start)
 
 module _ {how : How} {s : Bytes} {before : Tables} {segments levels : List ℕ} {at : ℕ} {state : State}
     (stands : Stands how before s segments levels at state) where
@@ -164,5 +179,5 @@ module _ {how : How} {s : Bytes} {specials : List Bool} {queue starts : List ℕ
       settled-done a e = subst (λ (x : Step). Settles how before s layout segments′ levels′ x) e settled
 
       -- the next place
-      pub settled-passed : (after : State) → r ≡ Passed after → Stands how before s segments′ levels′ (nextStart how s (layout .end + 1)) after
+      pub settled-passed : (after : State) → r ≡ Passed after → Stands how before s segments′ levels′ (startAt how s (layout .end + 1)) after
       settled-passed after e = subst (λ (x : Step). Settles how before s layout segments′ levels′ x) e settled

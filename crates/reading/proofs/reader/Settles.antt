@@ -18,7 +18,7 @@ use Rattle.levels.specs.Widths.{segmentWidth, levelWidth}
 use Rattle.gate.specs.Segments.{seen, onto}
 use Rattle.gate.specs.Records.{Tables, Room}
 use Rattle.reading.specs.internal.Judgements.{Judges}
-use Rattle.reading.specs.internal.Between.{nextStart}
+use Rattle.reading.specs.internal.Between.{startAt}
 use Rattle.reading.specs.internal.Settling.{stateAfter, refusedAt, acceptedAt, Settling, Stands, Settles}
 use Rattle.gate.specs.declared.how.How.{How}
 use Rattle.finding.specs.declared.known.Known.{Known}
@@ -107,7 +107,7 @@ module _ {how : How} {before : Tables} {s : Bytes} {segments levels : List ℕ} 
   -- passed
   pub settles-other : (row : ℕ) → j ≡ Other row → state .count < length segments / segmentWidth → (segments′ : List ℕ)
       → segments′ ≡ storedAt segmentWidth segments (state .count) (layout .at ∷ (layout .end - layout .at) ∷ row ∷ []) → (after : State)
-      → after ≡ stateAfter state row (state .known) → Stands how before s segments′ levels (nextStart how s (layout .end + 1)) after
+      → after ≡ stateAfter state row (state .known) → Stands how before s segments′ levels (startAt how s (layout .end + 1)) after
   settles-other row q room segments′ stored after is =
       let p = says (Other row) q in
       rw (stored, is, long, ← next-at) (record {
@@ -119,7 +119,7 @@ module _ {how : How} {before : Tables} {s : Bytes} {segments levels : List ℕ} 
   pub settles-level : (row : ℕ) (level : NewLevel) (known : Known) → j ≡ Level row level known → state .count < length segments / segmentWidth → state .known .levels < length levels / levelWidth
       → (segments′ : List ℕ) → segments′ ≡ storedAt segmentWidth segments (state .count) (layout .at ∷ (layout .end - layout .at) ∷ row ∷ []) → (levels′ : List ℕ)
       → levels′ ≡ storedAt levelWidth levels (state .known .levels) ((state .count + 1) ∷ level .parent ∷ level .depth ∷ level .code ∷ []) → (after : State)
-      → after ≡ stateAfter state row known → Stands how before s segments′ levels′ (nextStart how s (layout .end + 1)) after
+      → after ≡ stateAfter state row known → Stands how before s segments′ levels′ (startAt how s (layout .end + 1)) after
   settles-level row level known q room level-room segments′ stored levels′ stored′ after is =
       let p = says (Level row level known) q in
       let number : suc (length h) ≡ state .count + 1 = omega (arith, history-long how gs, t .standing .count-is) in

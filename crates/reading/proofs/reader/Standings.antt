@@ -5,6 +5,7 @@ use mathlib.Core.Path.{_≡_, refl, sym, ap, subst, _∙_}
 use mathlib.Core.Bool.{Bool, true, false, not}
 use mathlib.Core.List.{List, [], _∷_, _++_, append-assoc}
 use native.Mathlib.Omega.{arith}
+use native.Mathlib.Numerals.{add-one}
 use lib.Dec.{T, eqb, eqb→eq}
 use lib.ListN.{length, take, drop, length-append, length-drop, length-map}
 use lib.Seq.{take-at, drop-at, drop-drop}
@@ -26,7 +27,7 @@ use Rattle.gate.specs.Rules.{Sound}
 use Rattle.gate.specs.Records.{Tables, segmentRecords, levelRecords, Room, over}
 use Rattle.gate.specs.Reads.{cutBy, skipBy, Passed, Read}
 use Rattle.reading.specs.internal.Standing.{Standing}
-use Rattle.reading.specs.internal.Between.{nextStart}
+use Rattle.reading.specs.internal.Between.{skippedAt, startAt}
 use Rattle.gate.specs.declared.answer.Answer.the-variants.{Accepted, Refused}
 use Rattle.gate.specs.declared.how.How.{How}
 use Rattle.gate.proofs.reading.Laws.{onto-append, onto-length}
@@ -191,13 +192,14 @@ module _ {how : How} {before : Tables} {s : Bytes} {segments levels : List ℕ} 
 
     -- where the next segment starts
     abbrev next : ℕ
-    next = nextStart how s (at + length g + 1)
+    next = startAt how s (at + length g + 1)
 
     passed-next : (r : ℕ) → Sound profile rows before-views v r → T (not (isSE v)) → Room profile before (v ∷ before-views)
         → Passed profile how before s gs′ (rows ++ (r ∷ [])) next (drop next s)
     passed-next r sound o room =
         let p = passed-more profile how before s gs rows at (drop at s) g more (st .passed) cut r sound o room in
-        rw (← drop-drop (skipBy how (drop (at + length g + 1) s)) (at + length g + 1) s, behind) p
+        let e : skippedAt how s (at + length g + 1) ≡ skipBy how more = rw add-one (ap (skipBy how) (rw add-one at behind)) in
+        rw (e, ← drop-drop (skipBy how more) (at + length g + 1) s, behind) p
 
     count-more : length gs′ ≡ state .count + 1
     count-more = length-append gs (record { at = at; segment = g } ∷ []) ∙ omega (arith, st .count-is)

@@ -8,13 +8,15 @@ use lib.ListN.{length}
 use Rattle.text.specs.Bytes.{Bytes}
 use Rattle.gate.specs.Records.{Tables}
 use Rattle.reading.specs.internal.Queue.{Ready}
+use Rattle.reading.specs.internal.Between.{startAt}
 use Rattle.reading.specs.internal.Settling.{Stands}
 use Rattle.gate.specs.declared.how.How.{How}
 use Rattle.reading.specs.declared.cutting.Left.{Left}
 use Rattle.reading.specs.declared.judging.State.{State}
 
-pub record Going (how : How) (s : Bytes) (specials : List Bool) (before : Tables) (segments levels queue starts : List ℕ) (at : ℕ) (left : Left)
+-- `behind` is the start of the bytes, or the place behind the last terminator
+pub record Going (how : How) (s : Bytes) (specials : List Bool) (before : Tables) (segments levels queue starts : List ℕ) (behind : ℕ) (left : Left)
     (state : State) : Type 0 where
-  pub stands : Stands how before s segments levels at state
-  pub ready : Ready specials s at queue (left .head) (left .tail) (left .seen)
+  pub stands : Stands how before s segments levels (startAt how s behind) state
+  pub ready : Ready specials s behind queue (left .head) (left .tail) (left .seen)
   pub room : length starts ≡ 33

@@ -18,7 +18,7 @@ use Rattle.gate.specs.Records.{Tables}
 use Rattle.gate.specs.Reads.{cutBy, Read}
 use Rattle.reading.specs.internal.Standing.{Standing}
 use Rattle.reading.specs.internal.Judgements.{Judges}
-use Rattle.reading.specs.internal.Between.{nextStart}
+use Rattle.reading.specs.internal.Between.{startAt}
 use Rattle.gate.specs.declared.answer.Answer.{Answer}
 use Rattle.gate.specs.declared.answer.Answer.the-variants.{Accepted, Refused}
 use Rattle.gate.specs.declared.how.How.{How}
@@ -74,7 +74,7 @@ pub record Stands (how : How) (before : Tables) (s : Bytes) (segments levels : L
 -- the answer is right, or the reader stands where the next segment starts
 abbrev pub Settles : How → Tables → Bytes → Layout → List ℕ → List ℕ → Step → Type 0
 Settles how before s layout segments levels (Done answer) = Read (profileOf how) how s before answer (record { segments = segments; levels = levels })
-Settles how before s layout segments levels (Passed state) = Stands how before s segments levels (nextStart how s (layout .end + 1)) state
+Settles how before s layout segments levels (Passed state) = Stands how before s segments levels (startAt how s (layout .end + 1)) state
 
 -- where the segment is so judged, the step is right, and so is what the tables hold afterwards
 abbrev pub SettlesBy : Judgement → Layout → State → (segments levels segments′ levels′ : List ℕ) → Step → Type 0

@@ -2,27 +2,31 @@
 -- Assumes nothing.
 use Prim.Native.Nat.{_+_, _-_, _<_}
 use mathlib.Core.Path.{ap}
-use denote.Ref.{now}
 use native.Mathlib.Omega.{arith}
+use denote.Ref.{now}
 use borrow.Author.Needs.{needs}
 use Rattle.gate.specs.Reads.{limit}
-use Rattle.reading.proofs.cut.PastLineEnds.{Passing, passing-none, passing-more, line-end-within, passing-all}
+use Rattle.reading.proofs.cut.PastLineEnds.{Passing, passing-none, passing-more, skipped-within, passing-all}
 use Rattle.reading.proofs.between.past_line_end.Statement.{statement}
 use Rattle.reading.proofs.between.past_line_end.Tie as tie
 
 abbrev Inv-loop : tie.InvT-loop
-Inv-loop s at end behind₀ i₀ behind i = Passing s at end behind₀ behind i
+Inv-loop s how at end behind₀ i₀ behind i = Passing s at end behind₀ behind i
 
 abbrev μ-loop : tie.MeasureT-loop
-μ-loop s at end behind₀ i₀ behind i = end - i
+μ-loop s how at end behind₀ i₀ behind i = end - i
 
-skipped-requires : tie.Need-skipped-requires Inv-loop μ-loop
-skipped-requires c κs = search needs
+-- the start, from where the line end was counted
+abbrev start : tie.After-skipped-at Inv-loop μ-loop → tie.Start Inv-loop μ-loop
+start c = c .before .before
+
+skipped-at-requires : tie.Need-skipped-at-requires Inv-loop μ-loop
+skipped-at-requires c κs = search needs
 
 add-end : tie.Need-add-end Inv-loop μ-loop
 add-end c =
-    let a = c .before .before .args in
-    record { fits = omega (arith, c .skipped .ensures, line-end-within (a .how) (now (a .s)) (a .at), c .before .before .good .0, c .before .before .fits .at) }
+    let a = start c .args in
+    record { fits = omega (arith, c .skipped-at .ensures, skipped-within (a .how) (now (a .s)) (a .at), start c .good .0, start c .fits .at) }
 
 loop-holds : tie.Need-loop-holds Inv-loop μ-loop
 loop-holds c = passing-none _ _ _ _ (omega arith)
@@ -31,9 +35,8 @@ loop-holds c = passing-none _ _ _ _ (omega arith)
 inside : (c : tie.In-loop Inv-loop μ-loop) → c .before .loop .i < limit
 inside c =
     let called = c .before .before in
-    let start = called .before .before in
-    let a = start .args in
-    omega (arith, c .loop-test .taken, called .skipped .ensures, line-end-within (a .how) (now (a .s)) (a .at), start .pre)
+    let a = start called .args in
+    omega (arith, c .loop-test .taken, called .skipped-at .ensures, skipped-within (a .how) (now (a .s)) (a .at), start called .pre)
 
 past-special-requires : tie.Need-past-special-requires Inv-loop μ-loop
 past-special-requires c κs = inside c
@@ -49,11 +52,16 @@ loop-again c =
     let at = c .before .before in
     passing-more (at .loop .inv) _ (c .before .loop-test .taken) (c .past-special .ensures)
 
+begins-requires : tie.Need-begins-requires Inv-loop μ-loop
+begins-requires c κs = search needs
+
 returns : tie.Need-returns Inv-loop μ-loop
 returns c =
-    let called = c .before .before in
-    let a = called .before .before .args in
-    passing-all (a .how) (now (a .s)) (a .at) _ _ _ _ (ap (λ n. a .at + n) (called .skipped .ensures)) (c .before .loop .inv) (c .loop-test .left)
+    let ended = c .before in
+    let called = ended .before .before in
+    let a = start called .args in
+    passing-all (a .how) (now (a .s)) (a .at) _ _ _ _ _ (ap (λ n. a .at + n) (called .skipped-at .ensures)) (ended .before .loop .inv)
+    (ended .loop-test .left) (c .begins .ensures)
 
 pub past-line-end-spec : {M : Type 1} → statement M
 past-line-end-spec =
@@ -61,11 +69,12 @@ past-line-end-spec =
     (tie.spec
     Inv-loop
     μ-loop
-    skipped-requires
+    skipped-at-requires
     add-end
     loop-holds
     past-special-requires
     add-i
     loop-less
     loop-again
+    begins-requires
     returns)

@@ -6,30 +6,29 @@ use borrow.Author.Needs.{needs}
 use Rattle.reading.proofs.cutting.next_segment.Statement.{statement}
 use Rattle.reading.proofs.cutting.next_segment.Tie as tie
 
-begins-requires : tie.Need-begins-requires
-begins-requires c κs = search needs
-
 next-bin-requires : tie.Need-next-bin-requires
 next-bin-requires c κs =
-    let found = c .before .before in
-    let pre = found .before .before .pre in
-    (pre .1 .0, (rw (sym (found .begins .ensures) ∙ c .before .if1 .taken) tt, pre .1 .1 .1))
+    let marked = c .before in
+    let pre = marked .before .before .pre in
+    (pre .1 .0, (rw (sym (pre .1 .1 .1 .0) ∙ marked .if1 .taken) tt, pre .1 .1 .1 .1))
 
 returns : tie.Need-returns
 returns c =
-    let start = c .before .before .before .before .before in
+    let start = c .before .before .before .before in
     let a = start .args in
-    bin-cuts (a .separators) (a .s .now) (a .at) _ (a .specials .now) (a .queue .now) (start .pre .1 .1 .0 .size) (c .next-bin .result) (c .next-bin .ensures)
+    bin-cuts (a .separators) (a .s .now) (a .onward .at) _ (a .specials .now) (a .queue .now) (start .pre .1 .1 .0 .size) (c .next-bin .result) (c .next-bin .ensures)
 
 next-plain-requires : tie.Need-next-plain-requires
-next-plain-requires c κs = c .before .before .before .before .before .pre
+next-plain-requires c κs =
+    let pre = c .before .before .before .before .pre in
+    (pre .0, (pre .1 .0, (pre .1 .1 .0, pre .1 .1 .1 .1)))
 
 returns-2 : tie.Need-returns-2
 returns-2 c =
-    let found = c .before .before .before .before in
-    let a = found .before .before .args in
-    plain-cuts (a .separators) (found .before .before .pre .1 .0) (a .s .now) (a .at) (sym (found .begins .ensures) ∙ c .before .before .before .if1 .left) _ _ _ (c .next-plain .result) (c .next-plain .ensures)
+    let unmarked = c .before .before .before in
+    let start = unmarked .before .before in
+    let a = start .args in
+    plain-cuts (a .separators) (start .pre .1 .0) (a .s .now) (a .onward .at) (sym (start .pre .1 .1 .1 .0) ∙ unmarked .if1 .left) _ _ _ (c .next-plain .result) (c .next-plain .ensures)
 
 pub next-segment-spec : {M : Type 1} → statement M
-next-segment-spec =
-    tie.close (tie.spec begins-requires next-bin-requires returns next-plain-requires returns-2)
+next-segment-spec = tie.close (tie.spec next-bin-requires returns next-plain-requires returns-2)
