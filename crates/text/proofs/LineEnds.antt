@@ -21,10 +21,8 @@ use Rattle.text.proofs.Bools.{first-of}
 use Rattle.text.proofs.CutLaws.{SkipLaw}
 
 -- a capital is above both bytes of a line end
-capital-above : (b : ℕ) → T (isCapital b) → (LF < b) × (CR < b)
-capital-above b h =
-    let l : byte "A" ≤ b = leb→le (byte "A") b (first-of (leb (byte "A") b) (leb b (byte "Z")) h) in
-    (omega arith, omega arith)
+capital-above : (b : ℕ) → T (isCapital b) → CR < b
+capital-above b h = let l : byte "A" ≤ b = leb→le (byte "A") b (first-of (leb (byte "A") b) (leb b (byte "Z")) h) in omega arith
 
 module _ (q : Separators) where
   -- this byte, where it is no separator
@@ -53,11 +51,7 @@ module _ (q : Separators) where
 
   one-few : (b : ℕ) (s : Bytes) → atMostOne q b s ≤ length s
   one-few b [] = omega arith
-  one-few b (x ∷ s) = by (isOne b x)
-    where
-      by : (c : Bool) → cond c 1 0 ≤ length (x ∷ s)
-      by true = omega arith
-      by false = omega arith
+  one-few b (x ∷ s) = omega (arith, one-at-most b (x ∷ s))
 
   few : (s : Bytes) → lineEnd q s ≤ length s
   few s = omega (arith, one-few CR s, length-drop (atMostOne q CR s) s, one-few LF (drop (atMostOne q CR s) s))
@@ -72,7 +66,7 @@ module _ (q : Separators) where
 
   -- nor does the next byte where it stays, or is a capital
   near-none : (b b′ : ℕ) (y z : Bytes) → (b′ ≡ b) ⊎ T (isCapital b′) → lineEnd q (b ∷ y) ≡ 0 → lineEnd q (b′ ∷ z) ≡ 0
-  near-none b b′ y z (inr h) e = no-line-end b′ z (capital-above b′ h .1)
+  near-none b b′ y z (inr h) e = no-line-end b′ z (capital-above b′ h)
   near-none b b′ y z (inl p) e = rw p (by (isOne CR b) e)
     where
       by : (c : Bool) → ending c (b ∷ y) ≡ 0 → ending c (b ∷ z) ≡ 0
@@ -94,7 +88,7 @@ module _ (q : Separators) where
   near (x ∷ (x′ ∷ gap)) b b′ y z o e = behind-two x x′ (gap ++ b′ ∷ z) (gap ++ b ∷ y) ∙ e
 
   pub skip-law : (lines : LineEnds) → SkipLaw (skipOf lines q)
-  skip-law Skipped = record { few = few; near = near; none = λ b z h. no-line-end b z (capital-above b h .1) }
+  skip-law Skipped = record { few = few; near = near; none = λ b z h. no-line-end b z (capital-above b h) }
   skip-law Strict = record { few = λ s. omega arith; near = λ gap b b′ y z o e. e; none = λ b z h. refl }
 
 -- no byte above CR is skipped
@@ -131,8 +125,7 @@ module _ (q : Separators) where
   skipped-small Skipped s k l = first-small s k l
   skipped-small Strict s k l = absurd (omega arith)
 
--- What the code asks
--- past the end nothing is skipped
+-- What the code asks: past the end nothing is skipped
 pub past-end : (q : Separators) (lines : LineEnds) (s : Bytes) (at : ℕ) → length s ≤ at → skipOf lines q (drop at s) ≡ 0
 past-end q Skipped s at l = rw (drop-of-length-le s l)
 past-end q Strict s at l = refl
