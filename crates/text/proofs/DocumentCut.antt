@@ -3,15 +3,15 @@
 -- Assumes nothing.
 use Prim.Native.Nat.{ℕ, _≤_}
 use mathlib.Core.Path.{_≡_, refl, sym, ap, subst, _∙_}
-use mathlib.Core.Logic.{_⊎_, inl, inr}
+use mathlib.Core.Logic.{inl, inr}
 use mathlib.Core.Bool.{Bool, true, false, cond}
 use mathlib.Core.List.{[], _∷_, _++_}
 use native.Mathlib.Omega.{arith}
 use lib.Dec.{T, eqb, eqb→eq}
-use lib.ListN.{length, take, drop}
+use lib.ListN.{take, drop}
 use borrow.Author.Tests.{eq-eqb, ne-eqb, eqb-true, eqb-false}
 use Rattle.text.specs.Bytes.{Bytes, byte, same}
-use Rattle.text.specs.Separators.{isCapital, Fitted}
+use Rattle.text.specs.Separators.{Fitted}
 use Rattle.text.specs.Bin.{binMark, beginsBin}
 use Rattle.text.specs.internal.Search.{Free}
 use Rattle.text.specs.Cut.{Cut, Whole, Stop, behind, cutAtTerminator, cutCounted, cutOf}

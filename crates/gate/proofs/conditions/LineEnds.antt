@@ -1,34 +1,26 @@
 -- What the choice of line ends changes of a reading, and what it does not. Where no line end stands behind a segment, nothing. And read past its line
 -- ends a report gets the verdict, the elements, the rows and the levels that it gets strictly once they are taken out.
 -- Assumes nothing.
-use Prim.Native.Nat.{ℕ, _+_, _≤_}
-use mathlib.Core.Path.{_≡_, refl, sym, ap, subst, _∙_}
+use Prim.Native.Nat.{ℕ, _+_}
+use mathlib.Core.Path.{_≡_, refl, ap, subst, _∙_}
 use mathlib.Core.Logic.{_↔_}
 use mathlib.Core.Bool.{Bool, true, false}
-use mathlib.Core.List.{List, [], _∷_, _++_, map, append-assoc}
-use native.Mathlib.Omega.{arith}
-use lib.Dec.{T, leb}
-use lib.ListN.{length, drop, length-append, length-drop}
-use borrow.Author.Tests.{le-leb}
+use mathlib.Core.List.{List, [], _∷_, _++_, append-assoc}
+use lib.Dec.{leb}
+use lib.ListN.{length}
 use Rattle.text.specs.Bytes.{Bytes}
-use Rattle.text.specs.Separators.{Fitted, fitSeparators}
-use Rattle.text.specs.Pieces.{closed}
+use Rattle.text.specs.Separators.{fitSeparators}
 use Rattle.text.specs.Cut.{Cut, Whole, Placed, Leads, lineEnd}
 use Rattle.text.specs.declared.lines.LineEnds.{LineEnds}
 use Rattle.text.specs.declared.lines.LineEnds.the-variants.{Skipped, Strict}
 use Rattle.text.specs.declared.separators.Separators.{Separators}
-use Rattle.text.proofs.Bools.{passes}
-use Rattle.text.proofs.View.{fitted}
-use Rattle.text.proofs.CutLaws.{CutLaw}
-use Rattle.text.proofs.DocumentCut.{Splits, cut-splits, cut-law}
+use Rattle.text.proofs.DocumentCut.{Splits, cut-splits}
 use Rattle.gate.specs.Profile.{profileOf}
-use Rattle.gate.specs.Segments.{seen}
-use Rattle.gate.specs.Records.{Tables, recorded}
-use Rattle.gate.specs.Reads.{limit, cutBy, skipBy, Ends, Run, Read, ReadsWithin, ReadsFit, ReadsBy, Reads}
+use Rattle.gate.specs.Records.{Tables}
+use Rattle.gate.specs.Reads.{limit, cutBy, skipBy, Ends, Read, ReadsWithin, ReadsFit, ReadsBy, Reads}
 use Rattle.gate.specs.declared.answer.Answer.{Answer}
 use Rattle.gate.specs.declared.answer.Answer.the-variants.{Accepted, Refused}
 use Rattle.gate.proofs.reading.Moved.{reading, recorded-same, passed-moved, room-moved, keeping-moved, fails-moved}
-use Rattle.gate.proofs.conditions.Conditions.{reads-read}
 
 -- The segments gs lead so from the bytes s by this choice
 abbrev pub Led : Separators → LineEnds → ℕ → Bytes → List Placed → ℕ → Bytes → Type 0

@@ -21,7 +21,7 @@ use Rattle.text.proofs.DocumentCut.{cut-law}
 use Rattle.gate.specs.Profile.{Profile, profileOf}
 use Rattle.gate.specs.Segments.{seen, onto, levelsIn}
 use Rattle.gate.specs.Records.{Tables, recorded}
-use Rattle.gate.specs.Reads.{limit, cutBy, Ends, Run, Read, ReadsBy, Reads}
+use Rattle.gate.specs.Reads.{limit, cutBy, Ends, Read, ReadsBy, Reads}
 use Rattle.gate.specs.declared.answer.Answer.{Answer}
 use Rattle.gate.specs.declared.answer.Answer.the-variants.{Accepted, Refused}
 use Rattle.gate.proofs.reading.Moved.{reading, passed-moved, room-moved, keeping-moved, fails-moved}

@@ -2,10 +2,10 @@
 -- Assumes nothing.
 use Prim.Native.Nat.{ℕ, zero, suc, _+_, _-_, _≤_, _<_}
 use mathlib.Core.Path.{_≡_, refl, sym, ap, subst, _∙_}
-use mathlib.Core.Bool.{Bool, true, false, not, true≢false, _||_}
+use mathlib.Core.Bool.{Bool, true, false, not, true≢false}
 use mathlib.Core.List.{List, [], _∷_, _++_, head-eq-of-cons-eq}
 use native.Mathlib.Omega.{arith}
-use lib.Dec.{T, eqb}
+use lib.Dec.{eqb}
 use lib.ListN.{length, drop, getD, length-drop}
 use lib.Seq.{drop-cons, getD-drop}
 use borrow.Author.Tests.{lt-leb}
@@ -22,7 +22,6 @@ use Rattle.text.proofs.LineEnds.{skip-law, past-end, skip-none, skipped-small}
 use Rattle.reading.specs.internal.SpecialBytes.{special, isSpecialIn, SpecialTable}
 use Rattle.reading.specs.internal.Queue.{SpecialPlaces, left}
 use Rattle.reading.specs.internal.Between.{skippedAt, startAt, Serves, PastSpecial, Starts}
-use Rattle.reading.specs.declared.cutting.Onward.{Onward}
 use Rattle.reading.specs.declared.cutting.Left.{Left}
 use Rattle.reading.proofs.cut.Queue.{All, Data, front, left-cons}
 use Rattle.reading.proofs.cut.Facts.{ready-none}
