@@ -7,7 +7,7 @@ use Rattle.text.specs.View.{View, viewOf}
 use Rattle.text.specs.Cut.{Placed}
 use Rattle.levels.specs.Levels.{recordsOf}
 use Rattle.gate.specs.Profile.{Profile}
-use Rattle.gate.specs.Segments.{seen, onto, levelsIn}
+use Rattle.gate.specs.Segments.{seen, onto, levelsIn, belongsTo}
 use Rattle.gate.specs.declared.how.How.{How}
 use Rattle.levels.specs.Widths.{segmentWidth, levelWidth}
 
@@ -16,9 +16,9 @@ pub record Tables : Type 0 where
   pub segments : List ℕ
   pub levels : List ℕ
 
--- where a segment starts, how long it is up to its terminator, and its row; after the segments before it
+-- where a segment starts, how long it is up to its terminator, its row, and the level it belongs to; after the segments before it
 abbrev pub segmentRecord : List View → View → Placed → ℕ → List ℕ
-segmentRecord h v g row = g .at ∷ length (g .segment) ∷ row ∷ []
+segmentRecord h v g row = g .at ∷ length (g .segment) ∷ row ∷ belongsTo h v ∷ []
 
 -- the records of segments and their rows, after the segments h
 abbrev pub segmentRecords : How → List View → List Placed → List ℕ → List ℕ

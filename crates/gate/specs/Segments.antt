@@ -1,7 +1,8 @@
--- The segments of a transaction as views, and what is read off those that came before: their number, the levels they make, the ST.
+-- The segments of a transaction as views, and what is read off those that came before: their number, the levels they make, the
+-- level that the next belongs to, the ST.
 -- Assumes nothing.
 use Prim.Native.Nat.{ℕ, suc}
-use mathlib.Core.Bool.{Bool, true, false}
+use mathlib.Core.Bool.{Bool, true, false, cond}
 use mathlib.Core.List.{List, [], _∷_, map}
 use lib.Dec.{eqb}
 use lib.ListN.{length}
@@ -48,6 +49,11 @@ claims (v ∷ h) = addClaim (isHL v) (suc (length h)) v (claims h)
 -- the levels that they make
 unfoldable pub levelsIn : Profile → List View → List Level
 levelsIn profile h = levelsOf (profile .levels) (claims h)
+
+-- The level that a segment belongs to, by its number: that of the latest HL up to it, so an HL belongs to itself. Levels are numbered from 1 by their
+-- HLs, so the number is how many HLs there are up to it: 0 in the heading, where there is none yet. The SE belongs to none, which is 0 too
+abbrev pub belongsTo : List View → View → ℕ
+belongsTo h v = cond (isSE v) 0 (length (claims (v ∷ h)))
 
 -- the first segment
 abbrev pub opening : List View → View

@@ -2,9 +2,9 @@
 -- Assumes nothing.
 use Prim.Native.Nat.{ℕ}
 
--- three numbers a segment
+-- four numbers a segment
 abbrev pub segmentWidth : ℕ
-segmentWidth = 3
+segmentWidth = 4
 
 -- four numbers a level
 abbrev pub levelWidth : ℕ

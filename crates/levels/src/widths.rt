@@ -1,4 +1,4 @@
 // How many numbers a record of each lent table has.
-pub const SEGMENT_WIDTH: usize = 3;
+pub const SEGMENT_WIDTH: usize = 4;
 
 pub const LEVEL_WIDTH: usize = 4;

@@ -59,7 +59,7 @@ fn acceptance(layout: Layout, state: State) -> Step
     })
 }
 
-// Passes a segment that makes no level, where there is room for its record.
+// Passes a segment that makes no level, where there is room for its record. It belongs to the latest level, if there is one.
 fn pass_other(row: u8, layout: Layout, state: State, segments: &mut [u64]) -> Step
     requires { ⌜ layout .at ≤ layout .end ⌝ }
     requires { ⌜ state .count ≤ length (now segments) / segmentWidth ⌝ }
@@ -74,11 +74,12 @@ fn pass_other(row: u8, layout: Layout, state: State, segments: &mut [u64]) -> St
         layout.at,
         layout.end - layout.at,
         row,
+        state.known.levels,
     );
     Step::Passed(after(state, row, state.known))
 }
 
-// Passes a segment that makes a level, where there is room for both records.
+// Passes a segment that makes a level, where there is room for both records. It belongs to the level that it makes.
 fn pass_level(
     row: u8,
     level: NewLevel,
@@ -103,12 +104,13 @@ fn pass_level(
         layout.at,
         layout.end - layout.at,
         row,
+        known.levels,
     );
     storing::put_level(levels, state.known.levels, state.count + 1, level);
     Step::Passed(after(state, row, known))
 }
 
-// Accepts with this segment as the last, where there is room for its record.
+// Accepts with this segment as the last, where there is room for its record. It belongs to no level.
 fn close(row: u8, layout: Layout, state: State, segments: &mut [u64]) -> Step
     requires { ⌜ layout .at ≤ layout .end ⌝ }
     requires { ⌜ layout .end < 1048576 ⌝ }
@@ -124,6 +126,7 @@ fn close(row: u8, layout: Layout, state: State, segments: &mut [u64]) -> Step
         layout.at,
         layout.end - layout.at,
         row,
+        0,
     );
     acceptance(layout, state)
 }

@@ -1,9 +1,10 @@
 // Storing the records of a segment and of a level in the lent tables.
 ghost use mathlib.Core.Path.{_≡_};
 ghost use mathlib.Core.List.{[], _∷_};
-ghost use Prim.Native.Nat.{_/_, _<_};
+ghost use Prim.Native.Nat.{_+_, _/_, _≤_, _<_};
 ghost use lib.Dec.{ltb};
 ghost use lib.ListN.{length, set};
+ghost use lib.Seq.{sets};
 ghost use Rattle.levels.specs.Widths.{segmentWidth, levelWidth};
 ghost use Rattle.finding.specs.internal.Entries.{storedAt};
 use levels::widths::LEVEL_WIDTH;
@@ -38,15 +39,30 @@ fn store(table: &mut [u64], at: usize, number: usize)
     table[at] = number as u64;
 }
 
-// Start, length and row of a segment, behind the first n records.
-pub(crate) fn put_segment(segments: &mut [u64], n: usize, start: usize, len: usize, row: u8)
-    requires { ⌜ n < length (now segments) / segmentWidth ⌝ }
-    ensures { λ _. ⌜ now (segments .exit) ≡ storedAt segmentWidth (now (segments .entry)) n (start ∷ len ∷ row ∷ []) ⌝ }
+// Stores the four numbers of a record, one behind the other.
+fn store_four(table: &mut [u64], at: usize, a: usize, b: usize, c: usize, d: usize)
+    requires { ⌜ at + 4 ≤ length (now table) ⌝ }
+    ensures { λ _. ⌜ now (table .exit) ≡ sets (now (table .entry)) at (a ∷ b ∷ c ∷ d ∷ []) ⌝ }
 {
-    let at = n * SEGMENT_WIDTH;
-    store(segments, at, start);
-    store(segments, at + 1, len);
-    store(segments, at + 2, row as usize);
+    store(table, at, a);
+    store(table, at + 1, b);
+    store(table, at + 2, c);
+    store(table, at + 3, d);
+}
+
+// Start, length and row of a segment, and the level it belongs to, behind the first n records.
+pub(crate) fn put_segment(
+    segments: &mut [u64],
+    n: usize,
+    start: usize,
+    len: usize,
+    row: u8,
+    level: usize,
+)
+    requires { ⌜ n < length (now segments) / segmentWidth ⌝ }
+    ensures { λ _. ⌜ now (segments .exit) ≡ storedAt segmentWidth (now (segments .entry)) n (start ∷ len ∷ row ∷ level ∷ []) ⌝ }
+{
+    store_four(segments, n * SEGMENT_WIDTH, start, len, row as usize, level);
 }
 
 // The segment number of a level, its parent, depth and code, behind the first n records.
@@ -54,9 +70,12 @@ pub(crate) fn put_level(levels: &mut [u64], n: usize, segment: usize, level: New
     requires { ⌜ n < length (now levels) / levelWidth ⌝ }
     ensures { λ _. ⌜ now (levels .exit) ≡ storedAt levelWidth (now (levels .entry)) n (segment ∷ level .parent ∷ level .depth ∷ level .code ∷ []) ⌝ }
 {
-    let at = n * LEVEL_WIDTH;
-    store(levels, at, segment);
-    store(levels, at + 1, level.parent);
-    store(levels, at + 2, level.depth);
-    store(levels, at + 3, level.code);
+    store_four(
+        levels,
+        n * LEVEL_WIDTH,
+        segment,
+        level.parent,
+        level.depth,
+        level.code,
+    );
 }

@@ -1,5 +1,7 @@
 // The listing of an accepted report, and the line of a refusal, on standard output.
 use crate::printing;
+use levels::widths::LEVEL_WIDTH;
+use levels::widths::SEGMENT_WIDTH;
 
 fn word(bytes: &[u8]) {
     printing::word(libc::STDOUT_FILENO, bytes);
@@ -13,6 +15,15 @@ fn number(n: u64) {
 fn next(n: u64) {
     word(b" ");
     number(n);
+}
+
+// Numbers, each behind a space.
+fn numbers(ns: &[u64]) {
+    let mut i: usize = 0;
+    while i < ns.len() {
+        next(ns[i]);
+        i += 1;
+    }
 }
 
 // A refusal, in one line.
@@ -39,15 +50,14 @@ pub(crate) fn head(segments: usize, levels: usize, bytes: usize) {
     word(b"\n");
 }
 
-// A line for each segment: its number, start, length and row.
+// A line for each segment: its number, and the numbers of its record.
 pub(crate) fn list_segments(segments: &[u64], count: usize) {
     let mut k: usize = 0;
     while k < count {
-        if k < segments.len() / 3 {
+        if k < segments.len() / SEGMENT_WIDTH {
+            let at = k * SEGMENT_WIDTH;
             number(k as u64 + 1);
-            next(segments[3 * k]);
-            next(segments[3 * k + 1]);
-            next(segments[3 * k + 2]);
+            numbers(&segments[at..at + SEGMENT_WIDTH]);
             word(b"\n");
         }
         k += 1;
@@ -65,17 +75,16 @@ fn letters(code: u64) {
     }
 }
 
-// A line for each level: its number, segment, parent, depth and code.
+// A line for each level: its number, and the numbers of its record, the code in letters.
 pub(crate) fn list_levels(levels: &[u64], count: usize) {
     let mut k: usize = 0;
     while k < count {
-        if k < levels.len() / 4 {
+        if k < levels.len() / LEVEL_WIDTH {
+            let at = k * LEVEL_WIDTH;
             word(b"level");
             next(k as u64 + 1);
-            next(levels[4 * k]);
-            next(levels[4 * k + 1]);
-            next(levels[4 * k + 2]);
-            letters(levels[4 * k + 3]);
+            numbers(&levels[at..at + 3]);
+            letters(levels[at + 3]);
             word(b"\n");
         }
         k += 1;

@@ -16,7 +16,7 @@ use text::separators::Separators;
 
 // Reads the report and prints what came of it. Room for 1,000 segments and 200 levels.
 fn judge(report: &[u8], name: &[u8]) {
-    let mut segments = [0u64; 3000];
+    let mut segments = [0u64; 4000];
     let mut levels = [0u64; 800];
     let how = How {
         separators: Separators::standard(),

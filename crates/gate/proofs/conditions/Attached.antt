@@ -105,14 +105,18 @@ module _ (q : Separators) (g : Bytes) (bin : T (isBin (q .element) g)) where
       let b = bin-parts (q .element) g bin .whole in
       ap (λ (u : Bytes). u ++ y) b ∙ ap (λ (u : Bytes). byte "B" ∷ (drop 1 u ++ y)) (sym b)
 
-  -- it is no HL and no SE
-  bin-no-hl : isHL (viewOf q g) ≡ false
+  -- it has its tag, so it is no HL and no SE
+  bin-tag : tagIn (viewOf q g) ≡ tag "BIN"
   unfolding tagIn tagNumber
-  bin-no-hl = ap isHL bin-seen
+  bin-tag = ap tagIn bin-seen
+
+  bin-no-hl : isHL (viewOf q g) ≡ false
+  unfolding tagNumber
+  bin-no-hl = rw bin-tag refl
 
   bin-no-se : isSE (viewOf q g) ≡ false
-  unfolding tagIn tagNumber
-  bin-no-se = ap isSE bin-seen
+  unfolding tagNumber
+  bin-no-se = rw bin-tag refl
 
   bin-claims : (h : List View) → claims (viewOf q g ∷ h) ≡ claims h
   bin-claims h = rw bin-no-hl
@@ -150,7 +154,7 @@ module _ (how : How) (g g′ : Bytes) (x : SameButAttached (how .separators .ele
   alike-bin gs at l =
       let h = history how gs in
       record {
-        extents = extents-put how gs gs at g g′ refl same-long;
+        extents = extents-put how gs gs at g g′ refl same-long (bin-tag q g (x .bin) ∙ sym (bin-tag q g′ (x .bin′)));
         levels = rw (history-put how gs at g, history-put how gs at g′) (bin-claims q g (x .bin) h ∙ sym (bin-claims q g′ (x .bin′) h));
         first = rw (history-put how gs at g, history-put how gs at g′) (opening-any (viewOf q g) (viewOf q g′) h (omega (arith, history-length how gs)));
       }

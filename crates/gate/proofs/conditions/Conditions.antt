@@ -14,6 +14,7 @@ use Rattle.text.specs.Separators.{fitSeparators}
 use Rattle.text.specs.Cut.{Placed}
 use Rattle.text.proofs.Bools.{passes}
 use Rattle.text.proofs.View.{fitted}
+use Rattle.levels.specs.Widths.{segmentWidth, levelWidth}
 use Rattle.gate.specs.Answers.{IsAccepted, Fault}
 use Rattle.gate.specs.Profile.{profileOf}
 use Rattle.gate.specs.Segments.{seen}
@@ -142,7 +143,7 @@ meets-accepted how s before gs rows fit short n room r after x =
 
 -- there are tables with room for any segments
 roomy : ℕ → Tables
-roomy n = record { segments = replicate (n * 3) 0; levels = replicate (n * 4) 0 }
+roomy n = record { segments = replicate (n * segmentWidth) 0; levels = replicate (n * levelWidth) 0 }
 
 roomy-room : (how : How) (gs : List Placed) (n : ℕ) → length gs ≤ n → HasRoom how (roomy n) gs
 unfolding roomy

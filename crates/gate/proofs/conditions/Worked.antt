@@ -57,10 +57,10 @@ of-choice Strict by-default strictly = strictly
 
 -- the records of the segments of W1, from the second on shared by most cases
 abbrev pub heading : List ℕ → List ℕ
-heading more = 0 ∷ 11 ∷ 1 ∷ 12 ∷ 19 ∷ 2 ∷ 32 ∷ 10 ∷ 18 ∷ more
+heading more = 0 ∷ 11 ∷ 1 ∷ 0 ∷ 12 ∷ 19 ∷ 2 ∷ 0 ∷ 32 ∷ 10 ∷ 18 ∷ 1 ∷ more
 
 abbrev pub second : List ℕ → List ℕ
-second more = 43 ∷ 10 ∷ 18 ∷ more
+second more = 43 ∷ 10 ∷ 18 ∷ 2 ∷ more
 
 -- W1 to W10
 abbrev pub cases : List Case
@@ -70,7 +70,7 @@ cases =
       segment-room = 1000;
       level-room = 200;
       answer = Accepted 7 2 78;
-      segments = heading (second (54 ∷ 5 ∷ 46 ∷ 60 ∷ 7 ∷ 64 ∷ 68 ∷ 9 ∷ 79 ∷ []));
+      segments = heading (second (54 ∷ 5 ∷ 46 ∷ 2 ∷ 60 ∷ 7 ∷ 64 ∷ 2 ∷ 68 ∷ 9 ∷ 79 ∷ 0 ∷ []));
       levels = 3 ∷ 0 ∷ 1 ∷ 1 ∷ 4 ∷ 1 ∷ 2 ∷ 2 ∷ [];
     }
     ∷ record {
@@ -102,7 +102,7 @@ cases =
       segment-room = 1000;
       level-room = 200;
       answer = Refused 16 7 68 1;
-      segments = heading (second (54 ∷ 5 ∷ 46 ∷ 60 ∷ 7 ∷ 64 ∷ []));
+      segments = heading (second (54 ∷ 5 ∷ 46 ∷ 2 ∷ 60 ∷ 7 ∷ 64 ∷ 2 ∷ []));
       levels = 3 ∷ 0 ∷ 1 ∷ 1 ∷ 4 ∷ 1 ∷ 2 ∷ 2 ∷ [];
     }
     ∷ record {
@@ -127,7 +127,7 @@ cases =
       segment-room = 1000;
       level-room = 200;
       answer = Refused 11 6 60 4;
-      segments = heading (second (54 ∷ 5 ∷ 46 ∷ []));
+      segments = heading (second (54 ∷ 5 ∷ 46 ∷ 2 ∷ []));
       levels = 3 ∷ 0 ∷ 1 ∷ 1 ∷ 4 ∷ 1 ∷ 2 ∷ 2 ∷ [];
     }
     ∷ record {
@@ -135,7 +135,7 @@ cases =
       segment-room = 6;
       level-room = 200;
       answer = Refused 17 7 68 0;
-      segments = heading (second (54 ∷ 5 ∷ 46 ∷ 60 ∷ 7 ∷ 64 ∷ []));
+      segments = heading (second (54 ∷ 5 ∷ 46 ∷ 2 ∷ 60 ∷ 7 ∷ 64 ∷ 2 ∷ []));
       levels = 3 ∷ 0 ∷ 1 ∷ 1 ∷ 4 ∷ 1 ∷ 2 ∷ 2 ∷ [];
     }
     ∷ []
@@ -148,7 +148,7 @@ with-line-ends lines = record {
   segment-room = 1000;
   level-room = 200;
   answer = of-choice lines (Accepted 7 2 90) (Refused 5 2 12 0);
-  segments = 0 ∷ 11 ∷ 1 ∷ of-choice lines (14 ∷ 19 ∷ 2 ∷ 36 ∷ 10 ∷ 18 ∷ 49 ∷ 10 ∷ 18 ∷ 62 ∷ 5 ∷ 46 ∷ 70 ∷ 7 ∷ 64 ∷ 80 ∷ 9 ∷ 79 ∷ []) [];
+  segments = 0 ∷ 11 ∷ 1 ∷ 0 ∷ of-choice lines (14 ∷ 19 ∷ 2 ∷ 0 ∷ 36 ∷ 10 ∷ 18 ∷ 1 ∷ 49 ∷ 10 ∷ 18 ∷ 2 ∷ 62 ∷ 5 ∷ 46 ∷ 2 ∷ 70 ∷ 7 ∷ 64 ∷ 2 ∷ 80 ∷ 9 ∷ 79 ∷ 0 ∷ []) [];
   levels = of-choice lines (3 ∷ 0 ∷ 1 ∷ 1 ∷ 4 ∷ 1 ∷ 2 ∷ 2 ∷ []) [];
 }
 

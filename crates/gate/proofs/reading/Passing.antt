@@ -10,6 +10,7 @@ use lib.ListN.{length}
 use Rattle.text.specs.Bytes.{Bytes}
 use Rattle.text.specs.View.{View}
 use Rattle.text.specs.Cut.{Placed}
+use Rattle.text.proofs.Bools.{passes, not-passes}
 use Rattle.text.proofs.Lists.{map-append, splits}
 use Rattle.rows.specs.Rows.{Viable, list842}
 use Rattle.rows.specs.RowList.{tagOf}
@@ -17,7 +18,7 @@ use Rattle.rows.specs.Following.{Fits}
 use Rattle.rows.proofs.FittingRow.{viable-before}
 use Rattle.levels.specs.Levels.{Claim, levelsOf}
 use Rattle.gate.specs.Profile.{Profile}
-use Rattle.gate.specs.Segments.{tagIn, isHL, isSE, seen, onto, addClaim, claims, levelsIn}
+use Rattle.gate.specs.Segments.{tagIn, isHL, isSE, seen, onto, addClaim, claims, levelsIn, belongsTo}
 use Rattle.gate.specs.Rules.{Kept, From}
 use Rattle.gate.specs.Records.{Tables, Room}
 use Rattle.gate.specs.Reads.{Passed}
@@ -77,6 +78,17 @@ length-levels profile (c ∷ cs) = ap suc (length-levels profile cs)
 pub levels-number : (profile : Profile) (h : List View) → length (levelsIn profile h) ≡ length (claims h)
 unfolding levelsIn
 levels-number profile h = length-levels profile (claims h)
+
+-- the level that a segment belongs to
+module _ (profile : Profile) (h : List View) (v : View) where
+  pub belongs-se : T (isSE v) → belongsTo h v ≡ 0
+  belongs-se se = rw (passes (isSE v) se)
+
+  pub belongs-hl : T (not (isSE v)) → isHL v ≡ true → belongsTo h v ≡ suc (length (levelsIn profile h))
+  belongs-hl se hl = rw (not-passes (isSE v) se, hl, levels-number profile h)
+
+  pub belongs-other : T (not (isSE v)) → isHL v ≡ false → belongsTo h v ≡ length (levelsIn profile h)
+  belongs-other se hl = rw (not-passes (isSE v) se, hl, levels-number profile h)
 
 onto-longer : (h vs : List View) → (length h ≤ length (onto h vs)) × (length (claims h) ≤ length (claims (onto h vs)))
 onto-longer h [] = (omega arith, omega arith)

@@ -3,16 +3,18 @@
 -- Assumes nothing.
 use Prim.Native.Nat.{ℕ, zero, suc, _+_}
 use mathlib.Core.Path.{_≡_, refl, sym, ap, _∙_}
-use mathlib.Core.Bool.{Bool, true, false}
+use mathlib.Core.Bool.{Bool, true, false, cond}
 use mathlib.Core.List.{List, [], _∷_, _++_, map}
 use native.Mathlib.Omega.{arith}
+use lib.Dec.{eqb}
 use lib.ListN.{length, drop, length-map}
 use Rattle.text.specs.Bytes.{Bytes}
 use Rattle.text.specs.View.{View, viewOf}
 use Rattle.text.specs.Cut.{Cut, Whole, Stop, Placed}
 use Rattle.text.proofs.Lists.{map-append}
+use Rattle.rows.specs.Tags.{tag}
 use Rattle.gate.specs.Profile.{Profile}
-use Rattle.gate.specs.Segments.{isSE, seen, onto, claims, levelsIn, opening}
+use Rattle.gate.specs.Segments.{tagIn, isHL, isSE, seen, onto, addClaim, claims, levelsIn, opening}
 use Rattle.gate.specs.Rules.{hlChecks, seChecks, late}
 use Rattle.gate.specs.Records.{Tables, segmentRecords, recorded}
 use Rattle.gate.specs.Reads.{cutBy, skipBy}
@@ -28,20 +30,38 @@ history how gs = onto [] (seen how gs)
 abbrev pub put : List Placed → ℕ → Bytes → List Placed
 put gs at g = gs ++ record { at = at; segment = g } ∷ []
 
--- where a segment starts and how long it is: what its record holds beside its row
-abbrev pub extent : Placed → ℕ × ℕ
-extent g = (g .at, length (g .segment))
+-- where a segment starts, how long it is, and its tag: all that its record hangs on, beside its row and the levels before it
+abbrev Extent : Type 0
+Extent = ℕ × ℕ × ℕ
 
-abbrev recordsAt : List (ℕ × ℕ) → List ℕ → List ℕ
-recordsAt [] rows = []
-recordsAt (x ∷ xs) [] = []
-recordsAt (x ∷ xs) (r ∷ rows) = x .0 ∷ x .1 ∷ r ∷ recordsAt xs rows
+abbrev pub extent : How → Placed → Extent
+extent how g = (g .at, length (g .segment), tagIn (viewOf (how .separators) (g .segment)))
 
-records-extents : (how : How) (h : List View) (gs : List Placed) (rows : List ℕ) → segmentRecords how h gs rows ≡ recordsAt (map extent gs) rows
+-- how many levels there are behind a segment with that tag, of so many before it
+abbrev levelsBehind : ℕ → ℕ → ℕ
+levelsBehind t n = cond (eqb t (tag "HL")) (suc n) n
+
+levels-behind : (v : View) (h : List View) → length (claims (v ∷ h)) ≡ levelsBehind (tagIn v) (length (claims h))
+levels-behind v h = by (isHL v)
+  where
+    by : (b : Bool) → length (addClaim b (suc (length h)) v (claims h)) ≡ cond b (suc (length (claims h))) (length (claims h))
+    by true = refl
+    by false = refl
+
+-- the records by what they hang on
+abbrev recordsAt : ℕ → List Extent → List ℕ → List ℕ
+recordsAt n [] rows = []
+recordsAt n (x ∷ xs) [] = []
+recordsAt n (x ∷ xs) (r ∷ rows) =
+    x .0 ∷ x .1 ∷ r ∷ cond (eqb (x .2) (tag "SE")) 0 (levelsBehind (x .2) n) ∷ recordsAt (levelsBehind (x .2) n) xs rows
+
+records-extents : (how : How) (h : List View) (gs : List Placed) (rows : List ℕ)
+    → segmentRecords how h gs rows ≡ recordsAt (length (claims h)) (map (extent how) gs) rows
 records-extents how h [] rows = refl
 records-extents how h (g ∷ gs) [] = refl
 records-extents how h (g ∷ gs) (r ∷ rows) =
-    ap (λ (l : List ℕ). g .at ∷ length (g .segment) ∷ r ∷ l) (records-extents how (viewOf (how .separators) (g .segment) ∷ h) gs rows)
+    let v = viewOf (how .separators) (g .segment) in
+    rw (records-extents how (v ∷ h) gs rows, levels-behind v h)
 
 -- the first segment stays the first with one segment more
 opening-same : (v : View) (h h′ : List View) → length h ≡ length h′ → opening h ≡ opening h′ → opening (v ∷ h) ≡ opening (v ∷ h′)
@@ -52,7 +72,7 @@ opening-same v (u ∷ h) (u′ ∷ h′) l e = e
 
 -- lists of segments that look alike to the rules of any later segment and to the records
 pub record Alike (how : How) (gs gs′ : List Placed) : Type 0 where
-  pub extents : map extent gs ≡ map extent gs′
+  pub extents : map (extent how) gs ≡ map (extent how) gs′
   pub levels : claims (history how gs) ≡ claims (history how gs′)
   pub first : opening (history how gs) ≡ opening (history how gs′)
 
@@ -67,17 +87,17 @@ module _ (how : How) where
   pub history-length : (gs : List Placed) → length (history how gs) ≡ length gs
   history-length gs = omega (arith, onto-length [] (seen how gs), length-map gs (λ (g : Placed). view (g .segment)))
 
-  pub extents-put : (gs gs′ : List Placed) (at : ℕ) (g g′ : Bytes) → map extent gs ≡ map extent gs′ → length g ≡ length g′
-      → map extent (put gs at g) ≡ map extent (put gs′ at g′)
-  extents-put gs gs′ at g g′ e l =
-      rw (map-append extent gs (record { at = at; segment = g } ∷ []), map-append extent gs′ (record { at = at; segment = g′ } ∷ []), e, l)
+  pub extents-put : (gs gs′ : List Placed) (at : ℕ) (g g′ : Bytes) → map (extent how) gs ≡ map (extent how) gs′ → length g ≡ length g′
+      → tagIn (view g) ≡ tagIn (view g′) → map (extent how) (put gs at g) ≡ map (extent how) (put gs′ at g′)
+  extents-put gs gs′ at g g′ e l t =
+      rw (map-append (extent how) gs (record { at = at; segment = g } ∷ []), map-append (extent how) gs′ (record { at = at; segment = g′ } ∷ []), e, l, t)
 
   pub alike-self : (gs : List Placed) → Alike how gs gs
   alike-self gs = record { extents = refl; levels = refl; first = refl }
 
   module _ (gs gs′ : List Placed) (a : Alike how gs gs′) where
     alike-length : length gs ≡ length gs′
-    alike-length = sym (length-map gs extent) ∙ ap length (a .extents) ∙ length-map gs′ extent
+    alike-length = sym (length-map gs (extent how)) ∙ ap length (a .extents) ∙ length-map gs′ (extent how)
 
     alike-history : length (history how gs) ≡ length (history how gs′)
     alike-history = history-length gs ∙ alike-length ∙ sym (history-length gs′)
@@ -105,7 +125,7 @@ module _ (how : How) where
     -- and with it they look alike
     alike-put : (at : ℕ) (g : Bytes) → Alike how (put gs at g) (put gs′ at g)
     alike-put at g = record {
-      extents = extents-put gs gs′ at g g (a .extents) refl;
+      extents = extents-put gs gs′ at g g (a .extents) refl refl;
       levels = rw (history-put gs at g, history-put gs′ at g, alike-history, a .levels);
       first = rw (history-put gs at g, history-put gs′ at g) (opening-same (view g) (history how gs) (history how gs′) alike-history (a .first));
     }

@@ -106,7 +106,7 @@ module _ {how : How} {before : Tables} {s : Bytes} {segments levels : List ℕ} 
 
   -- passed
   pub settles-other : (row : ℕ) → j ≡ Other row → state .count < length segments / segmentWidth → (segments′ : List ℕ)
-      → segments′ ≡ storedAt segmentWidth segments (state .count) (layout .at ∷ (layout .end - layout .at) ∷ row ∷ []) → (after : State)
+      → segments′ ≡ storedAt segmentWidth segments (state .count) (layout .at ∷ (layout .end - layout .at) ∷ row ∷ state .known .levels ∷ []) → (after : State)
       → after ≡ stateAfter state row (state .known) → Stands how before s segments′ levels (startAt how s (layout .end + 1)) after
   settles-other row q room segments′ stored after is =
       let p = says (Other row) q in
@@ -117,7 +117,7 @@ module _ {how : How} {before : Tables} {s : Bytes} {segments levels : List ℕ} 
       })
 
   pub settles-level : (row : ℕ) (level : NewLevel) (known : Known) → j ≡ Level row level known → state .count < length segments / segmentWidth → state .known .levels < length levels / levelWidth
-      → (segments′ : List ℕ) → segments′ ≡ storedAt segmentWidth segments (state .count) (layout .at ∷ (layout .end - layout .at) ∷ row ∷ []) → (levels′ : List ℕ)
+      → (segments′ : List ℕ) → segments′ ≡ storedAt segmentWidth segments (state .count) (layout .at ∷ (layout .end - layout .at) ∷ row ∷ known .levels ∷ []) → (levels′ : List ℕ)
       → levels′ ≡ storedAt levelWidth levels (state .known .levels) ((state .count + 1) ∷ level .parent ∷ level .depth ∷ level .code ∷ []) → (after : State)
       → after ≡ stateAfter state row known → Stands how before s segments′ levels′ (startAt how s (layout .end + 1)) after
   settles-level row level known q room level-room segments′ stored levels′ stored′ after is =
@@ -133,7 +133,7 @@ module _ {how : How} {before : Tables} {s : Bytes} {segments levels : List ℕ} 
 
   -- accepted
   pub settles-last : (row : ℕ) → j ≡ Last row → state .count < length segments / segmentWidth → (segments′ : List ℕ)
-      → segments′ ≡ storedAt segmentWidth segments (state .count) (layout .at ∷ (layout .end - layout .at) ∷ row ∷ [])
+      → segments′ ≡ storedAt segmentWidth segments (state .count) (layout .at ∷ (layout .end - layout .at) ∷ row ∷ 0 ∷ [])
       → (r : Step) → r ≡ acceptedAt layout state → Settles how before s layout segments′ levels r
   settles-last row q room segments′ stored r is =
       let p = says (Last row) q in

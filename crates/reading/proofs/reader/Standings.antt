@@ -22,9 +22,9 @@ use Rattle.levels.specs.internal.Everyone.{Everyone}
 use Rattle.levels.proofs.Depth.{Within4}
 use Rattle.gate.specs.Profile.{Profile, profileOf}
 use Rattle.levels.specs.Widths.{segmentWidth, levelWidth}
-use Rattle.gate.specs.Segments.{tagIn, isHL, isSE, seen, onto, levelsIn}
+use Rattle.gate.specs.Segments.{tagIn, isHL, isSE, seen, onto, levelsIn, belongsTo}
 use Rattle.gate.specs.Rules.{Sound}
-use Rattle.gate.specs.Records.{Tables, segmentRecords, levelRecords, Room, over}
+use Rattle.gate.specs.Records.{Tables, segmentRecord, segmentRecords, levelRecords, Room, over}
 use Rattle.gate.specs.Reads.{cutBy, skipBy, Passed, Read}
 use Rattle.reading.specs.internal.Standing.{Standing}
 use Rattle.reading.specs.internal.Between.{skippedAt, startAt}
@@ -32,6 +32,7 @@ use Rattle.gate.specs.declared.answer.Answer.the-variants.{Accepted, Refused}
 use Rattle.gate.specs.declared.how.How.{How}
 use Rattle.gate.proofs.reading.Laws.{onto-append, onto-length}
 use Rattle.gate.proofs.reading.Once.{Fails}
+use Rattle.gate.proofs.reading.Passing.{belongs-se, belongs-hl, belongs-other}
 use Rattle.reading.proofs.reader.HlSegments.{hl-written, depths}
 use Rattle.gate.proofs.reading.RowOfSE.{last-snoc}
 use Rattle.gate.proofs.continuing.LevelNames.{levels-hl, levels-other}
@@ -62,12 +63,14 @@ over-long table records h = simp (length-append, length-drop) (omega arith)
 
 -- one segment more
 pub records-more : (how : How) (h : List View) (gs : List Placed) (rows : List ℕ) (g : Placed) (r : ℕ) → length rows ≡ length gs
-    → segmentRecords how h (gs ++ (g ∷ [])) (rows ++ (r ∷ [])) ≡ segmentRecords how h gs rows ++ (g .at ∷ length (g .segment) ∷ r ∷ [])
+    → segmentRecords how h (gs ++ (g ∷ [])) (rows ++ (r ∷ []))
+    ≡ segmentRecords how h gs rows ++ segmentRecord (onto h (seen how gs)) (viewOf (how .separators) (g .segment)) g r
 records-more how h [] [] g r l = refl
 records-more how h [] (x ∷ rows) g r l = absurd (omega arith)
 records-more how h (f ∷ gs) [] g r l = absurd (omega arith)
 records-more how h (f ∷ gs) (x ∷ rows) g r l =
-    ap (λ (k : List ℕ). f .at ∷ length (f .segment) ∷ x ∷ k) (records-more how (viewOf (how .separators) (f .segment) ∷ h) gs rows g r (omega arith))
+    let v = viewOf (how .separators) (f .segment) in
+    ap (λ (k : List ℕ). segmentRecord h v f x ++ k) (records-more how (v ∷ h) gs rows g r (omega arith))
 
 records-long : (how : How) (h : List View) (gs : List Placed) (rows : List ℕ) → length rows ≡ length gs → length (segmentRecords how h gs rows) ≡ length gs * segmentWidth
 records-long how h [] rows l = refl
@@ -161,12 +164,17 @@ module _ {how : How} {before : Tables} {s : Bytes} {segments levels : List ℕ} 
         ∙ onto-append [] (seen how gs) (v ∷ [])
 
     -- the segment table with its record
-    segments-more : (r : ℕ) → storedAt segmentWidth segments (state .count) (at ∷ length g ∷ r ∷ []) ≡ over (before .segments) (segmentRecords how [] gs′ (rows ++ (r ∷ [])))
-    segments-more r =
-        ap (λ (t : List ℕ). storedAt segmentWidth t (state .count) (at ∷ length g ∷ r ∷ [])) (st .segments-are)
-        ∙ over-stored segmentWidth (before .segments) (segmentRecords how [] gs rows) (state .count) (at ∷ length g ∷ r ∷ [])
+    abbrev stored : ℕ → ℕ → List ℕ
+    stored r level = storedAt segmentWidth segments (state .count) (at ∷ length g ∷ r ∷ level ∷ [])
+
+    segments-more : (r level : ℕ) → belongsTo before-views v ≡ level → stored r level ≡ over (before .segments) (segmentRecords how [] gs′ (rows ++ (r ∷ [])))
+    segments-more r level belongs =
+        let numbers = segmentRecord before-views v (record { at = at; segment = g }) r in
+        rw (← belongs)
+        (ap (λ (t : List ℕ). storedAt segmentWidth t (state .count) numbers) (st .segments-are)
+        ∙ over-stored segmentWidth (before .segments) (segmentRecords how [] gs rows) (state .count) numbers
         (records-long how [] gs rows (st .rows-are) ∙ ap (λ (k : ℕ). k * segmentWidth) (st .count-is)) refl
-        ∙ ap (over (before .segments)) (sym (records-more how [] gs rows (record { at = at; segment = g }) r (st .rows-are)))
+        ∙ ap (over (before .segments)) (sym (records-more how [] gs rows (record { at = at; segment = g }) r (st .rows-are))))
 
     -- room for a segment, and for one that makes a level
     pub room-other : isHL v ≡ false → state .count < length segments / segmentWidth → Room profile before (v ∷ before-views)
@@ -213,20 +221,20 @@ module _ {how : How} {before : Tables} {s : Bytes} {segments levels : List ℕ} 
     -- a segment that makes no level is passed
     pub standing-other : (r : ℕ) → Sound profile rows before-views v r → isHL v ≡ false → T (not (isSE v))
         → state .count < length segments / segmentWidth
-        → Standing how before s (storedAt segmentWidth segments (state .count) (at ∷ length g ∷ r ∷ [])) levels next (stateAfter state r (state .known)) gs′ (rows ++ (r ∷ []))
+        → Standing how before s (stored r (state .known .levels)) levels next (stateAfter state r (state .known)) gs′ (rows ++ (r ∷ []))
     standing-other r sound hl se room =
         let same : levelsIn profile (onto [] (seen how gs′)) ≡ levelsIn profile before-views =
         ap (levelsIn profile) history-more ∙ levels-other before-views v hl in
         let one : suc (state .count) ≡ state .count + 1 = omega arith in
         record {
           passed = passed-next r sound se (room-other hl room);
-          segments-are = segments-more r;
+          segments-are = segments-more r (state .known .levels) (belongs-other profile before-views v se hl ∙ st .knows .counted);
           levels-are = st .levels-are ∙ ap (λ (ls : List Level). over (before .levels) (recordsOf ls)) (sym same);
           count-is = count-more;
           rows-are = rows-more r;
           row-is = last-snoc 0 rows r;
           again-is = again-more r;
-          tells = rw (← one, same) (holds-segment (st .tells) at (length g) r (omega arith));
+          tells = rw (← one, same) (holds-segment (st .tells) at (length g) r (state .known .levels) (omega arith));
           knows = rw same (st .knows);
         }
 
@@ -237,7 +245,7 @@ module _ {how : How} {before : Tables} {s : Bytes} {segments levels : List ℕ} 
     pub standing-level : Fitted (how .separators) → (r : ℕ) → Sound profile rows before-views v r → isHL v ≡ true → T (not (isSE v))
         → state .count < length segments / segmentWidth → state .known .levels < length levels / levelWidth → (numbers : List ℕ) → numbers ≡ recordOf new → (after : Known)
         → Knows after (new ∷ levelsIn profile before-views)
-        → Standing how before s (storedAt segmentWidth segments (state .count) (at ∷ length g ∷ r ∷ [])) (storedAt levelWidth levels (state .known .levels) numbers) next (stateAfter state r after) gs′ (rows ++ (r ∷ []))
+        → Standing how before s (stored r (after .levels)) (storedAt levelWidth levels (state .known .levels) numbers) next (stateAfter state r after) gs′ (rows ++ (r ∷ []))
     standing-level fit r sound hl se room level-room numbers is after knows =
         let p = passed-next r sound se (room-level hl room level-room) in
         let more-levels : levelsIn profile (onto [] (seen how gs′)) ≡ new ∷ levelsIn profile before-views =
@@ -248,7 +256,7 @@ module _ {how : How} {before : Tables} {s : Bytes} {segments levels : List ℕ} 
         let written = hl-written (how .separators) fit s at g more whole (sound .kept .elements) (eqb→eq (tagIn v) (tag "HL") (rw hl tt)) in
         record {
           passed = p;
-          segments-are = segments-more r;
+          segments-are = segments-more r (after .levels) (belongs-hl profile before-views v se hl ∙ knows .counted);
           levels-are =
               ap (λ (t : List ℕ). storedAt levelWidth t (state .known .levels) numbers) (st .levels-are)
               ∙ over-stored levelWidth (before .levels) (levelRecords profile how gs) (state .known .levels) numbers
@@ -260,14 +268,14 @@ module _ {how : How} {before : Tables} {s : Bytes} {segments levels : List ℕ} 
           row-is = last-snoc 0 rows r;
           again-is = again-more r;
           tells = rw (← one, ← two, more-levels, is)
-              (holds-level (st .tells) at (length g) r (omega arith) new (omega (arith, history-long how gs, st .count-is)) (deep .0 .1) (omega arith) written);
+              (holds-level (st .tells) at (length g) r (suc (state .known .levels)) (omega arith) new (omega (arith, history-long how gs, st .count-is)) (deep .0 .1) (omega arith) written);
           knows = rw more-levels knows;
         }
 
     -- the SE closes the transaction
     pub standing-closes : (r : ℕ) → Sound profile rows before-views v r → isHL v ≡ false → T (isSE v) → state .count < length segments / segmentWidth
         → Read profile how s before (Accepted (state .count + 1) (state .known .levels) (at + length g + 1))
-        (record { segments = storedAt segmentWidth segments (state .count) (at ∷ length g ∷ r ∷ []); levels = levels })
+        (record { segments = stored r 0; levels = levels })
     standing-closes r sound hl se room =
         let same : levelsIn profile (onto [] (seen how gs′)) ≡ levelsIn profile before-views =
         ap (levelsIn profile) history-more ∙ levels-other before-views v hl in
@@ -293,5 +301,5 @@ module _ {how : How} {before : Tables} {s : Bytes} {segments levels : List ℕ} 
               counts = cc (count-more, ap length same ∙ st .knows .counted);
             };
           };
-          tables = λ i. record { segments = segments-more r i; levels = are i };
+          tables = λ i. record { segments = segments-more r 0 (belongs-se profile before-views v se) i; levels = are i };
         }

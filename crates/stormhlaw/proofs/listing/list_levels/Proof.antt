@@ -6,13 +6,16 @@ use Rattle.stormhlaw.proofs.listing.list_levels.Statement.{statement}
 use Rattle.stormhlaw.proofs.listing.list_levels.Tie as tie
 
 abbrev Inv-loop : tie.InvT-loop
-Inv-loop levels count k₀ t4 t5 k = k ≤ count
+Inv-loop levels count k₀ t5 t6 k = k ≤ count
 
 abbrev μ-loop : tie.MeasureT-loop
-μ-loop levels count k₀ t4 t5 k = count - k
+μ-loop levels count k₀ t5 t6 k = count - k
 
 loop-holds : tie.Need-loop-holds Inv-loop μ-loop
 loop-holds c = search needs
+
+mul-at : tie.Need-mul-at Inv-loop μ-loop
+mul-at c = search needs
 
 slice-aggregate-word : tie.Need-slice-aggregate-word Inv-loop μ-loop
 slice-aggregate-word c = search needs
@@ -26,56 +29,29 @@ add-next c = search needs
 next-requires : tie.Need-next-requires Inv-loop μ-loop
 next-requires c κs = search needs
 
-mul-next : tie.Need-mul-next Inv-loop μ-loop
-mul-next c = search needs
+add-numbers : tie.Need-add-numbers Inv-loop μ-loop
+add-numbers c = search needs
 
-mul-next-2 : tie.Need-mul-next-2 Inv-loop μ-loop
-mul-next-2 c = search needs
+mul-numbers : tie.Need-mul-numbers Inv-loop μ-loop
+mul-numbers c = search needs
 
-shared-slice-read-next : tie.Need-shared-slice-read-next Inv-loop μ-loop
-shared-slice-read-next c = search needs
+sub-numbers : tie.Need-sub-numbers Inv-loop μ-loop
+sub-numbers c = search needs
 
-next-requires-2 : tie.Need-next-requires-2 Inv-loop μ-loop
-next-requires-2 c κs = search needs
+part-numbers-start : tie.Need-part-numbers-start Inv-loop μ-loop
+part-numbers-start c = search needs
 
-mul-next-3 : tie.Need-mul-next-3 Inv-loop μ-loop
-mul-next-3 c = search needs
+part-numbers-end : tie.Need-part-numbers-end Inv-loop μ-loop
+part-numbers-end c = search needs
 
-add-next-2 : tie.Need-add-next-2 Inv-loop μ-loop
-add-next-2 c = search needs
-
-mul-next-4 : tie.Need-mul-next-4 Inv-loop μ-loop
-mul-next-4 c = search needs
-
-shared-slice-read-next-2 : tie.Need-shared-slice-read-next-2 Inv-loop μ-loop
-shared-slice-read-next-2 c = search needs
-
-next-requires-3 : tie.Need-next-requires-3 Inv-loop μ-loop
-next-requires-3 c κs = search needs
-
-mul-next-5 : tie.Need-mul-next-5 Inv-loop μ-loop
-mul-next-5 c = search needs
-
-add-next-3 : tie.Need-add-next-3 Inv-loop μ-loop
-add-next-3 c = search needs
-
-mul-next-6 : tie.Need-mul-next-6 Inv-loop μ-loop
-mul-next-6 c = search needs
-
-shared-slice-read-next-3 : tie.Need-shared-slice-read-next-3 Inv-loop μ-loop
-shared-slice-read-next-3 c = search needs
-
-next-requires-4 : tie.Need-next-requires-4 Inv-loop μ-loop
-next-requires-4 c κs = search needs
-
-mul-letters : tie.Need-mul-letters Inv-loop μ-loop
-mul-letters c = search needs
+numbers-requires : tie.Need-numbers-requires Inv-loop μ-loop
+numbers-requires c κs = search needs
 
 add-letters : tie.Need-add-letters Inv-loop μ-loop
 add-letters c = search needs
 
-mul-letters-2 : tie.Need-mul-letters-2 Inv-loop μ-loop
-mul-letters-2 c = search needs
+mul-letters : tie.Need-mul-letters Inv-loop μ-loop
+mul-letters c = search needs
 
 shared-slice-read-letters : tie.Need-shared-slice-read-letters Inv-loop μ-loop
 shared-slice-read-letters c = search needs
@@ -108,27 +84,19 @@ list-levels-spec =
     Inv-loop
     μ-loop
     loop-holds
+    mul-at
     slice-aggregate-word
     word-requires
     add-next
     next-requires
-    mul-next
-    mul-next-2
-    shared-slice-read-next
-    next-requires-2
-    mul-next-3
-    add-next-2
-    mul-next-4
-    shared-slice-read-next-2
-    next-requires-3
-    mul-next-5
-    add-next-3
-    mul-next-6
-    shared-slice-read-next-3
-    next-requires-4
-    mul-letters
+    add-numbers
+    mul-numbers
+    sub-numbers
+    part-numbers-start
+    part-numbers-end
+    numbers-requires
     add-letters
-    mul-letters-2
+    mul-letters
     shared-slice-read-letters
     letters-requires
     slice-aggregate-word-2

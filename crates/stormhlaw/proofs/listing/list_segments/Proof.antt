@@ -6,13 +6,16 @@ use Rattle.stormhlaw.proofs.listing.list_segments.Statement.{statement}
 use Rattle.stormhlaw.proofs.listing.list_segments.Tie as tie
 
 abbrev Inv-loop : tie.InvT-loop
-Inv-loop segments count k₀ t4 k = k ≤ count
+Inv-loop segments count k₀ t5 k = k ≤ count
 
 abbrev μ-loop : tie.MeasureT-loop
-μ-loop segments count k₀ t4 k = count - k
+μ-loop segments count k₀ t5 k = count - k
 
 loop-holds : tie.Need-loop-holds Inv-loop μ-loop
 loop-holds c = search needs
+
+mul-at : tie.Need-mul-at Inv-loop μ-loop
+mul-at c = search needs
 
 add-number : tie.Need-add-number Inv-loop μ-loop
 add-number c = search needs
@@ -20,47 +23,23 @@ add-number c = search needs
 number-requires : tie.Need-number-requires Inv-loop μ-loop
 number-requires c κs = search needs
 
-mul-next : tie.Need-mul-next Inv-loop μ-loop
-mul-next c = search needs
+add-numbers : tie.Need-add-numbers Inv-loop μ-loop
+add-numbers c = search needs
 
-mul-next-2 : tie.Need-mul-next-2 Inv-loop μ-loop
-mul-next-2 c = search needs
+mul-numbers : tie.Need-mul-numbers Inv-loop μ-loop
+mul-numbers c = search needs
 
-shared-slice-read-next : tie.Need-shared-slice-read-next Inv-loop μ-loop
-shared-slice-read-next c = search needs
+sub-numbers : tie.Need-sub-numbers Inv-loop μ-loop
+sub-numbers c = search needs
 
-next-requires : tie.Need-next-requires Inv-loop μ-loop
-next-requires c κs = search needs
+part-numbers-start : tie.Need-part-numbers-start Inv-loop μ-loop
+part-numbers-start c = search needs
 
-mul-next-3 : tie.Need-mul-next-3 Inv-loop μ-loop
-mul-next-3 c = search needs
+part-numbers-end : tie.Need-part-numbers-end Inv-loop μ-loop
+part-numbers-end c = search needs
 
-add-next : tie.Need-add-next Inv-loop μ-loop
-add-next c = search needs
-
-mul-next-4 : tie.Need-mul-next-4 Inv-loop μ-loop
-mul-next-4 c = search needs
-
-shared-slice-read-next-2 : tie.Need-shared-slice-read-next-2 Inv-loop μ-loop
-shared-slice-read-next-2 c = search needs
-
-next-requires-2 : tie.Need-next-requires-2 Inv-loop μ-loop
-next-requires-2 c κs = search needs
-
-mul-next-5 : tie.Need-mul-next-5 Inv-loop μ-loop
-mul-next-5 c = search needs
-
-add-next-2 : tie.Need-add-next-2 Inv-loop μ-loop
-add-next-2 c = search needs
-
-mul-next-6 : tie.Need-mul-next-6 Inv-loop μ-loop
-mul-next-6 c = search needs
-
-shared-slice-read-next-3 : tie.Need-shared-slice-read-next-3 Inv-loop μ-loop
-shared-slice-read-next-3 c = search needs
-
-next-requires-3 : tie.Need-next-requires-3 Inv-loop μ-loop
-next-requires-3 c κs = search needs
+numbers-requires : tie.Need-numbers-requires Inv-loop μ-loop
+numbers-requires c κs = search needs
 
 slice-aggregate-word : tie.Need-slice-aggregate-word Inv-loop μ-loop
 slice-aggregate-word c = search needs
@@ -87,22 +66,15 @@ list-segments-spec =
     Inv-loop
     μ-loop
     loop-holds
+    mul-at
     add-number
     number-requires
-    mul-next
-    mul-next-2
-    shared-slice-read-next
-    next-requires
-    mul-next-3
-    add-next
-    mul-next-4
-    shared-slice-read-next-2
-    next-requires-2
-    mul-next-5
-    add-next-2
-    mul-next-6
-    shared-slice-read-next-3
-    next-requires-3
+    add-numbers
+    mul-numbers
+    sub-numbers
+    part-numbers-start
+    part-numbers-end
+    numbers-requires
     slice-aggregate-word
     word-requires
     add-k
