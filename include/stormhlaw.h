@@ -127,11 +127,15 @@ extern "C" {
 #define STORMHLAW_OUTPUT_TOO_SHORT 19
 
 /*
-** The segment table holds three numbers a segment, one record behind the other:
+** The segment table holds four numbers a segment, one record behind the other:
 **
-**   segments[3 * k]      the byte where segment k + 1 starts, behind the line end that was skipped before it
-**   segments[3 * k + 1]  how many bytes it has, without its terminator
-**   segments[3 * k + 2]  its row in the table of 79, 1 to 79
+**   segments[4 * k]      the byte where segment k + 1 starts, behind the line end that was skipped before it
+**   segments[4 * k + 1]  how many bytes it has, without its terminator
+**   segments[4 * k + 2]  its row in the table of 79, 1 to 79
+**   segments[4 * k + 3]  the number of the level that it belongs to; 0 before the first HL and for the SE
+**
+** A segment belongs to the level of the latest HL, and an HL to the level that it makes itself. The record of level n begins at
+** levels[4 * (n - 1)] and names that HL: nobody need search backwards for it.
 **
 ** The level table holds four numbers a level:
 **
@@ -154,7 +158,7 @@ extern "C" {
 ** The room that is lent bounds the number of levels, and with it the time: lend what you expect. STORMHLAW_LEVEL_ROOM is what the
 ** example lends, and the other bindings where their caller names no room.
 */
-#define STORMHLAW_SEGMENT_NUMBERS 3
+#define STORMHLAW_SEGMENT_NUMBERS 4
 #define STORMHLAW_LEVEL_NUMBERS 4
 #define STORMHLAW_LEVEL_ROOM 4096
 
@@ -164,7 +168,7 @@ extern "C" {
 **   input, input_length        the bytes
 **   element, component, terminator   the three separators
 **   how                        the sum of the flags, or 0
-**   segments, segments_length  the segment table; it has room for segments_length / 3 segments
+**   segments, segments_length  the segment table; it has room for segments_length / 4 segments
 **   levels, levels_length      the level table; it has room for levels_length / 4 levels
 **   answer                     the four numbers of the answer, always written
 **
@@ -223,27 +227,28 @@ void stormhlaw_rewrite(
 static inline size_t stormhlaw_valid_segments(const uint64_t answer[4], const uint64_t *segments)
 {
     const uint64_t row_of_se = 79;
-    size_t count = 1;
+    size_t k = 0;
     if (answer[STORMHLAW_NUMBER] == STORMHLAW_ACCEPTED)
         return (size_t)answer[STORMHLAW_SEGMENTS];
     if (answer[STORMHLAW_NUMBER] <= STORMHLAW_INPUT_TOO_LONG)
         return 0;
     if (answer[STORMHLAW_NUMBER] <= STORMHLAW_NO_ROOM)
         return (size_t)answer[STORMHLAW_SEGMENT] - 1;
-    while (segments[STORMHLAW_SEGMENT_NUMBERS * count - 1] != row_of_se)
-        count++;
-    return count;
+    while (segments[STORMHLAW_SEGMENT_NUMBERS * k + 2] != row_of_se)
+        k++;
+    return k + 1;
 }
 
 static inline size_t stormhlaw_valid_levels(const uint64_t answer[4], const uint64_t *segments)
 {
-    const uint64_t row_of_hl = 18;
-    const size_t count = stormhlaw_valid_segments(answer, segments);
-    size_t levels = 0;
-    size_t k;
-    for (k = 1; k <= count; k++)
-        levels += segments[STORMHLAW_SEGMENT_NUMBERS * k - 1] == row_of_hl;
-    return levels;
+    size_t k = stormhlaw_valid_segments(answer, segments);
+    uint64_t level = 0;
+    /* Levels are numbered in order: the last segment that belongs to one tells how many there are. */
+    while (level == 0 && k > 0) {
+        k--;
+        level = segments[STORMHLAW_SEGMENT_NUMBERS * k + 3];
+    }
+    return (size_t)level;
 }
 
 /*

@@ -16,8 +16,8 @@ static void list_segments(const uint8_t *input, const uint64_t *segments, uint64
         const uint64_t *record = segments + STORMHLAW_SEGMENT_NUMBERS * k;
         uint64_t tag[2];
         stormhlaw_element(input + record[0], (size_t)record[1], '*', 0, tag);
-        printf("segment %llu: %.*s, row %llu\n", (unsigned long long)(k + 1), (int)tag[1],
-               (const char *)input + record[0] + tag[0], (unsigned long long)record[2]);
+        printf("segment %llu: %.*s, row %llu, level %llu\n", (unsigned long long)(k + 1), (int)tag[1],
+               (const char *)input + record[0] + tag[0], (unsigned long long)record[2], (unsigned long long)record[3]);
     }
 }
 

@@ -1,5 +1,5 @@
-/* The worked reports of document 01, the lookups, an attachment and line ends, through the header alone. Says what differs and ends with
-** status 1. */
+/* The worked reports of document 01, the lookups, the levels of segments, an attachment and line ends, through the header alone. Says what
+** differs and ends with status 1. */
 #include <stdio.h>
 #include <string.h>
 
@@ -18,6 +18,14 @@
     "ST*842*0001~" first "BNR*11*NR7*20240301~" second "HL*1**RP*1~" third "HL*2*1*I*0~" fourth "NCD*1~" fifth "NCA**R1~" sixth \
     "SE*7*0001~"
 #define LINE(end) LINES(end, "", "", "", "", "")
+
+/* Levels down to the fourth, and then an item under the first; no HL01 is the number of its level. */
+#define TREE                                                                                                                \
+    "ST*842*0001~BNR*11*NR7*20240301~DTM*002*20240301~HL*30**RP*1~DTM*002*20240302~HL*20*30*I*1~HL*10*20*F*1~HL*5*10*PC*0~" \
+    "NCD*1~HL*40*30*I*0~NCD*1~NCA**R1~SE*13*0001~"
+
+/* How many numbers a segment table with room for ten has. */
+#define TEN (10 * STORMHLAW_SEGMENT_NUMBERS)
 
 /* The bytes of a quoted text, zero bytes among them too. */
 #define BYTES(text) (const uint8_t *)(text), sizeof(text) - 1
@@ -40,30 +48,66 @@ static void expect(const char *what, const uint64_t *found, const uint64_t *want
 /* The answer for a report with so much room, and the tables after it. */
 static void expect_read(const char *report, size_t segment_numbers, const uint64_t wanted[4])
 {
-    uint64_t segments[30] = {0}, levels[20] = {0}, answer[4];
+    uint64_t segments[TEN] = {0}, levels[20] = {0}, answer[4];
     stormhlaw_read((const uint8_t *)report, strlen(report), '*', ':', '~', 0, segments, segment_numbers, levels, 20, answer);
     expect(report, answer, wanted, 4);
 }
 
+/* A segment's record takes four numbers: three for each of W1's seven segments are too few, and so is one less than it needs. */
+static void expect_room(void)
+{
+    expect_read(W1, 21, (const uint64_t[]){17, 6, 60, 0});
+    expect_read(W1, 24, (const uint64_t[]){17, 7, 68, 0});
+    expect_read(W1, 27, (const uint64_t[]){17, 7, 68, 0});
+    expect_read(W1, 28, (const uint64_t[]){0, 7, 2, 78});
+}
+
 static void expect_tables(void)
 {
-    static const uint64_t wanted_segments[24] = {0, 11, 1, 12, 19, 2, 32, 10, 18, 43, 10, 18, 54, 5, 46, 60, 7, 64, 68, 9, 79, 9, 9, 9};
+    static const uint64_t wanted_segments[32] = {0,  11, 1,  0, 12, 19, 2,  0, 32, 10, 18, 1, 43, 10, 18, 2,
+                                                 54, 5,  46, 2, 60, 7,  64, 2, 68, 9,  79, 0, 9,  9,  9,  9};
     static const uint64_t wanted_levels[12] = {3, 0, 1, 1, 4, 1, 2, 2, 9, 9, 9, 9};
-    uint64_t segments[24], levels[12], answer[4];
-    for (size_t k = 0; k < 24; k++)
+    uint64_t segments[32], levels[12], answer[4];
+    for (size_t k = 0; k < 32; k++)
         segments[k] = 9;
     for (size_t k = 0; k < 12; k++)
         levels[k] = 9;
-    stormhlaw_read((const uint8_t *)W1, strlen(W1), '*', ':', '~', 0, segments, 24, levels, 12, answer);
-    expect("segments of W1", segments, wanted_segments, 24);
+    stormhlaw_read((const uint8_t *)W1, strlen(W1), '*', ':', '~', 0, segments, 32, levels, 12, answer);
+    expect("segments of W1", segments, wanted_segments, 32);
     expect("levels of W1", levels, wanted_levels, 12);
+}
+
+/* A reading of the first bytes of TREE leaves so many records, each with the level that the segment belongs to, and so many levels. */
+static void expect_levels_of(size_t length, uint64_t segment_count, uint64_t level_count)
+{
+    static const uint64_t wanted[13] = {0, 0, 0, 1, 1, 2, 3, 4, 4, 5, 5, 5, 0};
+    uint64_t segments[52], levels[20], answer[4], found[13], counts[2];
+    memset(segments, 9, sizeof segments);
+    stormhlaw_read((const uint8_t *)TREE, length, '*', ':', '~', 0, segments, 52, levels, 20, answer);
+    counts[0] = stormhlaw_valid_segments(answer, segments);
+    counts[1] = stormhlaw_valid_levels(answer, segments);
+    expect("records of the tree", counts, (const uint64_t[]){segment_count, level_count}, 2);
+    for (size_t k = 0; k < segment_count; k++)
+        found[k] = segments[4 * k + 3];
+    expect("levels of the tree's segments", found, wanted, (size_t)segment_count);
+}
+
+/* The heading belongs to no level, an HL to itself, what follows it to the latest HL and not to that one's parent, and the SE to none. */
+static void expect_belonging(void)
+{
+    expect_levels_of(strlen(TREE), 13, 5);
+    expect_levels_of(strlen(TREE) - 1, 12, 5);
+    expect_levels_of(strlen(TREE) - strlen("NCD*1~NCA**R1~SE*13*0001~"), 10, 5);
+    expect_levels_of(strlen(TREE) - strlen("HL*40*30*I*0~NCD*1~NCA**R1~SE*13*0001~"), 9, 4);
+    expect_levels_of(strlen("ST*842*0001~BNR*11*NR7*20240301~DTM*002*20240301~HL*30**RP*1~DTM*"), 4, 1);
+    expect_levels_of(strlen("ST*842*0001~BNR*11*NR7*20240301~DTM*002*20240301~"), 3, 0);
 }
 
 /* How many records are valid after a rewriting with so much room for segments, numbers of the output and other separators. */
 static void expect_valid(const char *report, uint8_t element, uint8_t new_element, size_t room, size_t length, uint64_t number,
                          uint64_t segment_count, uint64_t level_count)
 {
-    uint64_t segments[30] = {0}, levels[20] = {0}, answer[4], found[3];
+    uint64_t segments[TEN] = {0}, levels[20] = {0}, answer[4], found[3];
     uint8_t output[80];
     stormhlaw_rewrite((const uint8_t *)report, strlen(report), element, ':', '~', STORMHLAW_STRICT, new_element, '^', '\'', segments, room,
                       levels, 20, output, length, answer);
@@ -75,15 +119,15 @@ static void expect_valid(const char *report, uint8_t element, uint8_t new_elemen
 
 static void expect_valid_records(void)
 {
-    expect_valid(W1, '*', '|', 30, 80, STORMHLAW_ACCEPTED, 7, 2);
-    expect_valid(W1, 'A', '|', 30, 80, STORMHLAW_SEPARATORS_UNFIT, 0, 0);
-    expect_valid("", '*', '|', 30, 80, STORMHLAW_NO_TERMINATOR, 0, 0);
-    expect_valid("ST*842*0001~BNR*11*NR7*20240301~HL*1**RP*1~HL*2*1*F*0~", '*', '|', 30, 80, STORMHLAW_LEVEL_NOT_PERMITTED, 3, 1);
-    expect_valid(W1, '*', '|', 18, 80, STORMHLAW_NO_ROOM, 6, 2);
-    expect_valid(W1, '*', '7', 30, 80, STORMHLAW_SEPARATORS_UNFIT, 0, 0);
-    expect_valid("ST*842*0001~BNR*11*N|7*20240301~HL*1**RP*1~HL*2*1*I*0~NCD*1~NCA**R1~SE*7*0001~", '*', '|', 30, 80,
+    expect_valid(W1, '*', '|', TEN, 80, STORMHLAW_ACCEPTED, 7, 2);
+    expect_valid(W1, 'A', '|', TEN, 80, STORMHLAW_SEPARATORS_UNFIT, 0, 0);
+    expect_valid("", '*', '|', TEN, 80, STORMHLAW_NO_TERMINATOR, 0, 0);
+    expect_valid("ST*842*0001~BNR*11*NR7*20240301~HL*1**RP*1~HL*2*1*F*0~", '*', '|', TEN, 80, STORMHLAW_LEVEL_NOT_PERMITTED, 3, 1);
+    expect_valid(W1, '*', '|', 24, 80, STORMHLAW_NO_ROOM, 6, 2);
+    expect_valid(W1, '*', '7', TEN, 80, STORMHLAW_SEPARATORS_UNFIT, 0, 0);
+    expect_valid("ST*842*0001~BNR*11*N|7*20240301~HL*1**RP*1~HL*2*1*I*0~NCD*1~NCA**R1~SE*7*0001~", '*', '|', TEN, 80,
                  STORMHLAW_DATA_EQUALS_SEPARATOR, 7, 2);
-    expect_valid(W1, '*', '|', 30, 77, STORMHLAW_OUTPUT_TOO_SHORT, 7, 2);
+    expect_valid(W1, '*', '|', TEN, 77, STORMHLAW_OUTPUT_TOO_SHORT, 7, 2);
 }
 
 static void expect_element(const char *segment, uint64_t number, uint64_t start, uint64_t length)
@@ -118,11 +162,11 @@ static void expect_lookups(void)
 /* The answer for a rewriting to | ^ and ', and the output, whose bytes were all '.' before. */
 static void expect_rewrite(const char *report, size_t length, const uint64_t wanted[4], const char *wanted_output)
 {
-    uint64_t segments[30], levels[20], answer[4];
+    uint64_t segments[TEN], levels[20], answer[4];
     char output[81];
     memset(output, '.', 80);
     output[80] = 0;
-    stormhlaw_rewrite((const uint8_t *)report, strlen(report), '*', ':', '~', STORMHLAW_STRICT, '|', '^', '\'', segments, 30, levels, 20,
+    stormhlaw_rewrite((const uint8_t *)report, strlen(report), '*', ':', '~', STORMHLAW_STRICT, '|', '^', '\'', segments, TEN, levels, 20,
                       (uint8_t *)output, length, answer);
     expect(report, answer, wanted, 4);
     if (strcmp(output, wanted_output) == 0) {
@@ -159,8 +203,8 @@ static void expect_bytes(const char *what, const uint8_t *found, const char *wan
 /* The answer for the bytes of a report that is read with these flags. */
 static void expect_how(const char *what, const uint8_t *report, size_t length, uint64_t how, const uint64_t wanted[4])
 {
-    uint64_t segments[30], levels[20], answer[4];
-    stormhlaw_read(report, length, '*', ':', '~', how, segments, 30, levels, 20, answer);
+    uint64_t segments[TEN], levels[20], answer[4];
+    stormhlaw_read(report, length, '*', ':', '~', how, segments, TEN, levels, 20, answer);
     expect(what, answer, wanted, 4);
 }
 
@@ -180,15 +224,15 @@ static void expect_bin_element(size_t length, uint64_t number, uint64_t start, u
 
 static void expect_attachment_found(void)
 {
-    static const uint64_t wanted_segments[27] = {0,  11, 1,  12, 19, 2,  32, 10, 18, 43, 10, 18, 54, 5,
-                                                 46, 60, 6,  54, 67, 14, 55, 82, 7,  64, 90, 9,  79};
+    static const uint64_t wanted_segments[36] = {0,  11, 1,  0, 12, 19, 2,  0, 32, 10, 18, 1, 43, 10, 18, 2, 54, 5, 46, 2,
+                                                 60, 6,  54, 2, 67, 14, 55, 2, 82, 7,  64, 2, 90, 9,  79, 0};
     static const char report[] = BEFORE "BIN*8*" ATTACHED BEHIND;
-    uint64_t segments[27] = {0}, levels[8] = {0}, answer[4], span[2];
-    stormhlaw_read(BYTES(report), '*', ':', '~', 0, segments, 27, levels, 8, answer);
+    uint64_t segments[36] = {0}, levels[8] = {0}, answer[4], span[2];
+    stormhlaw_read(BYTES(report), '*', ':', '~', 0, segments, 36, levels, 8, answer);
     expect("an attachment", answer, (const uint64_t[]){0, 9, 2, 100}, 4);
-    expect("segments with an attachment", segments, wanted_segments, 27);
-    stormhlaw_element((const uint8_t *)report + segments[18], (size_t)segments[19], '*', 2, span);
-    expect_bytes("BIN02", (const uint8_t *)report + segments[18] + span[0], ATTACHED, 8);
+    expect("segments with an attachment", segments, wanted_segments, 36);
+    stormhlaw_element((const uint8_t *)report + segments[24], (size_t)segments[25], '*', 2, span);
+    expect_bytes("BIN02", (const uint8_t *)report + segments[24] + span[0], ATTACHED, 8);
     expect_bin_element(14, 0, 0, 3);
     expect_bin_element(14, 1, 4, 1);
     expect_bin_element(14, 2, 6, 8);
@@ -205,16 +249,16 @@ static void expect_attachment_rewritten(void)
     static const char report[] = BEFORE "BIN*8*" ATTACHED BEHIND;
     static const char wanted[] =
         "ST|842|0001'BNR|11|NR7|20240301'HL|1||RP|1'HL|2|1|I|0'NCD|1'EFI|00'BIN|8|" ATTACHED "'NCA||R1'SE|9|0001'";
-    uint64_t segments[27] = {0}, levels[8] = {0}, segments_again[27] = {0}, levels_again[8] = {0}, answer[4];
+    uint64_t segments[36] = {0}, levels[8] = {0}, segments_again[36] = {0}, levels_again[8] = {0}, answer[4];
     uint8_t output[100] = {0}, again[100] = {0};
-    stormhlaw_rewrite(BYTES(report), '*', ':', '~', STORMHLAW_STRICT, '|', '^', '\'', segments, 27, levels, 8, output, 100, answer);
+    stormhlaw_rewrite(BYTES(report), '*', ':', '~', STORMHLAW_STRICT, '|', '^', '\'', segments, 36, levels, 8, output, 100, answer);
     expect("an attachment rewritten", answer, (const uint64_t[]){0, 9, 2, 100}, 4);
     expect_bytes("an attachment rewritten", output, wanted, 100);
-    stormhlaw_read(output, 100, '|', '^', '\'', 0, segments_again, 27, levels_again, 8, answer);
+    stormhlaw_read(output, 100, '|', '^', '\'', 0, segments_again, 36, levels_again, 8, answer);
     expect("an attachment read back", answer, (const uint64_t[]){0, 9, 2, 100}, 4);
-    expect("segments of an attachment read back", segments_again, segments, 27);
+    expect("segments of an attachment read back", segments_again, segments, 36);
     expect("levels of an attachment read back", levels_again, levels, 8);
-    stormhlaw_rewrite(output, 100, '|', '^', '\'', STORMHLAW_STRICT, '*', ':', '~', segments, 27, levels, 8, again, 100, answer);
+    stormhlaw_rewrite(output, 100, '|', '^', '\'', STORMHLAW_STRICT, '*', ':', '~', segments, 36, levels, 8, again, 100, answer);
     expect_bytes("an attachment written back", again, report, 100);
 }
 
@@ -233,13 +277,14 @@ static void expect_attachment_refused(void)
 
 static void expect_lines_skipped(void)
 {
-    static const uint64_t wanted_segments[21] = {0, 11, 1, 14, 19, 2, 35, 10, 18, 47, 10, 18, 58, 5, 46, 66, 7, 64, 75, 9, 79};
+    static const uint64_t wanted_segments[28] = {0,  11, 1,  0, 14, 19, 2,  0, 35, 10, 18, 1, 47, 10, 18, 2,
+                                                 58, 5,  46, 2, 66, 7,  64, 2, 75, 9,  79, 0};
     static const uint64_t wanted_levels[8] = {3, 0, 1, 1, 4, 1, 2, 2};
     static const char report[] = LINES("\r\n", "\n", "\r", "", "\r\n", "\n");
-    uint64_t segments[21] = {0}, levels[8] = {0}, answer[4];
-    stormhlaw_read(BYTES(report), '*', ':', '~', 0, segments, 21, levels, 8, answer);
+    uint64_t segments[28] = {0}, levels[8] = {0}, answer[4];
+    stormhlaw_read(BYTES(report), '*', ':', '~', 0, segments, 28, levels, 8, answer);
     expect("line ends of all kinds", answer, (const uint64_t[]){0, 7, 2, 85}, 4);
-    expect("segments with line ends", segments, wanted_segments, 21);
+    expect("segments with line ends", segments, wanted_segments, 28);
     expect("levels with line ends", levels, wanted_levels, 8);
     expect_answer("CR LF", BYTES(LINES("\r\n", "\r\n", "\r\n", "\r\n", "\r\n", "\r\n") "\r\n"), (const uint64_t[]){0, 7, 2, 90});
     expect_answer("LF", BYTES(LINES("\n", "\n", "\n", "\n", "\n", "\n") "\n"), (const uint64_t[]){0, 7, 2, 84});
@@ -266,9 +311,9 @@ static void expect_lines_not_rewritten(void)
 {
     static const char report[] = LINE("\r\n");
     for (uint64_t how = 0; how <= STORMHLAW_STRICT; how++) {
-        uint64_t segments[30], levels[20], answer[4];
+        uint64_t segments[TEN], levels[20], answer[4];
         uint8_t output[80] = "kept";
-        stormhlaw_rewrite(BYTES(report), '*', ':', '~', how, '|', '^', '\'', segments, 30, levels, 20, output, 80, answer);
+        stormhlaw_rewrite(BYTES(report), '*', ':', '~', how, '|', '^', '\'', segments, TEN, levels, 20, output, 80, answer);
         expect("line ends rewritten", answer, (const uint64_t[]){5, 2, 12, 0}, 4);
         expect_bytes("line ends rewritten", output, "kept", 4);
     }
@@ -276,12 +321,13 @@ static void expect_lines_not_rewritten(void)
 
 int main(void)
 {
-    expect_read(W1, 30, (const uint64_t[]){0, 7, 2, 78});
-    expect_read("ST*842*0001~BNR*11*NR7*20240301~HL*1**RP*1~HL*2*1*F*0~NCD*1~NCA**R1~SE*7*0001~", 30,
+    expect_read(W1, TEN, (const uint64_t[]){0, 7, 2, 78});
+    expect_read("ST*842*0001~BNR*11*NR7*20240301~HL*1**RP*1~HL*2*1*F*0~NCD*1~NCA**R1~SE*7*0001~", TEN,
                 (const uint64_t[]){14, 4, 43, 2});
-    expect_read("", 30, (const uint64_t[]){3, 1, 0, 0});
-    expect_read(W1, 18, (const uint64_t[]){17, 7, 68, 0});
+    expect_read("", TEN, (const uint64_t[]){3, 1, 0, 0});
+    expect_room();
     expect_tables();
+    expect_belonging();
     expect_lookups();
     expect_rewriting();
     expect_valid_records();

@@ -5,7 +5,7 @@ import time
 from typing import Callable, List
 
 import stormhlaw
-from stormhlaw._library import Answer, library
+from stormhlaw._library import LEVEL_NUMBERS, SEGMENT_NUMBERS, Answer, library
 
 # What an item's faults look like in the reports of bench/.
 FAULT = [
@@ -44,9 +44,9 @@ def best(calls: List[Callable[[], object]], rounds: int) -> List[float]:
 def main() -> None:
     data = report(1_000_000, 50)
     writable, view = bytearray(data), memoryview(data)
-    room = len(data) // 5
-    segments, levels, answer = (ctypes.c_uint64 * (3 * room))(), (ctypes.c_uint64 * (4 * 4096))(), Answer()
-    lent = segments, 3 * room, levels, 4 * 4096, answer
+    segment_numbers, level_numbers = SEGMENT_NUMBERS * (len(data) // 5), LEVEL_NUMBERS * 4096
+    segments, levels, answer = (ctypes.c_uint64 * segment_numbers)(), (ctypes.c_uint64 * level_numbers)(), Answer()
+    lent = segments, segment_numbers, levels, level_numbers, answer
     read = stormhlaw.read(data)
     small = report(100, 1)
     calls = {

@@ -15,6 +15,13 @@ levels, with their parents. A report that breaks a rule raises Refused, whose `r
 byte and the element. rewrite() gives the transaction with other separators as well. element() and component() look up
 the parts of a segment.
 
+A segment knows the number of the level that it belongs to, which is that of the latest HL; it is 0 in the heading and
+for the SE.
+
+    for segment in report:
+        if segment.level:
+            level = report.levels[segment.level - 1]
+
 Line ends between segments are skipped: a CR, an LF, or both in this order, behind each terminator. A segment's start
 comes behind them. STRICT asks for a reading that refuses them, and rewrite() always reads so.
 

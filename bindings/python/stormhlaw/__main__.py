@@ -97,7 +97,7 @@ def _lines(report: Report) -> Iterator[str]:
     """The listing of an accepted report."""
     yield f"842 segments {len(report.segments)} levels {len(report.levels)} bytes {report.bytes}\n"
     for number, segment in enumerate(report.segments, 1):
-        yield f"{number} {segment.start} {segment.length} {segment.row}\n"
+        yield f"{number} {segment.start} {segment.length} {segment.row} {segment.level}\n"
     for number, level in enumerate(report.levels, 1):
         yield f"level {number} {level.segment} {level.parent} {level.depth} {level.code.text}\n"
 

@@ -7,7 +7,7 @@ from typing import List, Optional, Tuple
 
 from stormhlaw._checking import count
 from stormhlaw._lending import unwritten
-from stormhlaw._library import LONGEST
+from stormhlaw._library import LEVEL_NUMBERS, LONGEST, SEGMENT_NUMBERS
 from stormhlaw.answers import Reason, Refusal, Refused, Report
 from stormhlaw.records import Levels, Segments, as_numbers
 
@@ -17,10 +17,13 @@ LEVEL_ROOM = 4096
 TOO_LONG = bytes(LONGEST + 1)
 """Stands for any input that is too long: its bytes are not looked at."""
 
-_SEGMENT, _LEVEL = 3 * 8, 4 * 8
-# A row is at most 79: of its eight bytes one tells all.
+# How many bytes a record has.
+_SEGMENT, _LEVEL = 8 * SEGMENT_NUMBERS, 8 * LEVEL_NUMBERS
+# Where the row stands in a segment's record. It is at most 79: of its eight bytes one tells all.
 _ROW = 16 if sys.byteorder == "little" else 23
-_HL, _SE = 18, 79
+_SE = 79
+# Which of a segment's numbers is that of its level, from 0.
+_LEVEL_OF_SEGMENT = 3
 
 
 class Tables:
@@ -40,27 +43,29 @@ class Tables:
 
     def lent(self) -> Tuple[bytes, int, bytes, int]:
         """Both tables, each with how many numbers it holds, as the library takes them."""
-        return self._segments, 3 * self.segment_room, self._levels, 4 * self.level_room
+        return self._segments, SEGMENT_NUMBERS * self.segment_room, self._levels, LEVEL_NUMBERS * self.level_room
 
     def told(self, answer: List[int]) -> Report:
         """The report that the four numbers tell of, once the tables are filled; or its refusal, which is raised."""
         number, first, second, third = answer
         if number == 0:
             return Report(*self._records(first, second), third)
-        rows = self._rows_left(number, first)
-        raise Refused(Refusal(Reason(number), first, second, third, *self._records(len(rows), rows.count(_HL))))
+        left = self._segments_left(number, first)
+        raise Refused(Refusal(Reason(number), first, second, third, *self._records(left, self._levels_of(left))))
 
-    def _rows_left(self, number: int, segment: int) -> bytes:
-        """The rows of the segments that a refusal leaves in the table: those before the segment that is refused; where
-        only the rewriting is refused, all, up to the SE."""
+    def _segments_left(self, number: int, segment: int) -> int:
+        """How many segments a refusal leaves in the table: those before the segment that is refused; where only the
+        rewriting is refused, all, up to the SE."""
         if number < Reason.DATA_EQUALS_SEPARATOR:
-            return self._rows(max(segment - 1, 0))
-        rows = self._rows(self.segment_room)
-        return rows[: rows.index(_SE) + 1]
+            return max(segment - 1, 0)
+        rows = self._segments[_ROW::_SEGMENT]
+        return rows.index(_SE) + 1
 
-    def _rows(self, segments: int) -> bytes:
-        """The rows of so many segments, one byte each."""
-        return self._segments[_ROW : _SEGMENT * segments : _SEGMENT]
+    def _levels_of(self, segments: int) -> int:
+        """How many levels the first so many segments make: they are numbered in order, so the last segment that belongs
+        to one tells."""
+        numbers = as_numbers(self._segments)[: SEGMENT_NUMBERS * segments]
+        return next(filter(None, reversed(numbers[_LEVEL_OF_SEGMENT::SEGMENT_NUMBERS])), 0)
 
     def _records(self, segments: int, levels: int) -> Tuple[Segments, Levels]:
         """So many records of each table. They are copied, so that a report holds no more memory than it needs."""

@@ -66,7 +66,7 @@ class Report:
 
     @property
     def segment_table(self) -> memoryview:
-        """Three numbers a segment: start, length, row. Format `Q`, read only."""
+        """Four numbers a segment: start, length, row, level. Format `Q`, read only."""
         return self.segments.table
 
     @property

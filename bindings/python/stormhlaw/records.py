@@ -22,6 +22,8 @@ from typing import (
     overload,
 )
 
+from stormhlaw._library import LEVEL_NUMBERS, SEGMENT_NUMBERS
+
 
 class Code(IntEnum):
     """What a level stands for; the value is the number in the level table, `text` is what HL03 says."""
@@ -39,7 +41,7 @@ class Code(IntEnum):
 
 
 class Segment(NamedTuple):
-    """Where a segment stands, and which it is."""
+    """Where a segment stands, which it is, and where it belongs."""
 
     start: int
     """The byte where it starts, from 0, behind the line end that was skipped before it."""
@@ -47,6 +49,9 @@ class Segment(NamedTuple):
     """How many bytes it has, without its terminator."""
     row: int
     """Its row in the table of 79, from 1."""
+    level: int
+    """The number of the level that it belongs to, from 1: that of the latest HL, or its own where it is an HL. 0 in the
+    heading, before the first HL, and for the SE."""
 
 
 class Level(NamedTuple):
@@ -136,30 +141,29 @@ class Records(Sequence[Record]):
 
 
 class Segments(Records[Segment]):
-    """The segments of a report: three numbers each in the table."""
+    """The segments of a report: four numbers each in the table."""
 
     __slots__ = ()
-    _width = 3
+    _width = SEGMENT_NUMBERS
 
     @staticmethod
     def _records(table: memoryview) -> Iterator[Segment]:
-        return map(_segment, _THREE.iter_unpack(table))
+        return map(_segment, _SEGMENT_STRUCT.iter_unpack(table))
 
 
 class Levels(Records[Level]):
     """The levels of a report: four numbers each in the table."""
 
     __slots__ = ()
-    _width = 4
+    _width = LEVEL_NUMBERS
 
     @staticmethod
     def _records(table: memoryview) -> Iterator[Level]:
-        return (
-            Level(segment, parent, depth, _CODES[code - 1]) for segment, parent, depth, code in _FOUR.iter_unpack(table)
-        )
+        numbers = _LEVEL_STRUCT.iter_unpack(table)
+        return (Level(segment, parent, depth, _CODES[code - 1]) for segment, parent, depth, code in numbers)
 
 
-_THREE, _FOUR = Struct("3Q"), Struct("4Q")
+_SEGMENT_STRUCT, _LEVEL_STRUCT = Struct(f"{SEGMENT_NUMBERS}Q"), Struct(f"{LEVEL_NUMBERS}Q")
 _CODES: List[Code] = list(Code)
 # What Segment._make does, in a third less time for a whole table.
 _segment = cast(Callable[[Tuple[int, ...]], Segment], partial(tuple.__new__, Segment))

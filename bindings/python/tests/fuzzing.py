@@ -306,7 +306,7 @@ def table(room, width):
 def expected_reading(data, separators, how, segment_room, level_room, **rewriting):
     """The answer of the library, its tables and its output."""
     enough = len(data) // 5
-    segments = table(enough if segment_room is None else segment_room, 3)
+    segments = table(enough if segment_room is None else segment_room, 4)
     levels = table(min(enough, 4096) if level_room is None else level_room, 4)
     answer = (ctypes.c_uint64 * 4)()
     old, flags = [separator[0] for separator in separators], int(how is LineEnds.STRICT)
@@ -331,7 +331,7 @@ def check_report(report, output, expected):
 
 def check_records(found, segments, levels):
     """The records are those of the tables, and as many as the segments say."""
-    assert found.segments.table.tolist() == segments[: 3 * len(found.segments)]
+    assert found.segments.table.tolist() == segments[: 4 * len(found.segments)]
     assert found.levels.table.tolist() == levels[: 4 * len(found.levels)]
     assert len(found.levels) == sum(segment.row == 18 for segment in found.segments)
 

@@ -5,8 +5,8 @@ import unittest
 from stormhlaw import Reason, Refused, Segment, Separators, element, read, rewrite
 from tests.reports import ATTACHED, BEFORE_BIN, BEHIND_BIN, LEVELS, SEGMENTS, WITH_BIN
 
-BIN = Segment(67, 14, 55)
-ALL = SEGMENTS[:5] + [Segment(60, 6, 54), BIN, Segment(82, 7, 64), Segment(90, 9, 79)]
+BIN = Segment(67, 14, 55, 2)
+ALL = SEGMENTS[:5] + [Segment(60, 6, 54, 2), BIN, Segment(82, 7, 64, 2), Segment(90, 9, 79, 0)]
 NEW = Separators(b"|", b"^", b"'")
 
 

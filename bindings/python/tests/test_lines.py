@@ -92,7 +92,7 @@ class Lines(unittest.TestCase):
         before = b"ST*842*0001~\r\nBNR*11*NR7*20240301~\nHL*1**I~NCD*1~\rEFI*00~\n"
         data = before + b"BIN*4*\r\n\r\n~\r\nSE*7*0001~"
         report = read(data)
-        self.assertEqual((report.segments[5], report.bytes), (Segment(58, 10, 55), len(data)))
+        self.assertEqual((report.segments[5], report.bytes), (Segment(58, 10, 55, 1), len(data)))
         self.assertEqual(element(data[58:68], 2), b"\r\n\r\n")
 
     def test_rewriting_is_strict(self):

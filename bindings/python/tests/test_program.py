@@ -15,13 +15,13 @@ LINES = HERE.parent.parent / "examples" / "lines.edi"
 # As the README says: the counts, then a line for each segment of W1, then one for each level.
 LISTING = """\
 842 segments 7 levels 2 bytes 78
-1 0 11 1
-2 12 19 2
-3 32 10 18
-4 43 10 18
-5 54 5 46
-6 60 7 64
-7 68 9 79
+1 0 11 1 0
+2 12 19 2 0
+3 32 10 18 1
+4 43 10 18 2
+5 54 5 46 2
+6 60 7 64 2
+7 68 9 79 0
 level 1 3 0 1 RP
 level 2 4 1 2 I
 """
@@ -79,7 +79,7 @@ class Program(unittest.TestCase):
         self.assertEqual(LINES.read_bytes(), lines)
         for status, output, errors in (run(str(LINES)), run(stdin=lines)):
             self.assertEqual((status, errors), (0, b""))
-            begins = "842 segments 7 levels 2 bytes 90\n1 0 11 1\n2 14 19 2\n"
+            begins = "842 segments 7 levels 2 bytes 90\n1 0 11 1 0\n2 14 19 2 0\n"
             self.assertEqual(output.decode()[: len(begins)], begins)
         self.gives(run(stdin=lines.replace(b"\n", b"\n\n")), 1, "refused 5 segment 2 byte 14 element 0\n")
 
@@ -102,7 +102,7 @@ class Program(unittest.TestCase):
 
     def test_options(self):
         report = self.file("report", REPORT)
-        self.gives(run("--version", report), 0, "stormhlaw 0.2.0\n")
+        self.gives(run("--version", report), 0, "stormhlaw 0.3.0\n")
         for word in ("-x", "--helpme", "---"):
             self.gives(run(report, word), 2, "", f"stormhlaw: no such option: {word}; try --help\n")
         self.assertEqual(run("-h"), run("--help"))

@@ -56,7 +56,8 @@ class Sequences(unittest.TestCase):
                 self.assertIn(record, records)
                 self.assertEqual(records.index(record), wanted.index(record))
                 self.assertEqual(records.count(record), 1)
-            self.assertNotIn(Segment(0, 11, 2), records)
+            self.assertNotIn(Segment(0, 11, 2, 0), records)
+            self.assertNotIn(Segment(0, 11, 1, 1), records)
             self.assertNotIn(None, records)
 
     def test_equality(self):
@@ -80,10 +81,10 @@ class Sequences(unittest.TestCase):
     def test_repr(self):
         self.assertEqual(
             repr(self.report.segments),
-            "Segments([Segment(start=0, length=11, row=1), Segment(start=12, length=19, row=2), "
-            "Segment(start=32, length=10, row=18), .. 4 more])",
+            "Segments([Segment(start=0, length=11, row=1, level=0), Segment(start=12, length=19, row=2, level=0), "
+            "Segment(start=32, length=10, row=18, level=1), .. 4 more])",
         )
-        self.assertEqual(repr(self.report.segments[:1]), "Segments([Segment(start=0, length=11, row=1)])")
+        self.assertEqual(repr(self.report.segments[:1]), "Segments([Segment(start=0, length=11, row=1, level=0)])")
         self.assertEqual(repr(self.report.levels[2:]), "Levels([])")
         self.assertLess(len(repr(read(with_items(4000)))), 1000)
 
@@ -99,7 +100,7 @@ class Tables(unittest.TestCase):
         report = read(REPORT)
         self.assertEqual(report.segment_table.tolist(), [number for segment in SEGMENTS for number in segment])
         self.assertEqual(report.level_table.tolist(), [3, 0, 1, 1, 4, 1, 2, 2])
-        self.assertEqual(report.segments[1:2].table.tolist(), [12, 19, 2])
+        self.assertEqual(report.segments[2:3].table.tolist(), [32, 10, 18, 1])
         for table in (report.segment_table, report.level_table):
             self.assertEqual((table.format, table.readonly, table.ndim), ("Q", True, 1))
             with self.assertRaises(TypeError):
@@ -120,10 +121,10 @@ class Tables(unittest.TestCase):
 class Records(unittest.TestCase):
     def test_a_report_goes_through_its_segments(self):
         self.assertEqual(list(read(REPORT)), SEGMENTS)
-        self.assertEqual([row for _, _, row in read(REPORT)], [1, 2, 18, 18, 46, 64, 79])
+        self.assertEqual([row for _, _, row, _ in read(REPORT)], [1, 2, 18, 18, 46, 64, 79])
 
     def test_records_are_fixed(self):
-        records = ((Segment(0, 11, 1), "start"), (Level(3, 0, 1, Code.REPORT), "parent"), (read(REPORT), "bytes"))
+        records = ((Segment(0, 11, 1, 0), "start"), (Level(3, 0, 1, Code.REPORT), "parent"), (read(REPORT), "bytes"))
         for record, field in records:
             with self.assertRaises(AttributeError):
                 setattr(record, field, 1)

@@ -3,7 +3,7 @@
 //! A report is one transaction, ST to SE. [`Tables`] own room for the records of its segments and levels:
 //!
 //! ```
-//! use stormhlaw::{element, Code, How, Separators, Tables};
+//! use stormhlaw::{Code, How, Separators, Tables};
 //!
 //! let report = b"ST*842*0001~BNR*11*NR7*20240301~HL*1**RP*1~HL*2*1*I*0~NCD*1~NCA**R1~SE*7*0001~";
 //! let mut tables = Tables::for_input(report);
@@ -13,6 +13,10 @@
 //! assert_eq!((item.code(), item.parent, item.depth), (Some(Code::Item), 1, 2));
 //! let hl = item.hl(tables.segments()).and_then(|segment| segment.bytes(report));
 //! assert_eq!(hl, Some(&b"HL*2*1*I*0"[..]));
+//!
+//! let fault = tables.segments()[4];
+//! assert_eq!((fault.bytes(report), fault.level), (Some(&b"NCD*1"[..]), 2));
+//! assert_eq!(fault.level(tables.levels()), Some(&item));
 //! # Ok::<(), stormhlaw::Refusal>(())
 //! ```
 //!

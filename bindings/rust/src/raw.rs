@@ -150,7 +150,7 @@ pub fn component(element: &[u8], separator: u8, number: u64) -> [u64; 2] {
 }
 
 /// How many numbers a segment's record has, and a level's.
-const SEGMENT_NUMBERS: usize = 3;
+const SEGMENT_NUMBERS: usize = 4;
 const LEVEL_NUMBERS: usize = 4;
 
 // A record is as many numbers one behind the other, and nothing else.
@@ -161,13 +161,13 @@ const _: () = assert!(align_of::<Level>() == align_of::<u64>());
 
 /// The numbers of a segment table.
 pub(crate) fn segment_numbers(table: &mut [Segment]) -> &mut [u64] {
-    // SAFETY: a record is three numbers, any number is fit in each place, and the slice stays borrowed. Their count is
+    // SAFETY: a record is four numbers, any number is fit in each place, and the slice stays borrowed. Their count is
     // no more than the slice has bytes, and does not overflow.
     unsafe { from_raw_parts_mut(table.as_mut_ptr().cast(), table.len() * SEGMENT_NUMBERS) }
 }
 
 /// The numbers of a level table.
 pub(crate) fn level_numbers(table: &mut [Level]) -> &mut [u64] {
-    // SAFETY: as for `segment_numbers`, with four numbers a record.
+    // SAFETY: as for `segment_numbers`.
     unsafe { from_raw_parts_mut(table.as_mut_ptr().cast(), table.len() * LEVEL_NUMBERS) }
 }

@@ -12,6 +12,9 @@ pub struct Segment {
     pub length: u64,
     /// Its row in the table of 79, from 1.
     pub row: u64,
+    /// The number of the level that it belongs to, from 1: that of the latest HL, or its own where it is an HL. 0 in the
+    /// heading, before the first HL, and for the SE: see `level`.
+    pub level: u64,
 }
 
 /// One level of a report.
@@ -50,12 +53,18 @@ impl Segment {
         let end = start.checked_add(usize::try_from(self.length).ok()?)?;
         input.get(start..end)
     }
+
+    /// The record of the level that it belongs to, where `levels` are those of the same reading. None in the heading, for
+    /// the SE, or if there is no such record.
+    pub fn level<'a>(&self, levels: &'a [Level]) -> Option<&'a Level> {
+        numbered(levels, self.level)
+    }
 }
 
 impl Level {
     /// The record of its HL, where `segments` are those of the same reading. None if there is no such record.
     pub fn hl<'a>(&self, segments: &'a [Segment]) -> Option<&'a Segment> {
-        segments.get(usize::try_from(self.segment).ok()?.checked_sub(1)?)
+        numbered(segments, self.segment)
     }
 
     /// What the level stands for. None in a record that no reading wrote.
@@ -69,4 +78,9 @@ impl Level {
             _ => None,
         }
     }
+}
+
+/// The record of that number, from 1.
+fn numbered<Record>(records: &[Record], number: u64) -> Option<&Record> {
+    records.get(usize::try_from(number).ok()?.checked_sub(1)?)
 }

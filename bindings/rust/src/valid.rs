@@ -5,8 +5,7 @@
 use crate::answer::{Accepted, Reason, Refusal};
 use crate::records::Segment;
 
-/// The rows of HL and SE in the table of 79.
-const HL: u64 = 18;
+/// The row of SE in the table of 79.
 const SE: u64 = 79;
 
 /// How many records at the start of each lent table are those of the reading.
@@ -28,8 +27,7 @@ impl Refusal {
             Reason::DataEqualsSeparator | Reason::OutputTooShort => up_to_the_end(segments),
             _ => self.segment.saturating_sub(1).min(segments.len()),
         };
-        let levels = segments[..count].iter().filter(|segment| segment.row == HL).count();
-        Valid { segments: count, levels }
+        Valid { segments: count, levels: levels_of(&segments[..count]) }
     }
 }
 
@@ -42,4 +40,11 @@ impl From<Accepted> for Valid {
 /// How many records there are up to the SE, with its own; 0 where there is no SE.
 fn up_to_the_end(segments: &[Segment]) -> usize {
     segments.iter().position(|segment| segment.row == SE).map_or(0, |before| before + 1)
+}
+
+/// How many levels these segments make: levels are numbered in order, so the last segment that belongs to one tells. No
+/// more than there are segments, whatever the records hold.
+fn levels_of(segments: &[Segment]) -> usize {
+    let last = segments.iter().rev().find(|segment| segment.level != 0);
+    last.map_or(0, |segment| segment.level.min(segments.len() as u64) as usize)
 }

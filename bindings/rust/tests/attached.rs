@@ -11,17 +11,17 @@ const BEHIND: &[u8] = b"~NCA**R1~SE*9*0001~";
 const STANDARD: Separators = Separators::STANDARD;
 const NEW: Separators = Separators { element: b'|', component: b'^', terminator: b'\'' };
 
-/// Start, length and row of the segments.
-const SEGMENTS: [(u64, u64, u64); 9] = [
-    (0, 11, 1),
-    (12, 19, 2),
-    (32, 10, 18),
-    (43, 10, 18),
-    (54, 5, 46),
-    (60, 6, 54),
-    (67, 14, 55),
-    (82, 7, 64),
-    (90, 9, 79),
+/// Start, length, row and level of the segments.
+const SEGMENTS: [(u64, u64, u64, u64); 9] = [
+    (0, 11, 1, 0),
+    (12, 19, 2, 0),
+    (32, 10, 18, 1),
+    (43, 10, 18, 2),
+    (54, 5, 46, 2),
+    (60, 6, 54, 2),
+    (67, 14, 55, 2),
+    (82, 7, 64, 2),
+    (90, 9, 79, 0),
 ];
 
 const ACCEPTED: Accepted = Accepted { segments: 9, levels: 2, bytes: 100 };
@@ -30,8 +30,8 @@ fn report() -> Vec<u8> {
     [BEFORE, b"BIN*8*", ATTACHED, BEHIND].concat()
 }
 
-fn segments(tables: &Tables) -> Vec<(u64, u64, u64)> {
-    tables.segments().iter().map(|segment| (segment.start, segment.length, segment.row)).collect()
+fn segments(tables: &Tables) -> Vec<(u64, u64, u64, u64)> {
+    tables.segments().iter().map(|s| (s.start, s.length, s.row, s.level)).collect()
 }
 
 #[test]

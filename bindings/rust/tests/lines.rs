@@ -6,7 +6,7 @@ use stormhlaw::{
 
 const W1: [&str; 7] =
     ["ST*842*0001", "BNR*11*NR7*20240301", "HL*1**RP*1", "HL*2*1*I*0", "NCD*1", "NCA**R1", "SE*7*0001"];
-const ROWS: [u64; 7] = [1, 2, 18, 18, 46, 64, 79];
+const ROWS_AND_LEVELS: [(u64, u64); 7] = [(1, 0), (2, 0), (18, 1), (18, 2), (46, 2), (64, 2), (79, 0)];
 const STANDARD: Separators = Separators::STANDARD;
 const NEW: Separators = Separators { element: b'|', component: b'^', terminator: b'\'' };
 
@@ -25,8 +25,8 @@ fn ended(ends: &[&str]) -> Vec<u8> {
 /// The records of W1's segments where these ends stand behind them, and how many bytes it takes then.
 fn records(ends: &[&str]) -> (Vec<Segment>, usize) {
     let (mut records, mut start, mut used) = (Vec::new(), 0, 0);
-    for ((segment, row), end) in W1.iter().zip(ROWS).zip(ends.iter().cycle()) {
-        records.push(Segment { start: start as u64, length: segment.len() as u64, row });
+    for ((segment, (row, level)), end) in W1.iter().zip(ROWS_AND_LEVELS).zip(ends.iter().cycle()) {
+        records.push(Segment { start: start as u64, length: segment.len() as u64, row, level });
         used = start + segment.len() + 1;
         start = used + end.len();
     }
@@ -135,7 +135,7 @@ fn an_attachment_keeps_its_line_ends() {
     let accepted = tables.read(report, STANDARD, How::new()).unwrap();
     assert_eq!((accepted.segments, accepted.bytes), (7, report.len()));
     let bin = tables.segments()[5];
-    assert_eq!((bin.start, bin.length, bin.row), (58, 10, 55));
+    assert_eq!(bin, Segment { start: 58, length: 10, row: 55, level: 1 });
     assert_eq!(element(bin.bytes(report).unwrap(), b'*', 2), b"\r\n\r\n");
 }
 
@@ -169,7 +169,7 @@ fn bits_without_a_name_do_not_matter() {
     let lines = ended(&["\r\n"]);
     let (skipped, strict) = ([0, 7, 2, 90], [5, 2, 12, 0]);
     for unnamed in [0, 4, 1 << 8, 1 << 32, 1 << 63, !3] {
-        let (mut segments, mut levels) = ([0; 21], [0; 8]);
+        let (mut segments, mut levels) = ([0; 28], [0; 8]);
         assert_eq!(raw::read(&lines, STANDARD, unnamed, &mut segments, &mut levels), skipped, "{unnamed}");
         let how = unnamed | raw::STRICT;
         assert_eq!(raw::read(&lines, STANDARD, how, &mut segments, &mut levels), strict, "{how}");

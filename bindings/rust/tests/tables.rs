@@ -118,7 +118,7 @@ fn no_length_and_no_room_is_too_much() {
 
 #[test]
 fn a_level_without_its_segment_has_no_hl() {
-    let segments = [Segment { start: 1, length: 2, row: 18 }];
+    let segments = [Segment { start: 1, length: 2, row: 18, level: 1 }];
     let level = |segment| Level { segment, ..Level::default() };
     assert_eq!(level(1).hl(&segments), Some(&segments[0]));
     for segment in [0, 2, u64::MAX] {

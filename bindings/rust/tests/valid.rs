@@ -6,8 +6,8 @@ const W1: [&str; 7] =
     ["ST*842*0001", "BNR*11*NR7*20240301", "HL*1**RP*1", "HL*2*1*I*0", "NCD*1", "NCA**R1", "SE*7*0001"];
 const NEW: Separators = Separators { element: b'|', component: b'^', terminator: b'\'' };
 
-/// What a record holds that no reading touched: no start, segment or row is as great.
-const OLD_SEGMENT: Segment = Segment { start: u64::MAX, length: 0, row: u64::MAX };
+/// What a record holds that no reading touched: no start, segment, row or level is as great.
+const OLD_SEGMENT: Segment = Segment { start: u64::MAX, length: 0, row: u64::MAX, level: u64::MAX };
 const OLD_LEVEL: Level = Level { segment: u64::MAX, parent: 0, depth: 0, code: 0 };
 
 /// W1 with another segment in place of one of its own, counted from 1.

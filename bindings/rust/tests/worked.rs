@@ -5,15 +5,22 @@ use stormhlaw::{read, Accepted, Code, How, Level, Reason, Refusal, Segment, Sepa
 const W1: [&str; 7] =
     ["ST*842*0001", "BNR*11*NR7*20240301", "HL*1**RP*1", "HL*2*1*I*0", "NCD*1", "NCA**R1", "SE*7*0001"];
 
-/// Start, length and row of W1's segments.
-const SEGMENTS: [(u64, u64, u64); 7] =
-    [(0, 11, 1), (12, 19, 2), (32, 10, 18), (43, 10, 18), (54, 5, 46), (60, 7, 64), (68, 9, 79)];
+/// Start, length, row and level of W1's segments.
+const SEGMENTS: [(u64, u64, u64, u64); 7] = [
+    (0, 11, 1, 0),
+    (12, 19, 2, 0),
+    (32, 10, 18, 1),
+    (43, 10, 18, 2),
+    (54, 5, 46, 2),
+    (60, 7, 64, 2),
+    (68, 9, 79, 0),
+];
 
 /// Segment, parent, depth and code of W1's levels.
 const LEVELS: [(u64, u64, u64, Code); 2] = [(3, 0, 1, Code::Report), (4, 1, 2, Code::Item)];
 
 /// What a record holds that no reading touched.
-const OLD_SEGMENT: Segment = Segment { start: 91, length: 92, row: 93 };
+const OLD_SEGMENT: Segment = Segment { start: 91, length: 92, row: 93, level: 98 };
 const OLD_LEVEL: Level = Level { segment: 94, parent: 95, depth: 96, code: 97 };
 
 fn joined(segments: &[&str]) -> String {
@@ -32,7 +39,7 @@ fn answer(report: &str, rooms: (usize, usize), kept: (usize, usize)) -> Result<A
     let mut segments = vec![OLD_SEGMENT; rooms.0];
     let mut levels = vec![OLD_LEVEL; rooms.1];
     let answer = read(report.as_bytes(), Separators::STANDARD, How::new(), &mut segments, &mut levels);
-    let found: Vec<_> = segments[..kept.0].iter().map(|s| (s.start, s.length, s.row)).collect();
+    let found: Vec<_> = segments[..kept.0].iter().map(|s| (s.start, s.length, s.row, s.level)).collect();
     assert_eq!(found, SEGMENTS[..kept.0], "{report}");
     let found: Vec<_> =
         levels[..kept.1].iter().map(|l| (l.segment, l.parent, l.depth, l.code().unwrap())).collect();
