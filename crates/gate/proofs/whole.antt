@@ -5,3 +5,4 @@ pub mod AllLevels
 pub mod Closing
 pub mod AllRules
 pub mod LevelTable
+pub mod SegmentTable

@@ -1,19 +1,21 @@
 -- The three conditions of acceptance as statements, clause by clause in the tender's order, about the promise of reading and the rules of a whole
 -- transaction. Each is proved as one theorem. What condition 2 says of rewriting stands with rewriting.
 -- Assumes nothing.
-use Prim.Native.Nat.{ℕ, suc, _+_, _≤_}
+use Prim.Native.Nat.{ℕ, suc, _+_, _*_, _≤_}
 use mathlib.Core.Path.{_≡_}
 use mathlib.Core.Logic.{_↔_}
+use mathlib.Core.Bool.{not}
 use mathlib.Core.List.{List, [], _∷_, _++_}
 use lib.Dec.{T}
-use lib.ListN.{length, take, drop}
+use lib.ListN.{length, take, drop, getD}
 use Rattle.text.specs.Bytes.{Bytes}
 use Rattle.text.specs.Separators.{fitSeparators}
 use Rattle.text.specs.View.{View}
 use Rattle.text.specs.Cut.{Cut, Whole, Stop, Placed, Leads}
+use Rattle.levels.specs.Widths.{segmentWidth}
 use Rattle.levels.specs.Levels.{levelAt}
 use Rattle.gate.specs.Profile.{Profile, profileOf}
-use Rattle.gate.specs.Segments.{seen, onto, levelsIn}
+use Rattle.gate.specs.Segments.{isHL, isSE, seen, onto, levelsIn}
 use Rattle.gate.specs.Answers.{IsAccepted, Fault, Listed}
 use Rattle.gate.specs.Meets.{hls, hlAt, Under, Meets}
 use Rattle.gate.specs.Records.{Tables, Room, recorded}
@@ -84,6 +86,19 @@ pub record LevelShown (profile : Profile) (vs : List View) (j : ℕ) : Type 0 wh
   -- and with HL02 it is the number of the earlier level that HL02 names, under which it may hang
   pub child : (hlAt (hls vs) j .parent ≡ [] → ⊥)
       → (i : ℕ) × Under (profile .levels) (hls vs) i j × (levelAt (suc j) (levelsIn profile (onto [] vs)) .parent ≡ suc i)
+
+-- and what the segment table says of levels, whatever the answer: the fourth number of the record of segment number k + 1 of the segments that have
+-- records
+abbrev pub levelNumber : Tables → ℕ → ℕ
+levelNumber t k = getD (t .segments) (k * segmentWidth + 3) 0
+
+pub record SegmentShown (profile : Profile) (vs : List View) (after : Tables) (k : ℕ) : Type 0 where
+  -- is the number of HLs up to that segment, itself counted,
+  pub counts : T (not (isSE (getD vs k []))) → levelNumber after k ≡ length (hls (take (suc k) vs))
+  -- and of the SE 0
+  pub closing : T (isSE (getD vs k [])) → levelNumber after k ≡ 0
+  -- The level that an HL belongs to is the one that it makes
+  pub own : T (isHL (getD vs k [])) → levelAt (levelNumber after k) (levelsIn profile (onto [] vs)) .segment ≡ suc k
 
 -- Condition 3
 -- tables that are at least as large

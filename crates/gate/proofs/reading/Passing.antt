@@ -67,7 +67,7 @@ numbers-more profile vs w v r p k f o = record {
 }
 
 -- room for more segments is room for fewer
-claim-more : (b : Bool) (n : ℕ) (v : View) (cs : List (ℕ × Claim)) → length cs ≤ length (addClaim b n v cs)
+pub claim-more : (b : Bool) (n : ℕ) (v : View) (cs : List (ℕ × Claim)) → length cs ≤ length (addClaim b n v cs)
 claim-more true n v cs = omega arith
 claim-more false n v cs = omega arith
 
