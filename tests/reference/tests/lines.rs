@@ -1,10 +1,12 @@
 //! Line ends between segments (document 02, Item 3): corners by hand, every short word behind a terminator,
 //! and generated reports held to what a strict reading says of them without the skipped bytes.
 
+mod both;
+
+use both::{given, Outcome};
 use reference::generator::{report, Case};
-use reference::plain::read_plain;
 use reference::vectors::text::{joined, written_with, W1};
-use reference::{read, rewrite, Answer, LineEnds, Separators, SEGMENT_NUMBERS};
+use reference::{rewrite, Answer, LineEnds, Separators, SEGMENT_NUMBERS};
 use std::collections::BTreeMap;
 
 const STANDARD: Separators = Separators::STANDARD;
@@ -12,34 +14,9 @@ const STANDARD: Separators = Separators::STANDARD;
 /// How many numbers the tables have where that is more than enough.
 const ROOM: (usize, usize) = (SEGMENT_NUMBERS * 20, 12);
 
-/// What comes of a reading: the four numbers and both tables.
-#[derive(Clone, Debug, PartialEq)]
-struct Outcome {
-    answer: [u64; 4],
-    segments: Vec<u64>,
-    levels: Vec<u64>,
-}
-
-impl Outcome {
-    /// The starts and lengths of the segments that were accepted.
-    fn accepted(&self) -> Vec<(usize, usize)> {
-        let count = match self.answer {
-            [0, segments, ..] => segments,
-            [_, segment, ..] => segment.saturating_sub(1),
-        };
-        let records = self.segments.chunks(SEGMENT_NUMBERS).take(count as usize);
-        records.map(|record| (record[0] as usize, record[1] as usize)).collect()
-    }
-}
-
-/// Reads by both readers, which must agree, with so many numbers in the tables.
-fn given(input: &[u8], set: Separators, line_ends: LineEnds, rooms: (usize, usize)) -> Outcome {
-    let lent = |answer| Outcome { answer, segments: vec![7; rooms.0], levels: vec![8; rooms.1] };
-    let (mut fast, mut plain) = (lent([9; 4]), lent([9; 4]));
-    fast.answer = read(input, set, line_ends, &mut fast.segments, &mut fast.levels).numbers();
-    plain.answer = read_plain(input, set, line_ends, &mut plain.segments, &mut plain.levels).numbers();
-    assert_eq!(fast, plain, "{} {set:?} {line_ends:?}", input.escape_ascii());
-    fast
+/// The starts and lengths of the segments that were accepted.
+fn accepted(outcome: &Outcome) -> Vec<(usize, usize)> {
+    outcome.records().iter().map(|record| (record[0] as usize, record[1] as usize)).collect()
 }
 
 /// The answers by both choices with the standard separators and room enough: skipped, strict.
@@ -63,7 +40,7 @@ fn held_to_the_words(input: &[u8], set: Separators, rooms: (usize, usize)) -> Ou
     let mut expected = outcome.clone();
     let mut without = Vec::new();
     let mut end = None;
-    for (at, (start, length)) in outcome.accepted().into_iter().enumerate() {
+    for (at, (start, length)) in accepted(&outcome).into_iter().enumerate() {
         let due = end.map_or(0, |end| end + skipped(&input[end..], set));
         assert_eq!(start, due, "{}", told());
         expected.segments[SEGMENT_NUMBERS * at] = without.len() as u64;
@@ -317,7 +294,7 @@ fn generated_reports_are_held_to_the_words() {
 /// segments on both sides.
 fn between<'a>(case: &'a Case, outcome: &Outcome) -> Vec<[&'a [u8]; 3]> {
     let mut bounds: Vec<(usize, usize)> =
-        outcome.accepted().iter().map(|(start, length)| (*start, start + length + 1)).collect();
+        accepted(outcome).iter().map(|(start, length)| (*start, start + length + 1)).collect();
     if outcome.answer[0] > 2 {
         let at = outcome.answer[2] as usize;
         bounds.push((at, at));

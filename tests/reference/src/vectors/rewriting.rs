@@ -21,13 +21,13 @@ const NEW: [Separators; 9] = [
 ];
 
 /// A rewriting with enough room in the tables, so many bytes more or less in the output than in the input.
-fn rewriting(input: &[u8], separators: Separators, new: Separators, more: isize) -> Case {
+pub fn rewriting(input: &[u8], separators: Separators, new: Separators, more: isize) -> Case {
     let rooms = enough(input, separators);
     let output = input.len().saturating_add_signed(more);
     Case::Rewrite { input: input.to_vec(), separators, new, rooms, output }
 }
 
-fn told(case: Case, answer: [u64; 4]) -> Told {
+pub fn told(case: Case, answer: [u64; 4]) -> Told {
     Told { case, answer: Some(answer) }
 }
 
