@@ -1,6 +1,6 @@
 //! The sides of a contest: the builds of the library, and the hand-written reader.
 
-use reference::{LineEnds, Separators};
+use reference::{LineEnds, Separators, LEVEL_NUMBERS, SEGMENT_NUMBERS};
 use std::hint::black_box;
 use stormhlaw::{raw, How, LONGEST};
 
@@ -12,9 +12,9 @@ pub const NEW: stormhlaw::Separators =
 /// Every input is read by the default, as callers do: line ends are skipped.
 pub const HOW: How = How::new();
 
-/// Room for every segment and every level that is timed.
-const SEGMENT_NUMBERS: usize = 3 * LONGEST / 5;
-const LEVEL_NUMBERS: usize = 4 * 20_000;
+/// Room for every segment and every level that is timed, in numbers.
+const SEGMENT_TABLE: usize = SEGMENT_NUMBERS * (LONGEST / 5);
+const LEVEL_TABLE: usize = LEVEL_NUMBERS * 20_000;
 
 /// What is lent to a call.
 #[derive(PartialEq)]
@@ -26,7 +26,7 @@ pub struct Lent {
 
 impl Lent {
     pub fn new() -> Lent {
-        Lent { segments: vec![7; SEGMENT_NUMBERS], levels: vec![8; LEVEL_NUMBERS], output: vec![9; LONGEST] }
+        Lent { segments: vec![7; SEGMENT_TABLE], levels: vec![8; LEVEL_TABLE], output: vec![9; LONGEST] }
     }
 }
 

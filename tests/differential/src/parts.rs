@@ -4,12 +4,15 @@ use crate::outcome::Sizes;
 use crate::rewriting;
 use crate::tally::Tally;
 use reference::generator::{counted_segment, report, Case, Random};
-use reference::Separators;
+use reference::{Separators, LEVEL_NUMBERS, SEGMENT_NUMBERS};
 
 const W1: &[u8] = b"ST*842*0001~BNR*11*NR7*20240301~HL*1**RP*1~HL*2*1*I*0~NCD*1~NCA**R1~SE*7*0001~";
 /// The same with line ends of every kind.
 const W1_IN_LINES: &[u8] =
     b"ST*842*0001~\r\nBNR*11*NR7*20240301~\nHL*1**RP*1~\rHL*2*1*I*0~NCD*1~\r\nNCA**R1~\nSE*7*0001~\r\n";
+
+/// Room for a segment and a level more than W1 has.
+const W1_SIZES: Sizes = Sizes { segments: SEGMENT_NUMBERS * 8, levels: LEVEL_NUMBERS * 3, output: 0 };
 
 /// One seed in so many has its report read with every table size.
 const EVERY_ROOM_ONE_IN: u64 = 512;
@@ -83,18 +86,19 @@ fn look_up_bin(tally: &mut Tally, name: &str, case: &Case) {
 /// A reading with every size of both tables, one at a time, from none to more than enough.
 fn every_room(tally: &mut Tally, name: &str, input: &[u8], set: Separators) {
     let most = input.len() / 5 + 1;
-    for segments in 0..=3 * most + 2 {
-        tally.read(name, input, set, 0, Sizes { segments, levels: 4 * most, output: 0 });
+    let enough = Sizes { segments: SEGMENT_NUMBERS * most, levels: LEVEL_NUMBERS * most, output: 0 };
+    for segments in 0..enough.segments + SEGMENT_NUMBERS {
+        tally.read(name, input, set, 0, Sizes { segments, ..enough });
     }
-    for levels in 0..=4 * most + 3 {
-        tally.read(name, input, set, 0, Sizes { segments: 3 * most, levels, output: 0 });
+    for levels in 0..enough.levels + LEVEL_NUMBERS {
+        tally.read(name, input, set, 0, Sizes { levels, ..enough });
     }
 }
 
 /// W1, with line ends and without, with every pair of table sizes.
 pub fn rooms(tally: &mut Tally) {
-    for segments in 0..=24 {
-        for levels in 0..=12 {
+    for segments in 0..=W1_SIZES.segments {
+        for levels in 0..=W1_SIZES.levels {
             let sizes = Sizes { segments, levels, output: 0 };
             tally.read("W1, rooms", W1, Separators::STANDARD, 0, sizes);
             tally.read("W1 in lines, rooms", W1_IN_LINES, Separators::STANDARD, 0, sizes);
@@ -121,10 +125,9 @@ pub fn sets(tally: &mut Tally) {
 
 /// W1 as it is, and translated with line ends and without, read with that set.
 fn set(tally: &mut Tally, set: Separators) {
-    let sizes = Sizes { segments: 24, levels: 12, output: 0 };
-    tally.read("W1, sets", W1, set, 0, sizes);
-    tally.read("W1 translated, sets", &translated(W1, set), set, 0, sizes);
-    tally.read("W1 in lines translated, sets", &translated(W1_IN_LINES, set), set, 0, sizes);
+    tally.read("W1, sets", W1, set, 0, W1_SIZES);
+    tally.read("W1 translated, sets", &translated(W1, set), set, 0, W1_SIZES);
+    tally.read("W1 in lines translated, sets", &translated(W1_IN_LINES, set), set, 0, W1_SIZES);
 }
 
 /// A report in the standard separators, written with that set.

@@ -1,6 +1,6 @@
 //! How fast `read` is: nanoseconds for each byte and each call, on reports of several sizes.
 
-use reference::{read, Answer, LineEnds, Separators};
+use reference::{read, Answer, LineEnds, Separators, LEVEL_NUMBERS, SEGMENT_NUMBERS};
 use std::hint::black_box;
 use std::time::Instant;
 
@@ -51,8 +51,8 @@ fn in_lines(report: &[u8]) -> Vec<u8> {
 }
 
 fn measure(name: &str, input: &[u8], times: usize) {
-    let mut segments = vec![0; 3 * 200_000];
-    let mut levels = vec![0; 4 * 20_000];
+    let mut segments = vec![0; SEGMENT_NUMBERS * 200_000];
+    let mut levels = vec![0; LEVEL_NUMBERS * 20_000];
     let mut best = f64::MAX;
     for _ in 0..5 {
         let start = Instant::now();

@@ -13,10 +13,12 @@ const F: u64 = 3;
 const PC: u64 = 4;
 const SN: u64 = 5;
 
-/// How many numbers the level table has for each level.
+/// How many numbers the level table has for each level: its segment, its parent's level number, its depth, its
+/// code.
 pub const LEVEL_NUMBERS: usize = 4;
-/// How many numbers the segment table has for each segment.
-pub const SEGMENT_NUMBERS: usize = 3;
+/// How many numbers the segment table has for each segment: where it starts, its length without terminator,
+/// its row, the level it belongs to.
+pub const SEGMENT_NUMBERS: usize = 4;
 
 /// The number of a code, 0 for one that is unknown.
 #[inline]

@@ -1,5 +1,5 @@
 //! A reader of X12 842 nonconformance reports, written from the rules of document 01 and of document
-//! 02, Items 1 and 3, alone, to compare another reader with: the same answers, the same tables, the
+//! 02, Items 1, 3 and 5, alone, to compare another reader with: the same answers, the same tables, the
 //! same output.
 //!
 //! `read` is made for speed: one pass, no allocation. `plain::read_plain` says the same in the
@@ -24,7 +24,7 @@ mod types;
 pub mod vectors;
 
 pub use answer::Answer;
-pub use levels::CODES;
+pub use levels::{CODES, LEVEL_NUMBERS, SEGMENT_NUMBERS};
 pub use line_ends::LineEnds;
 pub use lookup::{component_span, element_span};
 pub use read::{read, LONGEST};

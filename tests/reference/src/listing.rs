@@ -1,4 +1,5 @@
-//! What the program prints for a report (document 01, "Worked reports"). It skips line ends.
+//! What the program prints for a report (document 01, "Worked reports"; document 02, Item 5). It
+//! skips line ends.
 
 use crate::levels::{LEVEL_NUMBERS, SEGMENT_NUMBERS};
 use crate::plain::read_plain;
@@ -33,9 +34,9 @@ fn refusal(number: usize, segment: usize, byte: usize, element: usize) -> String
     format!("refused {number} segment {segment} byte {byte} element {element}\n")
 }
 
-/// The segment's number, where it starts, its length without terminator, its row.
+/// The segment's number, where it starts, its length without terminator, its row, the level it belongs to.
 fn segment_line((at, record): (usize, &[u64])) -> String {
-    format!("{} {} {} {}\n", at + 1, record[0], record[1], record[2])
+    format!("{} {} {} {} {}\n", at + 1, record[0], record[1], record[2], record[3])
 }
 
 /// The level's number, its segment, its parent's level number, its depth, its code.

@@ -131,7 +131,7 @@ impl<'a> Reader<'a> {
                 return Err(Fault::new(17, 0));
             }
         }
-        self.note_segment(cut);
+        self.note_segment(cut, tag);
         Ok(tag)
     }
 
@@ -189,14 +189,17 @@ impl<'a> Reader<'a> {
         Ok(())
     }
 
-    /// Writes the segment's record: start, length without terminator, row.
+    /// Writes the segment's record: start, length without terminator, row, level. A segment belongs to the
+    /// level of the latest HL, an HL to its own, which is counted before this; SE to none (document 02,
+    /// Item 5).
     #[inline]
-    fn note_segment(&mut self, cut: &Cut) {
+    fn note_segment(&mut self, cut: &Cut, tag: usize) {
         let at = self.count * SEGMENT_NUMBERS;
         let record = &mut self.segments[at..at + SEGMENT_NUMBERS];
         record[0] = cut.start as u64;
         record[1] = (cut.end - cut.start) as u64;
         record[2] = self.row as u64;
+        record[3] = if tag == Tag::SE as usize { 0 } else { self.level_count as u64 };
     }
 
     /// Writes the level's record: segment number, parent's level number, depth, code.

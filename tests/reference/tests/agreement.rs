@@ -2,7 +2,7 @@
 
 use reference::generator::{report, Case};
 use reference::plain::read_plain;
-use reference::{read, rewrite, Answer, LineEnds, Separators, LONGEST};
+use reference::{read, rewrite, Answer, LineEnds, Separators, LONGEST, SEGMENT_NUMBERS};
 use std::collections::{BTreeMap, BTreeSet};
 
 fn tables(case: &Case) -> (Vec<u64>, Vec<u64>) {
@@ -55,7 +55,7 @@ fn both_readers_agree_and_every_answer_and_row_comes() {
         let element = if number == 0 { 0 } else { answer.numbers()[3] };
         *answers.entry((number, element)).or_default() += 1;
         if let Answer::Accepted { segments: count, .. } = answer {
-            rows.extend(segments.chunks(3).take(count).map(|record| record[2]));
+            rows.extend(segments.chunks(SEGMENT_NUMBERS).take(count).map(|record| record[2]));
         }
     }
     println!("{answers:?}");
@@ -74,7 +74,7 @@ fn accepted_bins<'a>(case: &'a Case, answer: Answer, segments: &'a [u64]) -> Vec
         Answer::Accepted { segments, .. } => segments,
         Answer::Refused { segment, .. } => segment.saturating_sub(1),
     };
-    let bins = segments.chunks(3).take(count).filter(|record| record[2] == 55);
+    let bins = segments.chunks(SEGMENT_NUMBERS).take(count).filter(|record| record[2] == 55);
     bins.map(|record| &case.input[record[0] as usize..][..record[1] as usize]).collect()
 }
 
@@ -125,7 +125,7 @@ fn the_same_seed_gives_the_same_case() {
 fn both_readers_agree_with_every_room() {
     for seed in 0..400 {
         let mut case = report(seed);
-        for segment_numbers in 0..20 {
+        for segment_numbers in 0..SEGMENT_NUMBERS * 7 {
             for level_numbers in 0..10 {
                 (case.segment_numbers, case.level_numbers) = (segment_numbers, level_numbers);
                 both(&case, LineEnds::Skipped);
@@ -168,7 +168,8 @@ fn elements(segment: &[u8], set: Separators) -> Vec<Vec<Vec<u8>>> {
 
 /// The elements of all segments of an accepted report.
 fn all_elements(bytes: &[u8], records: &[u64], count: usize, set: Separators) -> Vec<Vec<Vec<Vec<u8>>>> {
-    let bounds = records.chunks(3).take(count).map(|record| (record[0] as usize, record[1] as usize));
+    let bounds =
+        records.chunks(SEGMENT_NUMBERS).take(count).map(|record| (record[0] as usize, record[1] as usize));
     bounds.map(|(start, length)| elements(&bytes[start..start + length], set)).collect()
 }
 

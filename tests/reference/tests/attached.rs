@@ -5,20 +5,24 @@ mod plainly;
 
 use reference::generator::{counted_segment, Random};
 use reference::plain::read_plain;
-use reference::{component_span, element_span, read, rewrite, LineEnds, Separators, LONGEST};
+use reference::{component_span, element_span, read, rewrite};
+use reference::{LineEnds, Separators, LONGEST, SEGMENT_NUMBERS};
 
 /// What stands before the BIN, which is then the sixth segment and starts at byte 38.
 const BEFORE: &[u8] = b"ST*842*0001~BNR*1~HL*1**I~NCD*1~EFI*1~";
 
-/// Reads by both readers and gives the four numbers and the segment table.
-fn given(input: &[u8]) -> ([u64; 4], Vec<u64>) {
-    let lent = || (vec![7; 60], vec![8; 12]);
+/// How many numbers the tables have: more than enough.
+const ROOM: (usize, usize) = (SEGMENT_NUMBERS * 20, 12);
+
+/// Reads by both readers and gives the four numbers and the records of the segment table.
+fn given(input: &[u8]) -> ([u64; 4], Vec<[u64; SEGMENT_NUMBERS]>) {
+    let lent = || (vec![7; ROOM.0], vec![8; ROOM.1]);
     let (mut fast, mut plain) = (lent(), lent());
     let (set, line_ends) = (Separators::STANDARD, LineEnds::Skipped);
     let answer = read(input, set, line_ends, &mut fast.0, &mut fast.1);
     let plain_answer = read_plain(input, set, line_ends, &mut plain.0, &mut plain.1);
     assert_eq!((answer, &fast), (plain_answer, &plain), "{}", input.escape_ascii());
-    (answer.numbers(), fast.0)
+    (answer.numbers(), fast.0.as_chunks().0.to_vec())
 }
 
 /// The answer with these bytes in the BIN's place and nothing behind them.
@@ -91,7 +95,7 @@ fn every_short_word_is_read_as_defined() {
                     refused += 1;
                 }
                 Ok(length) => {
-                    assert_eq!(segments[15..18], [38, length as u64 - 1, 55]);
+                    assert_eq!(segments[5], [38, length as u64 - 1, 55, 1]);
                     assert_eq!(answer[1..3], [7, 38 + length as u64], "{}", bin.escape_ascii());
                     whole += 1;
                 }
@@ -164,7 +168,7 @@ fn every_byte_may_stand_in_bin02_and_only_the_terminator_behind_it() {
     for byte in 0..=255 {
         let (answer, segments) = given(&[BEFORE, b"BIN*1*", &[byte], b"~SE*7*0001~"].concat());
         assert_eq!(answer, [0, 7, 1, 56]);
-        assert_eq!(segments[15..21], [38, 7, 55, 46, 9, 79]);
+        assert_eq!(segments[5..7], [[38, 7, 55, 1], [46, 9, 79, 0]]);
         let due = ending(&[b"BIN*1*A", &[byte][..]].concat());
         assert_eq!(due, if byte == b'~' { [3, 7, 46, 0] } else { [10, 6, 38, 2] });
         let first = ending(&[b"BIN*", &[byte][..]].concat());
@@ -246,9 +250,9 @@ fn lookups_agree_with_the_plain_ones() {
 
 /// Rewrites and gives the answer and the output.
 fn rewritten(input: &[u8], old: Separators, new: Separators) -> ([u64; 4], Vec<u8>) {
-    let (mut segments, mut levels, mut output) = (vec![7; 60], vec![8; 12], vec![b'?'; input.len()]);
+    let (mut segments, mut levels, mut output) = (vec![7; ROOM.0], vec![8; ROOM.1], vec![b'?'; input.len()]);
     let answer = rewrite(input, old, new, &mut segments, &mut levels, &mut output);
-    let (mut plain_segments, mut plain_levels) = (vec![7; 60], vec![8; 12]);
+    let (mut plain_segments, mut plain_levels) = (vec![7; ROOM.0], vec![8; ROOM.1]);
     let mut plain_output = vec![b'?'; input.len()];
     let plain = plainly::rewrite(input, old, new, &mut plain_segments, &mut plain_levels, &mut plain_output);
     assert_eq!((answer, &segments, &levels, &output), (plain, &plain_segments, &plain_levels, &plain_output));

@@ -1,47 +1,27 @@
 //! Line ends between segments (document 02, Item 3): corners by hand, every short word behind a terminator,
 //! and generated reports held to what a strict reading says of them without the skipped bytes.
 
+mod both;
+
+use both::{given, Outcome};
 use reference::generator::{report, Case};
-use reference::plain::read_plain;
 use reference::vectors::text::{joined, written_with, W1};
-use reference::{read, rewrite, Answer, LineEnds, Separators};
+use reference::{rewrite, Answer, LineEnds, Separators, SEGMENT_NUMBERS};
 use std::collections::BTreeMap;
 
 const STANDARD: Separators = Separators::STANDARD;
 
-/// What comes of a reading: the four numbers and both tables.
-#[derive(Clone, Debug, PartialEq)]
-struct Outcome {
-    answer: [u64; 4],
-    segments: Vec<u64>,
-    levels: Vec<u64>,
-}
+/// How many numbers the tables have where that is more than enough.
+const ROOM: (usize, usize) = (SEGMENT_NUMBERS * 20, 12);
 
-impl Outcome {
-    /// The starts and lengths of the segments that were accepted.
-    fn accepted(&self) -> Vec<(usize, usize)> {
-        let count = match self.answer {
-            [0, segments, ..] => segments,
-            [_, segment, ..] => segment.saturating_sub(1),
-        };
-        let records = self.segments.chunks(3).take(count as usize);
-        records.map(|record| (record[0] as usize, record[1] as usize)).collect()
-    }
-}
-
-/// Reads by both readers, which must agree, with so many numbers in the tables.
-fn given(input: &[u8], set: Separators, line_ends: LineEnds, rooms: (usize, usize)) -> Outcome {
-    let lent = |answer| Outcome { answer, segments: vec![7; rooms.0], levels: vec![8; rooms.1] };
-    let (mut fast, mut plain) = (lent([9; 4]), lent([9; 4]));
-    fast.answer = read(input, set, line_ends, &mut fast.segments, &mut fast.levels).numbers();
-    plain.answer = read_plain(input, set, line_ends, &mut plain.segments, &mut plain.levels).numbers();
-    assert_eq!(fast, plain, "{} {set:?} {line_ends:?}", input.escape_ascii());
-    fast
+/// The starts and lengths of the segments that were accepted.
+fn accepted(outcome: &Outcome) -> Vec<(usize, usize)> {
+    outcome.records().iter().map(|record| (record[0] as usize, record[1] as usize)).collect()
 }
 
 /// The answers by both choices with the standard separators and room enough: skipped, strict.
 fn answers(text: &str) -> [[u64; 4]; 2] {
-    LineEnds::BOTH.map(|line_ends| given(text.as_bytes(), STANDARD, line_ends, (60, 12)).answer)
+    LineEnds::BOTH.map(|line_ends| given(text.as_bytes(), STANDARD, line_ends, ROOM).answer)
 }
 
 /// How many bytes are skipped behind a terminator: the longest of CR LF, CR and LF that stands there and
@@ -60,10 +40,10 @@ fn held_to_the_words(input: &[u8], set: Separators, rooms: (usize, usize)) -> Ou
     let mut expected = outcome.clone();
     let mut without = Vec::new();
     let mut end = None;
-    for (at, (start, length)) in outcome.accepted().into_iter().enumerate() {
+    for (at, (start, length)) in accepted(&outcome).into_iter().enumerate() {
         let due = end.map_or(0, |end| end + skipped(&input[end..], set));
         assert_eq!(start, due, "{}", told());
-        expected.segments[3 * at] = without.len() as u64;
+        expected.segments[SEGMENT_NUMBERS * at] = without.len() as u64;
         without.extend_from_slice(&input[start..start + length + 1]);
         end = Some(start + length + 1);
     }
@@ -90,10 +70,10 @@ fn w1_in_lines(end: &str) -> String {
 fn line_ends_behind_each_segment_of_w1() {
     for end in ["\r\n", "\n", "\r", ""] {
         let text = w1_in_lines(end);
-        let outcome = held_to_the_words(text.as_bytes(), STANDARD, (21, 8));
+        let outcome = held_to_the_words(text.as_bytes(), STANDARD, (SEGMENT_NUMBERS * 7, 8));
         let length = end.len() as u64;
         assert_eq!(outcome.answer, [0, 7, 2, 78 + 6 * length]);
-        let starts: Vec<u64> = outcome.segments.chunks(3).map(|record| record[0]).collect();
+        let starts: Vec<u64> = outcome.segments.chunks(SEGMENT_NUMBERS).map(|record| record[0]).collect();
         let expected: Vec<u64> =
             (0..).zip([0, 12, 32, 43, 54, 60, 68]).map(|(before, start)| start + before * length).collect();
         assert_eq!(starts, expected);
@@ -162,8 +142,11 @@ fn line_ends_around_and_within_a_bin() {
         let length = end.len() as u64;
         let text = format!("{before}{end}BIN*4*~\r\n~~{end}SE*7*0001~");
         assert_eq!(answers(&text), [[0, 7, 1, 59 + 2 * length], [5, 6, 38, 0]]);
-        let outcome = held_to_the_words(text.as_bytes(), STANDARD, (21, 4));
-        assert_eq!(outcome.segments[15..], [38 + length, 10, 55, 49 + 2 * length, 9, 79]);
+        let outcome = held_to_the_words(text.as_bytes(), STANDARD, (SEGMENT_NUMBERS * 7, 4));
+        assert_eq!(
+            outcome.segments[SEGMENT_NUMBERS * 5..],
+            [38 + length, 10, 55, 1, 49 + 2 * length, 9, 79, 0]
+        );
         let inside = format!("{before}BIN*{length}*{end}~SE*7*0001~");
         assert_eq!(answers(&inside), [[0, 7, 1, 55 + length]; 2]);
         // The terminator is due behind BIN02, not a line end.
@@ -180,19 +163,18 @@ fn line_ends_around_and_within_a_bin() {
 fn room_is_asked_for_behind_the_line_end() {
     let text = w1_in_lines("\r\n");
     for (whole, start) in [0, 14, 36, 49, 62, 70, 80].into_iter().enumerate() {
-        let outcome = held_to_the_words(text.as_bytes(), STANDARD, (3 * whole + 2, 8));
+        let outcome = held_to_the_words(text.as_bytes(), STANDARD, (SEGMENT_NUMBERS * (whole + 1) - 1, 8));
         assert_eq!(outcome.answer, [17, whole as u64 + 1, start, 0]);
     }
-    assert_eq!(held_to_the_words(text.as_bytes(), STANDARD, (21, 4)).answer, [17, 4, 49, 0]);
+    assert_eq!(held_to_the_words(text.as_bytes(), STANDARD, (SEGMENT_NUMBERS * 7, 4)).answer, [17, 4, 49, 0]);
 }
 
 #[test]
 fn a_separator_is_no_line_end() {
     // Terminator CR: the LF behind it is skipped, a second CR is not.
     let cr = Separators::new(b'*', b':', b'\r');
-    let ends = |text: &str, set| {
-        LineEnds::BOTH.map(|line_ends| given(text.as_bytes(), set, line_ends, (60, 12)).answer)
-    };
+    let ends =
+        |text: &str, set| LineEnds::BOTH.map(|line_ends| given(text.as_bytes(), set, line_ends, ROOM).answer);
     let report = "ST*842*0001\r\nBNR*1\r\nHL*1**I\r\nSE*4*0001\r\n";
     assert_eq!(ends(report, cr), [[0, 4, 1, 39], [5, 2, 12, 0]]);
     assert_eq!(ends(&report.replace('\n', ""), cr), [[0, 4, 1, 36]; 2]);
@@ -255,7 +237,7 @@ fn every_short_word_behind_a_terminator() {
         let set = Separators::new(element, component, terminator);
         for word in words(&[b'\r', b'\n', terminator, element, b'S', b'T'], longest) {
             for input in with_word(set, &word) {
-                let outcome = held_to_the_words(&input, set, (60, 12));
+                let outcome = held_to_the_words(&input, set, ROOM);
                 *came.entry(outcome.answer[0]).or_default() += 1;
             }
         }
@@ -312,7 +294,7 @@ fn generated_reports_are_held_to_the_words() {
 /// segments on both sides.
 fn between<'a>(case: &'a Case, outcome: &Outcome) -> Vec<[&'a [u8]; 3]> {
     let mut bounds: Vec<(usize, usize)> =
-        outcome.accepted().iter().map(|(start, length)| (*start, start + length + 1)).collect();
+        accepted(outcome).iter().map(|(start, length)| (*start, start + length + 1)).collect();
     if outcome.answer[0] > 2 {
         let at = outcome.answer[2] as usize;
         bounds.push((at, at));
@@ -360,7 +342,7 @@ fn line_ends_come_at_every_place() {
 fn rewriting_reads_strictly() {
     let new = Separators::new(b'|', b'^', b'\'');
     let rewritten = |text: &str| {
-        let (mut segments, mut levels, mut output) = (vec![7; 60], vec![8; 12], vec![b'?'; 200]);
+        let (mut segments, mut levels, mut output) = (vec![7; ROOM.0], vec![8; ROOM.1], vec![b'?'; 200]);
         let answer = rewrite(text.as_bytes(), STANDARD, new, &mut segments, &mut levels, &mut output);
         let touched = output.iter().any(|byte| *byte != b'?');
         (answer, touched)

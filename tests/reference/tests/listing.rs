@@ -3,19 +3,19 @@
 use reference::listing::{listing, PROGRAM_BYTES, PROGRAM_LEVELS, PROGRAM_SEGMENTS};
 use reference::reports::{reports, Report};
 use reference::vectors::text::{joined, w1_with, W1};
-use reference::{read, LineEnds, Separators, CODES};
+use reference::{read, LineEnds, Separators, CODES, LEVEL_NUMBERS, SEGMENT_NUMBERS};
 use std::collections::BTreeSet;
 
-/// The listing of W1 as document 01 prints it.
+/// The listing of W1 as document 01 prints it, with the level behind each segment (document 02, Item 5).
 const W1_LISTING: &str = "\
 842 segments 7 levels 2 bytes 78
-1 0 11 1
-2 12 19 2
-3 32 10 18
-4 43 10 18
-5 54 5 46
-6 60 7 64
-7 68 9 79
+1 0 11 1 0
+2 12 19 2 0
+3 32 10 18 1
+4 43 10 18 2
+5 54 5 46 2
+6 60 7 64 2
+7 68 9 79 0
 level 1 3 0 1 RP
 level 2 4 1 2 I
 ";
@@ -23,13 +23,13 @@ level 2 4 1 2 I
 /// The same with CR LF behind each segment: every start comes behind the line ends before it.
 const W1_LISTING_IN_LINES: &str = "\
 842 segments 7 levels 2 bytes 90
-1 0 11 1
-2 14 19 2
-3 36 10 18
-4 49 10 18
-5 62 5 46
-6 70 7 64
-7 80 9 79
+1 0 11 1 0
+2 14 19 2 0
+3 36 10 18 1
+4 49 10 18 2
+5 62 5 46 2
+6 70 7 64 2
+7 80 9 79 0
 level 1 3 0 1 RP
 level 2 4 1 2 I
 ";
@@ -71,14 +71,17 @@ fn both_readers_list_the_same() {
         if input.len() > PROGRAM_BYTES {
             continue;
         }
-        let (mut segments, mut levels) = (vec![0; 3 * PROGRAM_SEGMENTS], vec![0; 4 * PROGRAM_LEVELS]);
+        let (mut segments, mut levels) =
+            (vec![0; SEGMENT_NUMBERS * PROGRAM_SEGMENTS], vec![0; LEVEL_NUMBERS * PROGRAM_LEVELS]);
         let answer =
             read(&input, Separators::STANDARD, LineEnds::Skipped, &mut segments, &mut levels).numbers();
         let mut lines = vec![first_line(answer)];
         if answer[0] == 0 {
-            let records = segments.chunks(3).take(answer[1] as usize);
-            lines.extend((1..).zip(records).map(|(at, r)| format!("{at} {} {} {}", r[0], r[1], r[2])));
-            let records = levels.chunks(4).take(answer[2] as usize);
+            let records = segments.chunks(SEGMENT_NUMBERS).take(answer[1] as usize);
+            lines.extend(
+                (1..).zip(records).map(|(at, r)| format!("{at} {} {} {} {}", r[0], r[1], r[2], r[3])),
+            );
+            let records = levels.chunks(LEVEL_NUMBERS).take(answer[2] as usize);
             lines.extend((1..).zip(records).map(|(at, r)| {
                 format!("level {at} {} {} {} {}", r[0], r[1], r[2], CODES[r[3] as usize - 1])
             }));
@@ -93,6 +96,11 @@ fn names_are_files_and_differ() {
     assert_eq!(names.len(), reports().len());
     let letter = |byte: u8| byte.is_ascii_lowercase() || byte.is_ascii_digit() || byte == b'-';
     assert!(names.iter().all(|name| name.bytes().all(letter)));
+}
+
+/// Whether a line with these words is a segment's: five numbers.
+fn is_segment_line(words: &Vec<&str>) -> bool {
+    words.len() == 1 + SEGMENT_NUMBERS && words.iter().all(|word| word.parse::<u64>().is_ok())
 }
 
 /// Answers 0 and 2 to 17, each with each of its elements; every code, depth and row.
@@ -118,10 +126,10 @@ fn every_kind_of_answer_is_there() {
     for code in CODES {
         assert!(listed.lines().any(|line| line.starts_with("level ") && line.ends_with(&format!(" {code}"))));
     }
-    let rows: BTreeSet<&str> = listed
-        .lines()
-        .filter(|line| line.starts_with(|first: char| first.is_ascii_digit()) && !line.starts_with("842 seg"))
-        .filter_map(|line| line.rsplit(' ').next())
-        .collect();
+    let segment_lines = || listed.lines().map(|line| line.split(' ').collect()).filter(is_segment_line);
+    let rows: BTreeSet<&str> = segment_lines().map(|words| words[3]).collect();
     assert_eq!(rows.len(), 79);
+    // Segments of the heading and of each of 200 levels.
+    let levels: BTreeSet<&str> = segment_lines().map(|words| words[4]).collect();
+    assert_eq!(levels.len(), 1 + PROGRAM_LEVELS);
 }

@@ -31,8 +31,8 @@ fn names_and_limits() {
     assert_eq!(
         names,
         [
-            "answers", "astray", "attached", "bounds", "lines", "long", "lookups", "pairs", "rewriting",
-            "rooms", "rowsa", "rowsb", "rowsc", "rowsd", "separators", "truncated", "worked"
+            "answers", "astray", "attached", "bounds", "levels", "lines", "long", "lookups", "pairs",
+            "rewriting", "rooms", "rowsa", "rowsb", "rowsc", "rowsd", "separators", "truncated", "worked"
         ]
     );
     let mut names: Vec<String> = Vec::new();

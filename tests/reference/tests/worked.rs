@@ -1,10 +1,19 @@
 //! The worked reports of document 01 with their tables, and the points where readers went astray.
 
 use reference::vectors::text::{after_bnr, in_fault, in_heading, joined, w1_with, EVERY_ROW, W1};
-use reference::{read, Answer, LineEnds, Separators};
+use reference::{read, Answer, LineEnds, Separators, LEVEL_NUMBERS, SEGMENT_NUMBERS};
+
+/// The record of a segment: start, length, row, level.
+type Segment = [u64; SEGMENT_NUMBERS];
+/// The record of a level: segment, parent, depth, code.
+type Level = [u64; LEVEL_NUMBERS];
+
+/// Room for a few segments more than W1 has, and for all 79 rows.
+const ROOM: (usize, usize) = (SEGMENT_NUMBERS * 10, 20);
+const ROOM_FOR_EVERY_ROW: (usize, usize) = (SEGMENT_NUMBERS * 80, 40);
 
 /// The tables before a reading.
-fn lent(segments: usize, levels: usize) -> (Vec<u64>, Vec<u64>) {
+fn lent((segments, levels): (usize, usize)) -> (Vec<u64>, Vec<u64>) {
     (
         (0..segments as u64).map(|at| 700_000 + at).collect(),
         (0..levels as u64).map(|at| 800_000 + at).collect(),
@@ -13,41 +22,45 @@ fn lent(segments: usize, levels: usize) -> (Vec<u64>, Vec<u64>) {
 
 /// Reads with so much room and checks that everything but the records keeps what it held. No report here
 /// has line ends: a strict reading gives the same.
-fn given(text: &str, rooms: (usize, usize)) -> (Answer, Vec<[u64; 3]>, Vec<[u64; 4]>) {
-    let (mut segments, mut levels) = lent(rooms.0, rooms.1);
+fn given(text: &str, rooms: (usize, usize)) -> (Answer, Vec<Segment>, Vec<Level>) {
+    let (mut segments, mut levels) = lent(rooms);
     let answer = read(text.as_bytes(), Separators::STANDARD, LineEnds::Skipped, &mut segments, &mut levels);
-    let mut strict = lent(rooms.0, rooms.1);
+    let mut strict = lent(rooms);
     let strictly =
         read(text.as_bytes(), Separators::STANDARD, LineEnds::Strict, &mut strict.0, &mut strict.1);
     assert_eq!((answer, &segments, &levels), (strictly, &strict.0, &strict.1));
-    let (untouched, untouched_levels) = lent(rooms.0, rooms.1);
+    let (untouched, untouched_levels) = lent(rooms);
     let count = match answer {
         Answer::Accepted { segments, .. } => segments,
         Answer::Refused { segment, .. } => segment.saturating_sub(1),
     };
-    let records: Vec<[u64; 3]> =
-        segments.chunks_exact(3).take(count).map(|record| record.try_into().unwrap()).collect();
+    let records: Vec<Segment> = segments.as_chunks().0[..count].to_vec();
     let level_count = records.iter().filter(|record| record[2] == 18).count();
-    assert_eq!(segments[3 * count..], untouched[3 * count..]);
-    assert_eq!(levels[4 * level_count..], untouched_levels[4 * level_count..]);
-    let level_records =
-        levels.chunks_exact(4).take(level_count).map(|record| record.try_into().unwrap()).collect();
-    (answer, records, level_records)
+    assert_eq!(segments[SEGMENT_NUMBERS * count..], untouched[SEGMENT_NUMBERS * count..]);
+    assert_eq!(levels[LEVEL_NUMBERS * level_count..], untouched_levels[LEVEL_NUMBERS * level_count..]);
+    (answer, records, levels.as_chunks().0[..level_count].to_vec())
 }
 
 fn refused(number: usize, segment: usize, byte: usize, element: usize) -> Answer {
     Answer::Refused { number, segment, byte, element }
 }
 
-const W1_SEGMENTS: [[u64; 3]; 7] =
-    [[0, 11, 1], [12, 19, 2], [32, 10, 18], [43, 10, 18], [54, 5, 46], [60, 7, 64], [68, 9, 79]];
-const W1_LEVELS: [[u64; 4]; 2] = [[3, 0, 1, 1], [4, 1, 2, 2]];
+const W1_SEGMENTS: [Segment; 7] = [
+    [0, 11, 1, 0],
+    [12, 19, 2, 0],
+    [32, 10, 18, 1],
+    [43, 10, 18, 2],
+    [54, 5, 46, 2],
+    [60, 7, 64, 2],
+    [68, 9, 79, 0],
+];
+const W1_LEVELS: [Level; 2] = [[3, 0, 1, 1], [4, 1, 2, 2]];
 
 #[test]
 fn w1_is_accepted_with_its_tables() {
     let printed = "ST*842*0001~BNR*11*NR7*20240301~HL*1**RP*1~HL*2*1*I*0~NCD*1~NCA**R1~SE*7*0001~";
     assert_eq!(joined(&W1), printed);
-    for rooms in [(21, 8), (24, 12), (23, 11), (40, 50)] {
+    for rooms in [(28, 8), (29, 9), (30, 10), (31, 11), (32, 12), (50, 60)] {
         let (answer, segments, levels) = given(printed, rooms);
         assert_eq!(answer, Answer::Accepted { segments: 7, levels: 2, bytes: 78 });
         assert_eq!(answer.numbers(), [0, 7, 2, 78]);
@@ -67,24 +80,23 @@ fn refusal_in_w1(text: &str, rooms: (usize, usize), answer: Answer, levels: usiz
 
 #[test]
 fn w2_to_w10() {
-    let room = (30, 20);
-    refusal_in_w1(&w1_with(4, "HL*2*1*F*0"), room, refused(14, 4, 43, 2), 1);
-    refusal_in_w1(&w1_with(4, "HL*2*9*I*0"), room, refused(13, 4, 43, 2), 1);
-    refusal_in_w1(&w1_with(4, "HL*1*1*I*0"), room, refused(12, 4, 43, 1), 1);
-    refusal_in_w1(&w1_with(7, "SE*6*0001"), room, refused(16, 7, 68, 1), 2);
-    refusal_in_w1(&joined(&[W1[0], W1[1], W1[2], "SE*4*0001"]), room, refused(15, 4, 43, 0), 1);
-    refusal_in_w1("", room, refused(3, 1, 0, 0), 0);
-    refusal_in_w1(&joined(&[&W1[..4], &W1[5..]].concat()), room, refused(7, 5, 54, 0), 2);
-    refusal_in_w1(&w1_with(6, "NCA**R1**5"), room, refused(11, 6, 60, 4), 2);
-    for segment_numbers in [18, 19, 20] {
+    refusal_in_w1(&w1_with(4, "HL*2*1*F*0"), ROOM, refused(14, 4, 43, 2), 1);
+    refusal_in_w1(&w1_with(4, "HL*2*9*I*0"), ROOM, refused(13, 4, 43, 2), 1);
+    refusal_in_w1(&w1_with(4, "HL*1*1*I*0"), ROOM, refused(12, 4, 43, 1), 1);
+    refusal_in_w1(&w1_with(7, "SE*6*0001"), ROOM, refused(16, 7, 68, 1), 2);
+    refusal_in_w1(&joined(&[W1[0], W1[1], W1[2], "SE*4*0001"]), ROOM, refused(15, 4, 43, 0), 1);
+    refusal_in_w1("", ROOM, refused(3, 1, 0, 0), 0);
+    refusal_in_w1(&joined(&[&W1[..4], &W1[5..]].concat()), ROOM, refused(7, 5, 54, 0), 2);
+    refusal_in_w1(&w1_with(6, "NCA**R1**5"), ROOM, refused(11, 6, 60, 4), 2);
+    for segment_numbers in [24, 25, 26, 27] {
         refusal_in_w1(&joined(&W1), (segment_numbers, 20), refused(17, 7, 68, 0), 2);
     }
 }
 
 #[test]
 fn w11_and_w12() {
-    let accepted = |dtm: &str| given(&in_heading(&[dtm]), (30, 20)).0.numbers()[0] == 0;
-    let refusal = |dtm: &str| given(&in_heading(&[dtm]), (30, 20)).0;
+    let accepted = |dtm: &str| given(&in_heading(&[dtm]), ROOM).0.numbers()[0] == 0;
+    let refusal = |dtm: &str| given(&in_heading(&[dtm]), ROOM).0;
     assert!(accepted("DTM*405*20240229"));
     assert_eq!(refusal("DTM*405*20230229"), refused(10, 3, 18, 2));
     assert!(accepted("DTM*405**2359"));
@@ -93,14 +105,14 @@ fn w11_and_w12() {
 
 /// The rows of an accepted report.
 fn rows(text: &str) -> Vec<u64> {
-    let (answer, segments, _) = given(text, (90, 40));
+    let (answer, segments, _) = given(text, ROOM_FOR_EVERY_ROW);
     assert!(matches!(answer, Answer::Accepted { .. }), "{answer:?}");
     segments.iter().map(|record| record[2]).collect()
 }
 
 #[test]
 fn hl02_is_a_text_and_not_a_position() {
-    let (_, _, levels) = given(&after_bnr(&["HL*2**I", "HL*1*2*F", "HL*3*1*PC", "HL*4*2*SN"]), (30, 20));
+    let (_, _, levels) = given(&after_bnr(&["HL*2**I", "HL*1*2*F", "HL*3*1*PC", "HL*4*2*SN"]), ROOM);
     assert_eq!(levels, [[3, 0, 1, 2], [4, 1, 2, 3], [5, 2, 3, 4], [6, 1, 2, 5]]);
 }
 
@@ -111,7 +123,7 @@ fn a_ref_after_pwk_has_row_10() {
 
 #[test]
 fn a_third_n2_is_refused_and_a_new_pass_counts_anew() {
-    let (answer, segments, _) = given(&in_heading(&["N1*SU*A", "N2*A", "N2*B", "N2*C"]), (90, 40));
+    let (answer, segments, _) = given(&in_heading(&["N1*SU*A", "N2*A", "N2*B", "N2*C"]), ROOM_FOR_EVERY_ROW);
     assert_eq!(answer, refused(7, 6, 36, 0));
     assert_eq!(segments.len(), 5);
     assert_eq!(
@@ -122,7 +134,7 @@ fn a_third_n2_is_refused_and_a_new_pass_counts_anew() {
 
 #[test]
 fn an_unfilled_mark_is_found_at_se_and_the_hl_is_recorded() {
-    let (answer, segments, levels) = given(&after_bnr(&["HL*1**RP*1", "NCD*1"]), (90, 40));
+    let (answer, segments, levels) = given(&after_bnr(&["HL*1**RP*1", "NCD*1"]), ROOM_FOR_EVERY_ROW);
     assert_eq!(answer, refused(15, 5, 35, 0));
     assert_eq!((segments.len(), levels.len()), (4, 1));
 }
@@ -130,7 +142,7 @@ fn an_unfilled_mark_is_found_at_se_and_the_hl_is_recorded() {
 #[test]
 fn four_levels_deep() {
     let (answer, _, levels) =
-        given(&after_bnr(&["HL*1**RP*1", "HL*2*1*I*1", "HL*3*2*F*1", "HL*4*3*SN*0"]), (90, 40));
+        given(&after_bnr(&["HL*1**RP*1", "HL*2*1*I*1", "HL*3*2*F*1", "HL*4*3*SN*0"]), ROOM_FOR_EVERY_ROW);
     assert_eq!(answer.numbers()[..3], [0, 7, 4]);
     assert_eq!(levels, [[3, 0, 1, 1], [4, 1, 2, 2], [5, 2, 3, 3], [6, 3, 4, 5]]);
 }
@@ -145,14 +157,14 @@ fn rows_of_the_deepest_loops() {
     ]);
     let mut expected = vec![1, 2, 18];
     expected.extend(46..=79);
-    let (answer, segments, _) = given(&text, (120, 4));
+    let (answer, segments, _) = given(&text, ROOM_FOR_EVERY_ROW);
     assert!(matches!(answer, Answer::Accepted { .. }), "{answer:?}");
     assert_eq!(segments.iter().map(|record| record[2]).collect::<Vec<u64>>(), expected);
 }
 
 #[test]
 fn every_row_in_one_report() {
-    let (answer, segments, _) = given(&after_bnr(&EVERY_ROW), (240, 4));
+    let (answer, segments, _) = given(&after_bnr(&EVERY_ROW), ROOM_FOR_EVERY_ROW);
     assert!(matches!(answer, Answer::Accepted { segments: 79, .. }), "{answer:?}");
     assert_eq!(segments.iter().map(|record| record[2]).collect::<Vec<u64>>(), (1..=79).collect::<Vec<u64>>());
 }
@@ -168,9 +180,9 @@ fn answers_1_and_2_write_nothing() {
         let mut input = joined(&W1).into_bytes();
         input.resize(length, b'~');
         for line_ends in LineEnds::BOTH {
-            let (mut segments, mut levels) = lent(30, 20);
+            let (mut segments, mut levels) = lent(ROOM);
             assert_eq!(read(&input, set, line_ends, &mut segments, &mut levels).numbers(), answer);
-            assert_eq!((segments, levels) == lent(30, 20), answer[0] != 0);
+            assert_eq!((segments, levels) == lent(ROOM), answer[0] != 0);
         }
     }
 }
@@ -181,8 +193,8 @@ fn a_long_report_counts_in_many_digits() {
     segments.extend((0..80_000).map(|at| format!("QTY*{at}")));
     segments.push("SE*80004*0001".to_string());
     let text = joined(&segments);
-    let (mut table, mut levels) = lent(3 * 80_004, 4);
+    let (mut table, mut levels) = lent((SEGMENT_NUMBERS * 80_004, LEVEL_NUMBERS));
     let answer = read(text.as_bytes(), Separators::STANDARD, LineEnds::Skipped, &mut table, &mut levels);
     assert_eq!(answer.numbers(), [0, 80_004, 1, text.len() as u64]);
-    assert_eq!(table[3 * 80_003..], [text.len() as u64 - 14, 13, 79]);
+    assert_eq!(table[SEGMENT_NUMBERS * 80_003..], [text.len() as u64 - 14, 13, 79, 0]);
 }

@@ -10,7 +10,7 @@ mod random;
 pub use attached::counted_segment;
 pub use random::Random;
 
-use crate::{Separators, LONGEST};
+use crate::{Separators, LEVEL_NUMBERS, LONGEST, SEGMENT_NUMBERS};
 use draft::Draft;
 use lines::Lines;
 
@@ -67,7 +67,9 @@ pub fn report(seed: u64) -> Case {
     }
     let read_with = if random.chance(2) { any_set(&mut random) } else { separators };
     let (segment_numbers, level_numbers) = rooms(&mut random, needed);
-    valid &= read_with == separators && segment_numbers / 3 >= needed.0 && level_numbers / 4 >= needed.1;
+    valid &= read_with == separators
+        && segment_numbers / SEGMENT_NUMBERS >= needed.0
+        && level_numbers / LEVEL_NUMBERS >= needed.1;
     Case {
         seed,
         separators: read_with,
@@ -108,7 +110,7 @@ fn trail(random: &mut Random, input: &mut Vec<u8>, separators: Separators) {
 
 /// How many numbers both tables have: often more than enough, often near the need, sometimes none.
 fn rooms(random: &mut Random, needed: (usize, usize)) -> (usize, usize) {
-    (room(random, 3 * needed.0), room(random, 4 * needed.1))
+    (room(random, SEGMENT_NUMBERS * needed.0), room(random, LEVEL_NUMBERS * needed.1))
 }
 
 fn room(random: &mut Random, needed: usize) -> usize {

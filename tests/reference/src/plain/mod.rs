@@ -1,5 +1,5 @@
 //! The same reading in the plainest way: slow, allocating, and taken from the words of document 01 and
-//! of document 02, Items 1 and 3.
+//! of document 02, Items 1, 3 and 5.
 //!
 //! It shares with the fast reader only the types of the separators, of the choice between readings and
 //! of the answer. The row list and the element rules are read from the paper's text at run time, and
@@ -18,6 +18,9 @@ use segment::Segment;
 
 /// A fault: the answer's number and the element.
 type Fault = (usize, usize);
+
+/// How many numbers a record has, of a segment and of a level alike.
+const RECORD: usize = 4;
 
 /// Reads a transaction and fills both tables, as `read` does.
 pub fn read_plain(
@@ -41,7 +44,7 @@ pub fn read_plain(
             start += line_end(&input[start..], separators);
         }
         let taken = Segment::first(&input[start..], start, separators)
-            .and_then(|segment| reading.take(segment, segments.len() / 3, levels.len() / 4));
+            .and_then(|segment| reading.take(segment, segments.len() / RECORD, levels.len() / RECORD));
         let segment = match taken {
             Ok(segment) => segment,
             Err((answer, element)) => return refusal(answer, number, start, element),
@@ -94,8 +97,8 @@ struct Reading {
     separators: Separators,
     rules: Vec<Rules>,
     ways: Ways,
-    /// Start, length and row of every accepted segment.
-    accepted: Vec<[usize; 3]>,
+    /// Start, length, row and level of every accepted segment.
+    accepted: Vec<[usize; RECORD]>,
     levels: Vec<Level>,
     control: Vec<u8>,
 }
@@ -137,9 +140,19 @@ impl Reading {
             self.control = segment.text(2).to_vec();
         }
         self.ways = ways;
-        self.accepted.push([segment.start, segment.length, row]);
         self.levels.extend(level);
+        self.accepted.push([segment.start, segment.length, row, self.level_of(&segment)]);
         Ok(segment)
+    }
+
+    /// The level that the next segment belongs to, searched for backwards: the last whose HL stands before the
+    /// segment or is it. 0 where there is none, and for SE.
+    fn level_of(&self, segment: &Segment) -> usize {
+        let number = self.accepted.len() + 1;
+        match self.levels.iter().rposition(|level| level.segment <= number) {
+            Some(at) if segment.tag() != b"SE" => at + 1,
+            _ => 0,
+        }
     }
 
     /// 7: no row fits here.
@@ -209,17 +222,20 @@ impl Reading {
     /// Writes the last segment's records, and nothing else.
     fn copy_records(&self, segments: &mut [u64], levels: &mut [u64]) {
         let at = self.accepted.len() - 1;
-        for (place, number) in self.accepted[at].iter().enumerate() {
-            segments[3 * at + place] = *number as u64;
-        }
+        write_record(segments, at, self.accepted[at]);
         let Some((at, level)) = self.levels.iter().enumerate().next_back() else {
             return;
         };
         let code = CODES.iter().position(|known| *known == level.code).unwrap() + 1;
-        let record = [level.segment, level.parent.map_or(0, |parent| parent + 1), self.depth(level), code];
-        for (place, number) in record.iter().enumerate() {
-            levels[4 * at + place] = *number as u64;
-        }
+        let parent = level.parent.map_or(0, |parent| parent + 1);
+        write_record(levels, at, [level.segment, parent, self.depth(level), code]);
+    }
+}
+
+/// Writes the record at this place of a table, counted from 0.
+fn write_record(table: &mut [u64], at: usize, record: [usize; RECORD]) {
+    for (place, number) in record.into_iter().enumerate() {
+        table[RECORD * at + place] = number as u64;
     }
 }
 

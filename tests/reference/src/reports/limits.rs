@@ -92,6 +92,12 @@ fn tree(levels: usize) -> Vec<String> {
     (1..=levels).map(level).collect()
 }
 
+/// Each level with a fault behind it.
+fn with_faults(levels: &[String]) -> Vec<String> {
+    let faulty = |level: &String| [level.as_str(), "NCD*1", "QTY*01*25", "NCA**R1"].map(String::from);
+    levels.iter().flat_map(faulty).collect()
+}
+
 fn levels() -> Vec<Report> {
     let only = |levels: &[String]| closed(&open(levels, 2 + levels.len()));
     let last = |level: &str| only(&[tree(200), vec![level.to_string()]].concat());
@@ -99,6 +105,7 @@ fn levels() -> Vec<Report> {
         Report::accepted("levels-5", only(&tree(5)), 8, 5),
         Report::accepted("levels-199", only(&tree(199)), 202, 199),
         Report::accepted("levels-200", only(&tree(200)), 203, 200),
+        Report::accepted("levels-200-with-faults", only(&with_faults(&tree(200))), 803, 200),
         Report::accepted("levels-200-segments-1000", closed(&open(&tree(200), 999)), 1000, 200),
         Report::refused("levels-200-segments-1001", closed(&open(&tree(200), 1000)), 17, 1001, 0),
         Report::refused("levels-201", only(&tree(201)), 17, 203, 0),

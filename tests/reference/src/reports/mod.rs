@@ -53,7 +53,7 @@ pub fn reports() -> Vec<Report> {
 /// The vectors that the program can be given: readings by the default with the standard separators. Those
 /// that lack room, W10 among them, cannot be: the program's room is its own, and `limits` goes to its end.
 fn of_vectors(group: Group) -> Vec<Report> {
-    if !["answers", "astray", "attached", "lines", "worked"].contains(&group.name.as_str()) {
+    if !["answers", "astray", "attached", "levels", "lines", "worked"].contains(&group.name.as_str()) {
         return Vec::new();
     }
     let report = |(number, told): (usize, _)| match told {

@@ -3,7 +3,7 @@
 
 use super::case::{Case, Told};
 use super::text::{accepted, after_bnr, in_fault, in_heading, in_level, joined, reading, refused, W1};
-use crate::Separators;
+use crate::{Separators, LEVEL_NUMBERS, SEGMENT_NUMBERS};
 
 pub fn cases() -> Vec<Told> {
     let mut cases = vec![accepted(joined(&W1), 7, 2)];
@@ -34,7 +34,7 @@ pub fn cases() -> Vec<Told> {
 fn unfit_sets() -> Vec<Told> {
     let input = joined(&W1).into_bytes();
     let separators = Separators::new(b'*', b'*', b'~');
-    let case = Case::read(input, separators, (23, 11));
+    let case = Case::read(input, separators, (SEGMENT_NUMBERS * 7 + 2, 11));
     vec![Told { case, answer: Some([1, 0, 0, 0]) }]
 }
 
@@ -193,14 +193,14 @@ fn no_room() -> Vec<Told> {
     for (whole, start) in starts.iter().enumerate() {
         let mut case = reading(joined(&W1).as_bytes());
         if let Case::Read { rooms, .. } = &mut case {
-            *rooms = (3 * whole + 2, 9);
+            *rooms = (SEGMENT_NUMBERS * (whole + 1) - 1, 9);
         }
         cases.push(Told { case, answer: Some([17, whole as u64 + 1, *start, 0]) });
     }
     for (whole, segment, start) in [(0, 3, 32), (1, 4, 43)] {
         let mut case = reading(joined(&W1).as_bytes());
         if let Case::Read { rooms, .. } = &mut case {
-            *rooms = (23, 4 * whole + 3);
+            *rooms = (SEGMENT_NUMBERS * 7 + 2, LEVEL_NUMBERS * (whole + 1) - 1);
         }
         cases.push(Told { case, answer: Some([17, segment, start, 0]) });
     }

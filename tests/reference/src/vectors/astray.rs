@@ -2,7 +2,7 @@
 
 use super::case::{Case, How, Told};
 use super::text::{accepted, after_bnr, closed, in_fault, in_heading, in_level, joined, refused, start_of};
-use crate::Separators;
+use crate::{Separators, SEGMENT_NUMBERS};
 
 pub fn cases() -> Vec<Told> {
     [
@@ -330,7 +330,7 @@ fn closing() -> Vec<Told> {
     let mut trailing = accepted(report("SE*4*00a1"), 4, 1);
     if let Case::Read { input, rooms, .. } = &mut trailing.case {
         input.extend(b"ST*\0\xFF~~~SE");
-        *rooms = (19, 7);
+        *rooms = (SEGMENT_NUMBERS * 6 + 1, 7);
     }
     vec![
         accepted(report("SE*4*00a1"), 4, 1),
@@ -365,14 +365,14 @@ fn rooms() -> Vec<Told> {
     let waiting = after_bnr(&["HL*1**RP*1"]);
     vec![
         with_room(&text, (0, 0), [17, 1, 0]),
-        with_room(&text, (2, 8), [17, 1, 0]),
-        with_room(&text, (8, 8), [17, 3, 0]),
-        with_room(&text, (15, 3), [17, 3, 0]),
-        with_room(&text, (11, 8), [17, 4, 0]),
-        with_room(&text, (15, 7), [17, 4, 0]),
-        with_room(&text, (14, 8), [17, 5, 0]),
-        with_room(&faulty, (9, 4), [14, 4, 2]),
-        with_room(&waiting, (9, 4), [15, 4, 0]),
+        with_room(&text, (SEGMENT_NUMBERS - 1, 8), [17, 1, 0]),
+        with_room(&text, (SEGMENT_NUMBERS * 3 - 1, 8), [17, 3, 0]),
+        with_room(&text, (SEGMENT_NUMBERS * 5, 3), [17, 3, 0]),
+        with_room(&text, (SEGMENT_NUMBERS * 4 - 1, 8), [17, 4, 0]),
+        with_room(&text, (SEGMENT_NUMBERS * 5, 7), [17, 4, 0]),
+        with_room(&text, (SEGMENT_NUMBERS * 5 - 1, 8), [17, 5, 0]),
+        with_room(&faulty, (SEGMENT_NUMBERS * 3, 4), [14, 4, 2]),
+        with_room(&waiting, (SEGMENT_NUMBERS * 3, 4), [15, 4, 0]),
         with_room("ST*842*1~", (0, 0), [10, 1, 2]),
     ]
 }

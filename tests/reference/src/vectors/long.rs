@@ -2,14 +2,14 @@
 
 use super::case::{Case, Told};
 use super::text::{joined, W1};
-use crate::Separators;
+use crate::{Separators, SEGMENT_NUMBERS};
 
 /// The most bytes an input may have.
 const LONGEST: usize = 1_048_576;
 
 /// The report filled up with `~` to that length, and its answer.
 fn filled(report: &str, separators: Separators, length: usize, answer: [u64; 4]) -> Told {
-    let case = Case::long(report.into(), separators, (23, 9), length);
+    let case = Case::long(report.into(), separators, (SEGMENT_NUMBERS * 7 + 2, 9), length);
     Told { case, answer: Some(answer) }
 }
 

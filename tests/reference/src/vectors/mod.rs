@@ -6,6 +6,7 @@ mod attached;
 mod bounds;
 mod case;
 mod generated;
+pub mod levels;
 mod lines;
 mod long;
 mod lookups;
@@ -46,6 +47,7 @@ pub fn groups() -> Vec<Group> {
         ("astray", astray::cases()),
         ("attached", attached::cases()),
         ("bounds", bounds::cases()),
+        ("levels", levels::cases()),
         ("lines", lines::cases()),
         ("long", long::cases()),
         ("lookups", lookups::cases()),

@@ -5,7 +5,7 @@
 use super::case::{Case, Told};
 use super::text::joined;
 use crate::rows::{Tag, NEXT, ROW_COUNT, TAGS};
-use crate::Separators;
+use crate::{Separators, LEVEL_NUMBERS, SEGMENT_NUMBERS};
 
 /// How many files the cases are spread over, so that each stays short.
 const FILES: usize = 4;
@@ -30,7 +30,7 @@ fn place(way: &[Tag], tag: Tag) -> Told {
     let tags: Vec<Tag> = way.iter().copied().chain([tag]).collect();
     let segments: Vec<String> = tags.iter().enumerate().map(|(at, tag)| segment(*tag, at + 1)).collect();
     let levels = tags.iter().filter(|tag| **tag == Tag::HL).count();
-    let rooms = (3 * segments.len() + 1, 4 * levels);
+    let rooms = (SEGMENT_NUMBERS * segments.len() + 1, LEVEL_NUMBERS * levels);
     Case::read(joined(&segments).into_bytes(), Separators::STANDARD, rooms).into()
 }
 

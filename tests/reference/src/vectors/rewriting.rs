@@ -2,7 +2,8 @@
 
 use super::case::{Case, Told};
 use super::text::{closed, enough, in_fault, in_heading, joined, start_of, w1_with, written_with, W1};
-use crate::Separators;
+use super::{OUTPUT_BYTES, TABLE_NUMBERS};
+use crate::{Separators, SEGMENT_NUMBERS};
 
 const STANDARD: Separators = Separators::STANDARD;
 
@@ -20,13 +21,13 @@ const NEW: [Separators; 9] = [
 ];
 
 /// A rewriting with enough room in the tables, so many bytes more or less in the output than in the input.
-fn rewriting(input: &[u8], separators: Separators, new: Separators, more: isize) -> Case {
+pub fn rewriting(input: &[u8], separators: Separators, new: Separators, more: isize) -> Case {
     let rooms = enough(input, separators);
     let output = input.len().saturating_add_signed(more);
     Case::Rewrite { input: input.to_vec(), separators, new, rooms, output }
 }
 
-fn told(case: Case, answer: [u64; 4]) -> Told {
+pub fn told(case: Case, answer: [u64; 4]) -> Told {
     Told { case, answer: Some(answer) }
 }
 
@@ -154,12 +155,12 @@ fn rooms() -> Vec<Told> {
     let input = joined(&W1).into_bytes();
     let mut cases = Vec::new();
     for (rooms, output, answer) in [
-        ((20, 8), 78, [17, 7, 68, 0]),
-        ((21, 7), 78, [17, 4, 43, 0]),
+        ((SEGMENT_NUMBERS * 7 - 1, 8), 78, [17, 7, 68, 0]),
+        ((SEGMENT_NUMBERS * 7, 7), 78, [17, 4, 43, 0]),
         ((0, 0), 78, [17, 1, 0, 0]),
-        ((21, 8), 78, [0, 7, 2, 78]),
-        ((21, 8), 77, [19, 0, 0, 0]),
-        ((120, 120), 400, [0, 7, 2, 78]),
+        ((SEGMENT_NUMBERS * 7, 8), 78, [0, 7, 2, 78]),
+        ((SEGMENT_NUMBERS * 7, 8), 77, [19, 0, 0, 0]),
+        ((TABLE_NUMBERS, TABLE_NUMBERS), OUTPUT_BYTES, [0, 7, 2, 78]),
     ] {
         let input = input.clone();
         cases.push(told(Case::Rewrite { input, separators: STANDARD, new, rooms, output }, answer));

@@ -3,7 +3,10 @@
 
 use super::case::{Case, Told};
 use super::text::{joined, written_with};
-use crate::Separators;
+use crate::{Separators, SEGMENT_NUMBERS};
+
+/// How many numbers the tables have: four segments, one level, and a number over in each.
+const ROOMS: (usize, usize) = (SEGMENT_NUMBERS * 4 + 1, 5);
 
 fn report() -> String {
     joined(&["ST*842*0001", "BNR*A:B", "HL*1**RP", "SE*4*0001"])
@@ -13,7 +16,7 @@ fn report() -> String {
 fn own(set: Separators, fit: bool) -> Told {
     let input = written_with(&report(), set);
     let answer = if fit { [0, 4, 1, input.len() as u64] } else { [1, 0, 0, 0] };
-    Told { case: Case::read(input, set, (13, 5)), answer: Some(answer) }
+    Told { case: Case::read(input, set, ROOMS), answer: Some(answer) }
 }
 
 /// Fit as one of three, by the paper's list of what is not.
@@ -65,7 +68,7 @@ fn sets() -> Vec<Told> {
 fn foreign() -> Vec<Told> {
     let read = |set: [u8; 3], answer: [u64; 4]| {
         let separators = Separators::new(set[0], set[1], set[2]);
-        let case = Case::read(report().into_bytes(), separators, (13, 5));
+        let case = Case::read(report().into_bytes(), separators, ROOMS);
         Told { case, answer: Some(answer) }
     };
     vec![
@@ -87,7 +90,7 @@ fn controls() -> Vec<Told> {
     let set = Separators::new(1, 2, 3);
     let read = |text: &str, answer: [u64; 4]| {
         let input = written_with(text, set);
-        Told { case: Case::read(input, set, (13, 5)), answer: Some(answer) }
+        Told { case: Case::read(input, set, ROOMS), answer: Some(answer) }
     };
     vec![
         read("ST*842*0\x0401~", [5, 1, 0, 2]),

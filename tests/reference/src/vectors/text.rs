@@ -1,7 +1,8 @@
 //! Making reports out of segments.
 
 use super::case::{Case, Told};
-use crate::Separators;
+use super::TABLE_NUMBERS;
+use crate::{Separators, LEVEL_NUMBERS, SEGMENT_NUMBERS};
 
 /// W1 of document 01, segment by segment.
 pub const W1: [&str; 7] =
@@ -63,7 +64,8 @@ pub fn enough(input: &[u8], separators: Separators) -> (usize, usize) {
         .split(|byte| *byte == separators.terminator)
         .filter(|segment| segment.trim_ascii_start().starts_with(&[b'H', b'L', separators.element]))
         .count();
-    ((3 * segments + 2).min(120), (4 * levels + 3).min(120))
+    let numbers = |count: usize, record: usize| (record * count + record - 1).min(TABLE_NUMBERS);
+    (numbers(segments, SEGMENT_NUMBERS), numbers(levels, LEVEL_NUMBERS))
 }
 
 /// A reading with the standard separators and enough room.

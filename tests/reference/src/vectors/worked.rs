@@ -2,7 +2,7 @@
 
 use super::case::{Case, How, Told};
 use super::text::{accepted, joined, refused, w1_with, W1};
-use crate::Separators;
+use crate::{Separators, SEGMENT_NUMBERS};
 
 /// W1 with a DTM behind BNR.
 fn with_dtm(dtm: &str) -> String {
@@ -14,7 +14,7 @@ fn with_dtm(dtm: &str) -> String {
 
 /// W10: room for six segments.
 fn six_segments() -> Told {
-    let case = Case::read(joined(&W1).into_bytes(), Separators::STANDARD, (20, 8));
+    let case = Case::read(joined(&W1).into_bytes(), Separators::STANDARD, (SEGMENT_NUMBERS * 7 - 1, 8));
     Told { case, answer: Some([17, 7, 68, 0]) }
 }
 

@@ -1,7 +1,7 @@
 //! Lookup and rewriting said plainly once more, for the tests to compare with.
 
 use reference::plain::read_plain;
-use reference::{Answer, LineEnds, Separators};
+use reference::{Answer, LineEnds, Separators, SEGMENT_NUMBERS};
 
 /// The elements of a segment, the tag first. BIN02 is whole where the count ends exactly with the
 /// segment's bytes.
@@ -52,7 +52,7 @@ pub fn rewrite(
     let answer = read_plain(input, old, LineEnds::Strict, segments, levels);
     let Answer::Accepted { segments: count, .. } = answer else { return answer };
     let mut written = Vec::new();
-    for (at, record) in segments.chunks(3).take(count).enumerate() {
+    for (at, record) in segments.chunks(SEGMENT_NUMBERS).take(count).enumerate() {
         let (start, length) = (record[0] as usize, record[1] as usize);
         match rewrite_segment(&input[start..start + length], old, new) {
             Ok(segment) => written.extend(segment),

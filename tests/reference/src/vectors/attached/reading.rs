@@ -3,7 +3,7 @@
 use super::{around, ending, BEFORE, STARTS};
 use crate::vectors::case::{Case, Told};
 use crate::vectors::text::{accepted, in_heading, reading, written_with};
-use crate::Separators;
+use crate::{Separators, SEGMENT_NUMBERS};
 
 pub fn cases() -> Vec<Told> {
     [
@@ -220,14 +220,15 @@ fn rooms() -> Vec<Told> {
         let case = Case::read(input, Separators::STANDARD, (segments, 4));
         Told { case, answer: Some(answer) }
     };
+    let short = SEGMENT_NUMBERS * 6 - 1;
     vec![
-        with_room(around(b"BIN*3*A~C~"), 17, [17, 6, 38, 0]),
-        with_room(around(b"BIN*3*A~C~"), 18, [17, 7, 48, 0]),
-        with_room(around(b"BIN*3*A~C~"), 21, [0, 7, 1, 58]),
-        with_room(around(b"BIN*3*A~CD~"), 17, [10, 6, 38, 2]),
-        with_room(around(b"BIN*0*A~"), 17, [10, 6, 38, 1]),
-        with_room(ending(b"BIN*3*A~C"), 17, [3, 6, 38, 0]),
-        with_room(around(b"BIN~"), 17, [6, 6, 38, 0]),
+        with_room(around(b"BIN*3*A~C~"), short, [17, 6, 38, 0]),
+        with_room(around(b"BIN*3*A~C~"), SEGMENT_NUMBERS * 6, [17, 7, 48, 0]),
+        with_room(around(b"BIN*3*A~C~"), SEGMENT_NUMBERS * 7, [0, 7, 1, 58]),
+        with_room(around(b"BIN*3*A~CD~"), short, [10, 6, 38, 2]),
+        with_room(around(b"BIN*0*A~"), short, [10, 6, 38, 1]),
+        with_room(ending(b"BIN*3*A~C"), short, [3, 6, 38, 0]),
+        with_room(around(b"BIN~"), short, [6, 6, 38, 0]),
     ]
 }
 
@@ -238,7 +239,7 @@ fn other_sets() -> Vec<Told> {
         let start = written_with(BEFORE, separators);
         let input = [&start[..], bin, &written_with("SE*7*0001~", separators)].concat();
         let answer = answer.unwrap_or([0, 7, 1, input.len() as u64]);
-        Told { case: Case::read(input, separators, (23, 5)), answer: Some(answer) }
+        Told { case: Case::read(input, separators, (SEGMENT_NUMBERS * 7 + 2, 5)), answer: Some(answer) }
     };
     vec![
         read([1, 2, 3], b"BIN\x016\x01*:~\x01\x02\x03\x03", None),
@@ -279,7 +280,7 @@ fn cut_everywhere() -> Vec<Told> {
 fn long() -> Vec<Told> {
     let filled = |count: u64, answer: [u64; 4]| {
         let input = ending(format!("BIN*{count}*").as_bytes());
-        let case = Case::long(input, Separators::STANDARD, (23, 5), 1_048_576);
+        let case = Case::long(input, Separators::STANDARD, (SEGMENT_NUMBERS * 7 + 2, 5), 1_048_576);
         Told { case, answer: Some(answer) }
     };
     vec![

@@ -20,7 +20,7 @@ fn by_both(case: Case, answers: [[u64; 4]; 2]) -> [Told; 2] {
 }
 
 /// The same of a text with the standard separators and room enough.
-fn told(text: &str, answers: [[u64; 4]; 2]) -> [Told; 2] {
+pub fn told(text: &str, answers: [[u64; 4]; 2]) -> [Told; 2] {
     by_both(reading(text.as_bytes()), answers)
 }
 

@@ -3,7 +3,7 @@
 use super::{by_both, told, ENDS};
 use crate::vectors::case::{Case, How, Told};
 use crate::vectors::text::{accepted, joined, reading, W1};
-use crate::Separators;
+use crate::{Separators, SEGMENT_NUMBERS};
 
 /// A report with a BIN that has a terminator and a line end in it.
 const SEGMENTS: [&str; 7] = ["ST*842*0001", "BNR*1", "HL*1**I", "NCD*1", "EFI*1", "BIN*3*~\r\n", "SE*7*0001"];
@@ -106,7 +106,7 @@ fn how() -> Vec<Told> {
 /// Inputs of the greatest length and one byte more, filled up with `~`.
 fn long() -> Vec<Told> {
     let filled = |text: &str, length: usize| {
-        Case::long(text.as_bytes().to_vec(), Separators::STANDARD, (23, 9), length)
+        Case::long(text.as_bytes().to_vec(), Separators::STANDARD, (SEGMENT_NUMBERS * 7 + 2, 9), length)
     };
     let in_lines = joined(&W1).replace('~', "~\n");
     let longest = 1_048_576;

@@ -3,7 +3,7 @@
 use super::{by_both, told};
 use crate::vectors::case::{Case, Told};
 use crate::vectors::text::{joined, W1};
-use crate::Separators;
+use crate::{Separators, SEGMENT_NUMBERS};
 
 /// The strict answer where a terminator comes, and where none does.
 const LINE_END: [u64; 4] = [5, 2, 12, 0];
@@ -119,12 +119,13 @@ fn rooms() -> Vec<Told> {
     };
     let starts = [0, 14, 36, 49, 62, 70, 80];
     let segments = starts.into_iter().enumerate();
-    let mut cases: Vec<Told> =
-        segments.flat_map(|(whole, start)| with_room((3 * whole + 2, 9), whole as u64 + 1, start)).collect();
-    cases.extend(with_room((23, 3), 3, 36));
-    cases.extend(with_room((23, 7), 4, 49));
+    let mut cases: Vec<Told> = segments
+        .flat_map(|(whole, start)| with_room((SEGMENT_NUMBERS * (whole + 1) - 1, 9), whole as u64 + 1, start))
+        .collect();
+    cases.extend(with_room((SEGMENT_NUMBERS * 7 + 2, 3), 3, 36));
+    cases.extend(with_room((SEGMENT_NUMBERS * 7 + 2, 7), 4, 49));
     // No room is asked for a segment that is refused for what it is.
-    let case = Case::read(b"ST*842*0001~\r\nXX*1~".to_vec(), Separators::STANDARD, (3, 0));
+    let case = Case::read(b"ST*842*0001~\r\nXX*1~".to_vec(), Separators::STANDARD, (SEGMENT_NUMBERS, 0));
     cases.extend(by_both(case, [[4, 2, 14, 0], LINE_END]));
     cases
 }

@@ -3,7 +3,7 @@
 use super::by_both;
 use crate::vectors::case::{Case, Told};
 use crate::vectors::text::written_with;
-use crate::Separators;
+use crate::{Separators, SEGMENT_NUMBERS};
 
 const CR: u8 = b'\r';
 const LF: u8 = b'\n';
@@ -12,6 +12,8 @@ const LF: u8 = b'\n';
 const BEHIND_ST: &str = "BNR*A:B~HL*1**RP~SE*4*0001~";
 /// How many bytes the report has without line ends.
 const BYTES: u64 = 39;
+/// How many numbers the tables have: more than the report needs.
+const ROOMS: (usize, usize) = (SEGMENT_NUMBERS * 5 + 2, 9);
 
 pub fn cases() -> Vec<Told> {
     [cr(), lf(), both(), as_lines()].concat()
@@ -22,7 +24,7 @@ fn read(set: [u8; 3], end: &str, answers: [[u64; 4]; 2]) -> [Told; 2] {
     let separators = Separators::new(set[0], set[1], set[2]);
     let [st, behind] = ["ST*842*0001~", BEHIND_ST].map(|text| written_with(text, separators));
     let input = [&st[..], end.as_bytes(), &behind].concat();
-    by_both(Case::read(input, separators, (17, 9)), answers)
+    by_both(Case::read(input, separators, ROOMS), answers)
 }
 
 /// Accepted with so many bytes skipped.
@@ -82,7 +84,7 @@ fn both() -> Vec<Told> {
 fn as_lines() -> Vec<Told> {
     let whole = |terminator: u8, text: &str, answers: [[u64; 4]; 2]| {
         let separators = Separators::new(b'*', b':', terminator);
-        by_both(Case::read(text.as_bytes().to_vec(), separators, (17, 9)), answers)
+        by_both(Case::read(text.as_bytes().to_vec(), separators, ROOMS), answers)
     };
     let text = |end: &str| format!("ST*842*0001~{BEHIND_ST}").replace('~', end);
     [
