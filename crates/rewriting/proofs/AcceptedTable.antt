@@ -3,19 +3,17 @@
 use Prim.Native.Nat.{ℕ}
 use mathlib.Core.Path.{_≡_, refl, sym, ap, subst, _∙_}
 use mathlib.Core.List.{List, []}
-use lib.ListN.{length, drop, length-map}
+use lib.ListN.{length, drop}
 use Rattle.text.specs.Bytes.{Bytes}
-use Rattle.text.specs.View.{viewOf}
 use Rattle.text.specs.Cut.{Placed}
 use Rattle.text.specs.declared.separators.Separators.{Separators}
 use Rattle.text.proofs.View.{fitted}
-use Rattle.rows.specs.RowList.{tagOf}
-use Rattle.gate.specs.Segments.{tagIn, seen}
 use Rattle.gate.specs.Records.{Tables, segmentRecords}
 use Rattle.gate.specs.Reads.{Reads}
 use Rattle.gate.specs.Conditions.{Numbering, Shows, usedBy}
 use Rattle.gate.specs.declared.answer.Answer.{Answer}
 use Rattle.gate.specs.declared.answer.Answer.the-variants.{Accepted, Refused}
+use Rattle.gate.proofs.reading.Passing.{one-each}
 use Rattle.gate.proofs.conditions.Conditions.{accepted-numbered, accepted-proper, condition-2}
 use Rattle.rewriting.specs.Rewrites.{strictly, OutcomeOf, AfterAcceptance}
 use Rattle.rewriting.specs.internal.SegmentTable.{segmentsFrom, NamesFrom}
@@ -57,11 +55,7 @@ module _ (old : Separators) (s : Bytes) (before : Tables) (a l b : ℕ) (tables 
 
   -- each has a row
   numbered : length (kept .rows) ≡ length gs
-  numbered =
-      sym (length-map (kept .rows) tagOf)
-      ∙ ap length (n .meets .tags)
-      ∙ length-map (seen (strictly old) gs) tagIn
-      ∙ length-map gs (λ (g : Placed). viewOf old (g .segment))
+  numbered = one-each (strictly old) gs (kept .rows) (n .meets .tags)
 
   named : (segmentsFrom s (tables .segments) 0 a ≡ gs) × NamesFrom s (tables .segments) 0 a
   named =

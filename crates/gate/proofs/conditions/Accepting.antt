@@ -6,13 +6,12 @@ use mathlib.Core.Path.{_≡_, refl, sym, ap, _∙_}
 use mathlib.Core.List.{List, [], _∷_, _++_}
 use native.Mathlib.Omega.{arith}
 use lib.Dec.{eqb-refl}
-use lib.ListN.{length, drop, length-append, length-map}
+use lib.ListN.{length, drop, length-append}
 use Rattle.text.specs.Bytes.{Bytes}
 use Rattle.text.specs.View.{viewOf}
 use Rattle.text.specs.Cut.{Whole, Placed, Leads}
 use Rattle.text.proofs.Lists.{map-append, HasLast, has-last}
 use Rattle.rows.specs.Tags.{tag}
-use Rattle.rows.specs.RowList.{tagOf}
 use Rattle.rows.specs.Following.{Fits}
 use Rattle.gate.specs.Profile.{Profile}
 use Rattle.gate.specs.Segments.{tagIn, seen, onto, levelsIn}
@@ -23,7 +22,7 @@ use Rattle.gate.specs.Conditions.{usedBy}
 use Rattle.gate.specs.declared.answer.Answer.the-variants.{Accepted}
 use Rattle.gate.specs.declared.how.How.{How}
 use Rattle.gate.proofs.reading.Laws.{from-at, onto-append, MeetsFrom}
-use Rattle.gate.proofs.reading.Passing.{numbers, room-fewer}
+use Rattle.gate.proofs.reading.Passing.{numbers, one-each, room-fewer}
 use Rattle.gate.proofs.reading.RowOfSE.{tag-79}
 use Rattle.gate.proofs.reading.LastSegment.{passed-closed, word-viable, tags-last, closed-passed, word-ended}
 
@@ -132,8 +131,7 @@ module _ (profile : Profile) (how : How) (t : Tables) (s : Bytes) where
       → Run profile how t s (Accepted (length gs) (length (levelsIn profile (onto [] (seen how gs)))) (usedBy gs)) gs rows
   transaction-accepted gs rows x =
       let d = word-ended rows (x .meets .word) in
-      let n : length rows ≡ length gs =
-      sym (length-map rows tagOf) ∙ ap length (x .meets .tags) ∙ length-map (seen how gs) tagIn ∙ length-map gs (λ (g : Placed). viewOf (how .separators) (g .segment)) in
+      let n = one-each how gs rows (x .meets .tags) in
       let k : 0 < length gs = omega (arith, n, simp length-append at (ap length (d .whole))) in
       split (d .front) rows gs (d .whole) (has-last gs k) x
     where

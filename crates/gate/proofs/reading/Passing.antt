@@ -6,9 +6,9 @@ use mathlib.Core.Bool.{Bool, true, false, not}
 use mathlib.Core.List.{List, [], _∷_, _++_, map, append-assoc}
 use native.Mathlib.Omega.{arith}
 use lib.Dec.{T}
-use lib.ListN.{length}
+use lib.ListN.{length, length-map}
 use Rattle.text.specs.Bytes.{Bytes}
-use Rattle.text.specs.View.{View}
+use Rattle.text.specs.View.{View, viewOf}
 use Rattle.text.specs.Cut.{Placed}
 use Rattle.text.proofs.Bools.{passes, not-passes}
 use Rattle.text.proofs.Lists.{map-append, splits}
@@ -35,6 +35,11 @@ pub record Numbers (profile : Profile) (vs : List View) (rows : List ℕ) : Type
 pub numbers : {profile : Profile} {how : How} {t : Tables} {s : Bytes} {gs : List Placed} {rows : List ℕ} {end : ℕ} {rest : Bytes}
     → Passed profile how t s gs rows end rest → Numbers profile (seen how gs) rows
 numbers p = record { viable = p .viable; tags = p .tags; kept = p .kept; ongoing = p .ongoing }
+
+-- each segment has one row
+pub one-each : (how : How) (gs : List Placed) (rows : List ℕ) → map tagOf rows ≡ map tagIn (seen how gs) → length rows ≡ length gs
+one-each how gs rows tags =
+    sym (length-map rows tagOf) ∙ ap length tags ∙ length-map (seen how gs) tagIn ∙ length-map gs (λ (g : Placed). viewOf (how .separators) (g .segment))
 
 -- the segment behind xs, of more that were passed
 pub record Next (profile : Profile) (xs : List View) (w : List ℕ) (v : View) : Type 0 where

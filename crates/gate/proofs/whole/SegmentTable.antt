@@ -4,10 +4,10 @@
 use Prim.Native.Nat.{ℕ, zero, suc, _+_, _*_, _≤_, _<_}
 use mathlib.Core.Path.{_≡_, refl, sym, ap, _∙_}
 use mathlib.Core.Bool.{Bool, true, false, not}
-use mathlib.Core.List.{List, [], _∷_, _++_, map}
+use mathlib.Core.List.{List, [], _∷_, _++_}
 use native.Mathlib.Omega.{arith}
 use lib.Dec.{T, eqb→eq}
-use lib.ListN.{length, take, drop, getD, length-take, length-map}
+use lib.ListN.{length, take, drop, getD, length-append, length-take, length-map}
 use borrow.Author.Tests.{eq-eqb, ne-eqb}
 use Rattle.text.specs.Bytes.{Bytes}
 use Rattle.text.specs.View.{View, viewOf}
@@ -20,11 +20,13 @@ use Rattle.levels.proofs.CalledLevel.{levels-length}
 use Rattle.gate.specs.Profile.{Profile}
 use Rattle.gate.specs.Segments.{tagIn, isHL, isSE, seen, onto, addClaim, claims, levelsIn, belongsTo}
 use Rattle.gate.specs.Records.{Tables, segmentRecords, recorded}
-use Rattle.gate.specs.Meets.{hls}
+use Rattle.gate.specs.Reads.{Ends, Run, Read}
 use Rattle.gate.specs.Conditions.{levelNumber, SegmentShown}
+use Rattle.gate.specs.declared.answer.Answer.{Answer}
+use Rattle.gate.specs.declared.answer.Answer.the-variants.{Accepted, Refused}
 use Rattle.gate.specs.declared.how.How.{How}
 use Rattle.gate.proofs.reading.Laws.{onto-length}
-use Rattle.gate.proofs.reading.Passing.{claim-more}
+use Rattle.gate.proofs.reading.Passing.{one-each, claim-more}
 use Rattle.gate.proofs.whole.AllRules.{claims-count}
 
 -- the fourth number of record k
@@ -107,3 +109,16 @@ module _ (profile : Profile) where
       closing = λ c. level-is ∙ rw (passes (isSE v) c);
       own = own-level;
     }
+
+-- so it is of every reading that looks at segments, accepted or refused
+module _ {profile : Profile} {how : How} {s : Bytes} {before : Tables} where
+  run-numbered : (r : Answer) {kept : List Placed} {numbers : List ℕ} → Run profile how before s r kept numbers → length numbers ≡ length kept
+  run-numbered r {kept} {numbers} x = ending r (one-each how (x .gs) (x .rows) (x .passed .tags)) (x .ends)
+    where
+      ending : (r : Answer) → length (x .rows) ≡ length (x .gs) → Ends profile how before (x .gs) (x .rows) (x .end) (x .rest) r kept numbers → length numbers ≡ length kept
+      ending (Accepted segments levels bytes) n e =
+          rw (e .kept-is, e .numbers-is, length-append (x .rows) (e .row ∷ []), length-append (x .gs) (record { at = x .end; segment = e .segment } ∷ [])) (omega (arith, n))
+      ending (Refused number segment byte element) n e = rw (e .kept-is, e .numbers-is) n
+
+  pub read-shown : {r : Answer} {after : Tables} (x : Read profile how s before r after) (k : ℕ) → k < length (x .kept) → SegmentShown profile (seen how (x .kept)) after k
+  read-shown {r} x k inside = rw (x .tables) (segment-shown profile how before (x .kept) (x .numbers) (run-numbered r (x .run)) k inside)
