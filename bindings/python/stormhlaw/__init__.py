@@ -16,11 +16,10 @@ byte and the element. rewrite() gives the transaction with other separators as w
 the parts of a segment.
 
 A segment knows the number of the level that it belongs to, which is that of the latest HL; it is 0 in the heading and
-for the SE.
+for the SE, where there is no level.
 
     for segment in report:
-        if segment.level:
-            level = report.levels[segment.level - 1]
+        level = report.levels.of(segment)
 
 Line ends between segments are skipped: a CR, an LF, or both in this order, behind each terminator. A segment's start
 comes behind them. STRICT asks for a reading that refuses them, and rewrite() always reads so.

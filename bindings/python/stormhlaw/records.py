@@ -13,6 +13,7 @@ from typing import (
     Iterator,
     List,
     NamedTuple,
+    Optional,
     Sequence,
     Tuple,
     Type,
@@ -156,6 +157,10 @@ class Levels(Records[Level]):
 
     __slots__ = ()
     _width = LEVEL_NUMBERS
+
+    def of(self, segment: Segment) -> Optional[Level]:
+        """The level that a segment of the same reading belongs to. None in the heading and for the SE."""
+        return self[segment.level - 1] if segment.level else None
 
     @staticmethod
     def _records(table: memoryview) -> Iterator[Level]:

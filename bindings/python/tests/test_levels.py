@@ -32,8 +32,12 @@ class Levels(unittest.TestCase):
         for number, (segment, text) in enumerate(zip(report, TEXTS), 1):
             if text.startswith(("HL*", "SE*")):
                 latest = number if text.startswith("HL*") else None
-            hl = report.levels[segment.level - 1].segment if segment.level else None
-            self.assertEqual(hl, latest)
+            level = report.levels.of(segment)
+            self.assertEqual(level and level.segment, latest)
+
+    def test_no_level_of_another_reading(self):
+        with self.assertRaises(IndexError):
+            read(REPORT).levels[:1].of(read(REPORT).segments[5])
 
     def test_a_refusal_leaves_the_levels_of_what_stands_before(self):
         whole = read(REPORT)
