@@ -68,14 +68,7 @@ fn pass_other(row: u8, layout: Layout, state: State, segments: &mut [u64]) -> St
     if !storing::segment_room(segments, state.count) {
         return refusal(17, layout, state, 0);
     }
-    storing::put_segment(
-        segments,
-        state.count,
-        layout.at,
-        layout.end - layout.at,
-        row,
-        state.known.levels,
-    );
+    storing::put_segment(segments, state.count, layout, row, state.known.levels);
     Step::Passed(after(state, row, state.known))
 }
 
@@ -98,14 +91,7 @@ fn pass_level(
     if !storing::level_room(levels, state.known.levels) {
         return refusal(17, layout, state, 0);
     }
-    storing::put_segment(
-        segments,
-        state.count,
-        layout.at,
-        layout.end - layout.at,
-        row,
-        known.levels,
-    );
+    storing::put_segment(segments, state.count, layout, row, known.levels);
     storing::put_level(levels, state.known.levels, state.count + 1, level);
     Step::Passed(after(state, row, known))
 }
@@ -120,14 +106,7 @@ fn close(row: u8, layout: Layout, state: State, segments: &mut [u64]) -> Step
     if !storing::segment_room(segments, state.count) {
         return refusal(17, layout, state, 0);
     }
-    storing::put_segment(
-        segments,
-        state.count,
-        layout.at,
-        layout.end - layout.at,
-        row,
-        0,
-    );
+    storing::put_segment(segments, state.count, layout, row, 0);
     acceptance(layout, state)
 }
 

@@ -1,12 +1,13 @@
 // Storing the records of a segment and of a level in the lent tables.
 ghost use mathlib.Core.Path.{_≡_};
 ghost use mathlib.Core.List.{[], _∷_};
-ghost use Prim.Native.Nat.{_+_, _/_, _≤_, _<_};
+ghost use Prim.Native.Nat.{_+_, _-_, _/_, _≤_, _<_};
 ghost use lib.Dec.{ltb};
 ghost use lib.ListN.{length, set};
 ghost use lib.Seq.{sets};
 ghost use Rattle.levels.specs.Widths.{segmentWidth, levelWidth};
 ghost use Rattle.finding.specs.internal.Entries.{storedAt};
+use elements::layout::Layout;
 use levels::widths::LEVEL_WIDTH;
 use levels::widths::SEGMENT_WIDTH;
 
@@ -51,18 +52,20 @@ fn store_four(table: &mut [u64], at: usize, a: usize, b: usize, c: usize, d: usi
 }
 
 // Start, length and row of a segment, and the level it belongs to, behind the first n records.
-pub(crate) fn put_segment(
-    segments: &mut [u64],
-    n: usize,
-    start: usize,
-    len: usize,
-    row: u8,
-    level: usize,
-)
+pub(crate) fn put_segment(segments: &mut [u64], n: usize, layout: Layout, row: u8, level: usize)
+    requires { ⌜ layout .at ≤ layout .end ⌝ }
     requires { ⌜ n < length (now segments) / segmentWidth ⌝ }
-    ensures { λ _. ⌜ now (segments .exit) ≡ storedAt segmentWidth (now (segments .entry)) n (start ∷ len ∷ row ∷ level ∷ []) ⌝ }
+    ensures { λ _. ⌜ now (segments .exit) ≡ storedAt segmentWidth (now (segments .entry)) n (layout .at ∷ (layout .end - layout .at) ∷ row ∷ level ∷ []) ⌝ }
 {
-    store_four(segments, n * SEGMENT_WIDTH, start, len, row as usize, level);
+    let len = layout.end - layout.at;
+    store_four(
+        segments,
+        n * SEGMENT_WIDTH,
+        layout.at,
+        len,
+        row as usize,
+        level,
+    );
 }
 
 // The segment number of a level, its parent, depth and code, behind the first n records.

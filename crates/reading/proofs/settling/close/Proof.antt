@@ -27,11 +27,8 @@ returns c = λ levels how before s gs rows g more t.
     let asked = c .before .before .segment-room in
     full-last t _ refl (no-room (asked .result) _ _ (asked .ensures) (c .before .if1 .taken)) _ (c .refusal .ensures)
 
-sub-put-segment : tie.Need-sub-put-segment
-sub-put-segment c = search needs
-
 put-segment-requires : tie.Need-put-segment-requires
-put-segment-requires c κs = fits (c .before .before)
+put-segment-requires c κs = (c .before .before .before .before .before .pre .0, fits (c .before))
 
 acceptance-requires : tie.Need-acceptance-requires
 acceptance-requires c κs = search needs
@@ -42,7 +39,7 @@ same-length-2 c = search needs
 returns-2 : tie.Need-returns-2
 returns-2 c = λ levels how before s gs rows g more t.
     let stored = c .before .before .before in
-    settles-last t _ refl (fits (stored .before .before .before)) _ (stored .put-segment .ensures) _ (c .acceptance .ensures)
+    settles-last t _ refl (fits (stored .before .before)) _ (stored .put-segment .ensures) _ (c .acceptance .ensures)
 
 pub close-spec : {M : Type 1} → statement M
 close-spec =
@@ -52,7 +49,6 @@ close-spec =
     refusal-requires
     same-length
     returns
-    sub-put-segment
     put-segment-requires
     acceptance-requires
     same-length-2

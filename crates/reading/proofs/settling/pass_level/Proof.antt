@@ -49,21 +49,18 @@ same-length-3 c = search needs
 returns-2 : tie.Need-returns-2
 returns-2 c = λ how before s gs rows g more t. full-levels t _ _ _ refl (no-room (c .before .before .level-room .result) _ _ (c .before .before .level-room .ensures) (c .before .if2 .taken)) _ (c .refusal2 .ensures)
 
-sub-put-segment : tie.Need-sub-put-segment
-sub-put-segment c = search needs
-
 put-segment-requires : tie.Need-put-segment-requires
-put-segment-requires c κs = segment-fits (c .before .before .before .before .before)
+put-segment-requires c κs = let roomy = c .before .before .before .before in (roomy .before .before .before .before .before .pre .forward, segment-fits roomy)
 
 add-put-level : tie.Need-add-put-level
 add-put-level c = search needs
 
 put-level-requires : tie.Need-put-level-requires
-put-level-requires c κs = level-fits (c .before .before .before .before .before .before .before)
+put-level-requires c κs = level-fits (c .before .before .before .before .before .before)
 
 after-requires : tie.Need-after-requires
 after-requires c κs =
-    let roomy = c .before .before .before .before .before .before .before .before .before .before .before .before .before in
+    let roomy = c .before .before .before .before .before .before .before .before .before .before .before .before in
     small (roomy .before .before .before .before .before) _ (segment-fits roomy)
 
 same-length-4 : tie.Need-same-length-4
@@ -76,7 +73,7 @@ returns-3 : tie.Need-returns-3
 returns-3 c = λ how before s gs rows g more t.
     let put = c .before .before .before in
     let stored = put .before .before .before .before .before in
-    let fitting = stored .before .before .before in
+    let fitting = stored .before .before in
     settles-level t _ _ _ refl (segment-fits (fitting .before .before .before)) (level-fits fitting) _ (stored .put-segment .ensures) _
     (put .put-level .ensures) _ (c .after .ensures)
 
@@ -93,7 +90,6 @@ pass-level-spec =
     same-length-2
     same-length-3
     returns-2
-    sub-put-segment
     put-segment-requires
     add-put-level
     put-level-requires

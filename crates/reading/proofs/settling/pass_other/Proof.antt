@@ -27,11 +27,8 @@ returns c = λ levels how before s gs rows g more t.
     let asked = c .before .before .segment-room in
     full-other t _ refl (no-room (asked .result) _ _ (asked .ensures) (c .before .if1 .taken)) _ (c .refusal .ensures)
 
-sub-put-segment : tie.Need-sub-put-segment
-sub-put-segment c = search needs
-
 put-segment-requires : tie.Need-put-segment-requires
-put-segment-requires c κs = fits (c .before .before)
+put-segment-requires c κs = (c .before .before .before .before .before .pre .0, fits (c .before))
 
 after-requires : tie.Need-after-requires
 after-requires c κs = search needs
@@ -42,7 +39,7 @@ same-length-2 c = search needs
 returns-2 : tie.Need-returns-2
 returns-2 c = λ levels how before s gs rows g more t.
     let stored = c .before .before .before in
-    settles-other t _ refl (fits (stored .before .before .before)) _ (stored .put-segment .ensures) _ (c .after .ensures)
+    settles-other t _ refl (fits (stored .before .before)) _ (stored .put-segment .ensures) _ (c .after .ensures)
 
 pub pass-other-spec : {M : Type 1} → statement M
 pass-other-spec =
@@ -52,7 +49,6 @@ pass-other-spec =
     refusal-requires
     same-length
     returns
-    sub-put-segment
     put-segment-requires
     after-requires
     same-length-2

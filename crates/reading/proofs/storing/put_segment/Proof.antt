@@ -8,6 +8,9 @@ use borrow.Author.Needs.{needs}
 use Rattle.reading.proofs.storing.put_segment.Statement.{statement}
 use Rattle.reading.proofs.storing.put_segment.Tie as tie
 
+sub-len : tie.Need-sub-len
+sub-len c = search needs
+
 mul-store-four : tie.Need-mul-store-four
 mul-store-four c = search needs
 
@@ -20,7 +23,7 @@ same-length c = search needs
 returns : tie.Need-returns
 returns c =
     let stored = c .before .before in
-    stored .store-four .ensures ∙ sets-stored segmentWidth _ _ (_ ∷ _ ∷ _ ∷ _ ∷ []) refl (stored .before .before .before .pre)
+    stored .store-four .ensures ∙ sets-stored segmentWidth _ _ (_ ∷ _ ∷ _ ∷ _ ∷ []) refl (stored .before .before .before .before .pre .1)
 
 pub put-segment-spec : {M : Type 1} → statement M
-put-segment-spec = tie.close (tie.spec mul-store-four store-four-requires same-length returns)
+put-segment-spec = tie.close (tie.spec sub-len mul-store-four store-four-requires same-length returns)
