@@ -87,8 +87,8 @@ pub record LevelShown (profile : Profile) (vs : List View) (j : ℕ) : Type 0 wh
   pub child : (hlAt (hls vs) j .parent ≡ [] → ⊥)
       → (i : ℕ) × Under (profile .levels) (hls vs) i j × (levelAt (suc j) (levelsIn profile (onto [] vs)) .parent ≡ suc i)
 
--- and what the segment table says of levels, whatever the answer: the fourth number of the record of segment number k + 1 of the segments that have
--- records
+-- And what the segment table says of levels, whatever the answer is, where vs are the segments that have records: the fourth number of the record of
+-- segment k + 1
 abbrev pub levelNumber : Tables → ℕ → ℕ
 levelNumber t k = getD (t .segments) (k * segmentWidth + 3) 0
 
@@ -97,7 +97,7 @@ pub record SegmentShown (profile : Profile) (vs : List View) (after : Tables) (k
   pub counts : T (not (isSE (getD vs k []))) → levelNumber after k ≡ length (hls (take (suc k) vs))
   -- and of the SE 0
   pub closing : T (isSE (getD vs k [])) → levelNumber after k ≡ 0
-  -- The level that an HL belongs to is the one that it makes
+  -- The level that an HL belongs to is the one that it makes: that level's record names this segment
   pub own : T (isHL (getD vs k [])) → levelAt (levelNumber after k) (levelsIn profile (onto [] vs)) .segment ≡ suc k
 
 -- Condition 3

@@ -109,8 +109,8 @@ fn read_on(
     }
 }
 
-// Reads one transaction from the start of the bytes. The answer, the records in both lent tables: three numbers a segment (start, length,
-// row) and four a level (segment, parent's level, depth, code).
+// Reads one transaction from the start of the bytes. The answer, the records in both lent tables: four numbers a segment (start, length,
+// row, level) and four a level (segment, parent's level, depth, code).
 pub fn read(s: &[u8], how: How, segments: &mut [u64], levels: &mut [u64]) -> Answer
     ensures { λ r. ⌜ Reads how (now (s .entry)) (record { segments = now (segments .entry); levels = now (levels .entry) }) r
         (record { segments = now (segments .exit); levels = now (levels .exit) }) ⌝ }
