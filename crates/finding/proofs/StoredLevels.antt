@@ -128,27 +128,27 @@ module _ {s : Bytes} {separator : ℕ} {segments levels segments′ levels′ : 
     placed = (place, later-placed m k h ls (t .placed));
   }
 
--- the same, of records as they are stored behind the last ones
+-- the same, of records as they are stored behind the last ones; a segment's record begins with its start and length
 module _ {s : Bytes} {separator : ℕ} {segments levels : List ℕ} {m n : ℕ} {ls : List Level} (t : TablesHold s separator segments levels m n ls)
-    (start len row level : ℕ) (room : suc m ≤ length segments / segmentWidth) where
+    (start len : ℕ) (more : List ℕ) (wide : length (start ∷ len ∷ more) ≡ segmentWidth) (room : suc m ≤ length segments / segmentWidth) where
   -- the segment records so far are kept
-  new-segments : SameRecords segmentWidth segments (storedAt segmentWidth segments m (start ∷ len ∷ row ∷ level ∷ [])) m
-  new-segments = stored-same segmentWidth segments m (start ∷ len ∷ row ∷ level ∷ []) refl room
+  new-segments : SameRecords segmentWidth segments (storedAt segmentWidth segments m (start ∷ len ∷ more)) m
+  new-segments = stored-same segmentWidth segments m (start ∷ len ∷ more) wide room
 
   -- a segment that makes no level
-  pub holds-segment : TablesHold s separator (storedAt segmentWidth segments m (start ∷ len ∷ row ∷ level ∷ [])) levels (suc m) n ls
+  pub holds-segment : TablesHold s separator (storedAt segmentWidth segments m (start ∷ len ∷ more)) levels (suc m) n ls
   holds-segment = holds-still t new-segments (unchanged levelWidth levels n) (suc m) (omega arith)
 
   -- a segment that makes the level l
   pub holds-level : (l : Level) → l .segment ≡ suc m → l .depth ≤ deepest → suc n ≤ length levels / levelWidth
       → HlBytes s separator start len (l .id) (l .mark)
-      → TablesHold s separator (storedAt segmentWidth segments m (start ∷ len ∷ row ∷ level ∷ [])) (storedAt levelWidth levels n (recordOf l)) (suc m) (suc n) (l ∷ ls)
+      → TablesHold s separator (storedAt segmentWidth segments m (start ∷ len ∷ more)) (storedAt levelWidth levels n (recordOf l)) (suc m) (suc n) (l ∷ ls)
   holds-level l number shallow level-room written =
-      let segments′ = storedAt segmentWidth segments m (start ∷ len ∷ row ∷ level ∷ []) in
+      let segments′ = storedAt segmentWidth segments m (start ∷ len ∷ more) in
       let levels′ = storedAt levelWidth levels n (recordOf l) in
       let new-levels : SameRecords levelWidth levels levels′ n = stored-same levelWidth levels n (recordOf l) refl level-room in
-      let start-is : startOf segments′ (suc m) ≡ start = stored-entry segmentWidth segments m (start ∷ len ∷ row ∷ level ∷ []) refl room 0 (omega arith) in
-      let length-is : lengthOf segments′ (suc m) ≡ len = stored-entry segmentWidth segments m (start ∷ len ∷ row ∷ level ∷ []) refl room 1 (omega arith) in
+      let start-is : startOf segments′ (suc m) ≡ start = stored-entry segmentWidth segments m (start ∷ len ∷ more) wide room 0 (omega arith) in
+      let length-is : lengthOf segments′ (suc m) ≡ len = stored-entry segmentWidth segments m (start ∷ len ∷ more) wide room 1 (omega arith) in
       holds-more t new-segments new-levels (suc m) l (omega arith) (omega arith) (rw (new-levels .size) level-room) shallow
       record {
         segment-is = stored-entry levelWidth levels n (recordOf l) refl level-room 0 (omega arith);

@@ -1,7 +1,7 @@
 -- What the next of some segments says: it keeps its rules, a row fits it, it is no SE; and how segments that were passed grow by one.
 -- Assumes nothing.
 use Prim.Native.Nat.{ℕ, suc, _+_, _≤_}
-use mathlib.Core.Path.{_≡_, refl, sym, ap, _∙_}
+use mathlib.Core.Path.{_≡_, sym, ap, _∙_}
 use mathlib.Core.Bool.{Bool, true, false, not}
 use mathlib.Core.List.{List, [], _∷_, _++_, map, append-assoc}
 use native.Mathlib.Omega.{arith}
@@ -16,7 +16,8 @@ use Rattle.rows.specs.Rows.{Viable, list842}
 use Rattle.rows.specs.RowList.{tagOf}
 use Rattle.rows.specs.Following.{Fits}
 use Rattle.rows.proofs.FittingRow.{viable-before}
-use Rattle.levels.specs.Levels.{Claim, levelsOf}
+use Rattle.levels.specs.Levels.{Claim}
+use Rattle.levels.proofs.CalledLevel.{levels-length}
 use Rattle.gate.specs.Profile.{Profile}
 use Rattle.gate.specs.Segments.{tagIn, isHL, isSE, seen, onto, addClaim, claims, levelsIn, belongsTo}
 use Rattle.gate.specs.Rules.{Kept, From}
@@ -76,13 +77,9 @@ pub claim-more : (b : Bool) (n : ℕ) (v : View) (cs : List (ℕ × Claim)) → 
 claim-more true n v cs = omega arith
 claim-more false n v cs = omega arith
 
-length-levels : (profile : Profile) (cs : List (ℕ × Claim)) → length (levelsOf (profile .levels) cs) ≡ length cs
-length-levels profile [] = refl
-length-levels profile (c ∷ cs) = ap suc (length-levels profile cs)
-
 pub levels-number : (profile : Profile) (h : List View) → length (levelsIn profile h) ≡ length (claims h)
 unfolding levelsIn
-levels-number profile h = length-levels profile (claims h)
+levels-number profile h = levels-length (profile .levels) (claims h)
 
 -- the level that a segment belongs to
 module _ (profile : Profile) (h : List View) (v : View) where

@@ -234,7 +234,7 @@ module _ {how : How} {before : Tables} {s : Bytes} {segments levels : List ℕ} 
           rows-are = rows-more r;
           row-is = last-snoc 0 rows r;
           again-is = again-more r;
-          tells = rw (← one, same) (holds-segment (st .tells) at (length g) r (state .known .levels) (omega arith));
+          tells = rw (← one, same) (holds-segment (st .tells) at (length g) (r ∷ state .known .levels ∷ []) refl (omega arith));
           knows = rw same (st .knows);
         }
 
@@ -268,7 +268,7 @@ module _ {how : How} {before : Tables} {s : Bytes} {segments levels : List ℕ} 
           row-is = last-snoc 0 rows r;
           again-is = again-more r;
           tells = rw (← one, ← two, more-levels, is)
-              (holds-level (st .tells) at (length g) r (suc (state .known .levels)) (omega arith) new (omega (arith, history-long how gs, st .count-is)) (deep .0 .1) (omega arith) written);
+              (holds-level (st .tells) at (length g) (r ∷ suc (state .known .levels) ∷ []) refl (omega arith) new (omega (arith, history-long how gs, st .count-is)) (deep .0 .1) (omega arith) written);
           knows = rw more-levels knows;
         }
 
