@@ -1,4 +1,4 @@
--- `next_counted` meets its contract: the byte behind BIN02 is inside, and is the terminator or is not.
+-- `next_counted` meets its contract: the byte behind BIN02 is inside, and is the terminator or is not; the index goes on behind it.
 -- Assumes nothing.
 use mathlib.Core.Path.{refl}
 use borrow.Author.Needs.{needs}
@@ -37,7 +37,7 @@ add-seen : tie.Need-add-seen
 add-seen c = search needs
 
 returns-3 : tie.Need-returns-3
-returns-3 c = search needs
+returns-3 c = (omega arith, c .if2 .left, record { layout-is = refl; left-is = refl; starts-are = refl })
 
 pub next-counted-spec : {M : Type 1} → statement M
 next-counted-spec = tie.close (tie.spec sub-if1 returns add-end shared-slice-read-if2 returns-2 element-write-starts add-starts element-write-starts-2 element-write-starts-3 add-seen returns-3)
