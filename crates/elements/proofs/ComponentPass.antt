@@ -18,11 +18,11 @@ use Rattle.text.proofs.Bools.{and-true}
 use Rattle.text.proofs.Tests.{and-first, and-second}
 use Rattle.text.proofs.Pieces.{pieces-some, pieces-cut, pieces-free}
 use Rattle.text.proofs.Searching.{Unmet}
-use Rattle.types.specs.Types.{countOf, fits}
+use Rattle.types.specs.Types.{fits}
 use Rattle.elements.specs.Data.{Value, Shape, Simple, Composite, value, unitValues}
 use Rattle.elements.specs.Rules.{firstFilled, headed, fitsSimple, fitsEach, completeBy, suitsBy}
 use Rattle.elements.specs.internal.Layouts.{componentsBy}
-use Rattle.elements.specs.internal.Components.{Upto, none, fitsUnit}
+use Rattle.elements.specs.internal.Components.{countOf, Upto, none, fitsUnit}
 use Rattle.elements.specs.internal.Verdicts.{elementBy}
 use Rattle.elements.specs.declared.rules.Rule.{Rule}
 use Rattle.types.specs.declared.kind.Kind.the-variants.{ID, R}

@@ -1,3 +1,4 @@
+pub mod Counts
 pub mod Pairings
 pub mod TooMany
 pub mod EarlyRules

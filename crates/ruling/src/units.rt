@@ -3,7 +3,7 @@ ghost use mathlib.Core.Path.{_≡_};
 ghost use Prim.Native.Nat.{ℕ};
 ghost use lib.Dec.{eqb, leb};
 ghost use lib.ListN.{length};
-ghost use Rattle.types.specs.Types.{countOf};
+ghost use Rattle.elements.specs.internal.Components.{countOf};
 ghost use Rattle.elements.specs.internal.Layouts.{componentsBy};
 
 // How many bytes of the part are the separator.

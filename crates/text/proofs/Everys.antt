@@ -8,7 +8,7 @@ use mathlib.Core.List.{List, [], _∷_, _++_}
 use native.Mathlib.Omega.{arith}
 use native.Mathlib.Decide.{decLt}
 use lib.Dec.{T}
-use lib.ListN.{length, take, getD, List·getD-eq-default}
+use lib.ListN.{length, take, drop, getD, List·getD-eq-default}
 use Rattle.text.specs.Bytes.{every}
 use Rattle.text.proofs.Bools.{both, first-of, second-of, and-assoc, and-true}
 
@@ -52,6 +52,12 @@ module _ {A : Type 0} where
   every-take f zero l h = tt
   every-take f (suc k) [] h = tt
   every-take f (suc k) (x ∷ l) h = both (f x) (every f (take k l)) (first-of (f x) (every f l) h) (every-take f k l (second-of (f x) (every f l) h))
+
+  -- and those behind them
+  pub every-drop : (f : A → Bool) (k : ℕ) (l : List A) → T (every f l) → T (every f (drop k l))
+  every-drop f zero l h = h
+  every-drop f (suc k) [] h = tt
+  every-drop f (suc k) (x ∷ l) h = every-drop f k l (second-of (f x) (every f l) h)
 
   -- one in the middle
   pub every-middle : (f : A → Bool) (l : List A) (x : A) (m : List A) → T (every f (l ++ x ∷ m)) → T (f x)

@@ -1,10 +1,11 @@
 -- Laws of lists that every crate uses.
 -- Assumes nothing.
-use Prim.Native.Nat.{ℕ, zero, suc, _<_}
+use Prim.Native.Nat.{ℕ, zero, suc, _-_, _<_}
 use mathlib.Core.Path.{_≡_, refl, sym, ap}
 use mathlib.Core.List.{List, [], _∷_, _++_, map, nil≢cons, head-eq-of-cons-eq, tail-eq-of-cons-eq}
 use native.Mathlib.Omega.{arith}
-use lib.ListN.{length, getD, length-append}
+use lib.ListN.{length, take, drop, getD, length-append, length-drop}
+use lib.Seq.{take-all}
 
 pub map-append : {A B : Type 0} (f : A → B) (xs ys : List A) → map f (xs ++ ys) ≡ map f xs ++ map f ys
 map-append f [] ys = refl
@@ -93,3 +94,7 @@ just-two [] e = absurd (omega arith)
 just-two (a ∷ []) e = absurd (omega arith)
 just-two (a ∷ (b ∷ [])) e = refl
 just-two (a ∷ (b ∷ (d ∷ l))) e = absurd (omega arith)
+
+-- a part that goes on to the end is what stands from its start on
+pub part-from : {A : Type 0} (k : ℕ) (l : List A) → take (length l - k) (drop k l) ≡ drop k l
+part-from k l = take-all (length l - k) (drop k l) (rw (length-drop k l) (omega arith))

@@ -1,10 +1,10 @@
--- Worked values: dates and times of document 01's cases W11 and W12, and what R takes and refuses.
+-- Worked values: dates and times of document 01's cases W11 and W12, and others. Those of type R stand in NumberCases.
 -- Assumes nothing.
 use mathlib.Core.Path.{_≡_, refl}
 use mathlib.Core.Bool.{true, false}
 use Rattle.text.specs.Bytes.{bytes}
-use Rattle.types.specs.Types.{daysIn, isDate, isTime, isReal, isId, numberOf, fits}
-use Rattle.types.specs.declared.kind.Kind.the-variants.{Set842, R}
+use Rattle.types.specs.Types.{daysIn, isDate, isTime, isId, numberOf, fits}
+use Rattle.types.specs.declared.kind.Kind.the-variants.{Set842}
 
 -- the 29th of February in a leap year, and in another
 leap-day : isDate (bytes "20240229") ≡ true
@@ -43,40 +43,6 @@ eight-digits = refl
 no-hour-24 : isTime (bytes "2400") ≡ false
 unfolding isTime
 no-hour-24 = refl
-
--- R: digits around a point, and a minus in front
-point-behind : isReal (bytes "5.") ≡ true
-unfolding isReal
-point-behind = refl
-
-point-before : isReal (bytes ".5") ≡ true
-unfolding isReal
-point-before = refl
-
-minus-point : isReal (bytes "-.5") ≡ true
-unfolding isReal
-minus-point = refl
-
-point-alone : isReal (bytes ".") ≡ false
-unfolding isReal
-point-alone = refl
-
-minus-alone : isReal (bytes "-") ≡ false
-unfolding isReal
-minus-alone = refl
-
-plus-sign : isReal (bytes "+1") ≡ false
-unfolding isReal
-plus-sign = refl
-
-two-points : isReal (bytes "1.2.3") ≡ false
-unfolding isReal
-two-points = refl
-
--- only digits count for length
-digits-count : fits R 1 1 (bytes "-.5") ≡ true
-unfolding fits isReal
-digits-count = refl
 
 -- ST01, a small letter, and a number of eleven digits
 set-842 : fits Set842 3 3 (bytes "842") ≡ true

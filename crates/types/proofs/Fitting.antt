@@ -1,13 +1,13 @@
 -- Whether a value fits: a length, and then the type; and the text of three bytes.
 -- Assumes nothing.
-use Prim.Native.Nat.{ℕ, suc, _≤_, _<_}
+use Prim.Native.Nat.{ℕ, suc, _≤_}
 use mathlib.Core.Path.{_≡_, refl, sym, ap}
 use mathlib.Core.Bool.{Bool, true, false, _&&_, true≢false}
 use mathlib.Core.List.{[], _∷_}
 use native.Mathlib.Omega.{arith}
-use lib.Dec.{leb, eqb}
+use lib.Dec.{eqb}
 use lib.ListN.{length, getD}
-use borrow.Author.Tests.{le-leb, lt-leb}
+use borrow.Author.Tests.{le-leb}
 use Rattle.text.specs.Bytes.{Bytes, same}
 use Rattle.text.proofs.Bools.{and-assoc, and-true}
 use Rattle.text.proofs.Tests.{and-second}
@@ -42,15 +42,7 @@ same-not-three s a b c n = other (same s (a ∷ b ∷ c ∷ [])) (λ e. n (same-
     other false h = refl
 
 -- a length, and then the type
-module _ (kind : Kind) (least most : ℕ) (s : Bytes) (size : ℕ) (e : size ≡ sizeOf kind s) where
-  pub fits-short : size < least → false ≡ fits kind least most s
-  unfolding fits
-  fits-short l = rw (← e, lt-leb least size l)
-
-  pub fits-long : most < size → false ≡ fits kind least most s
-  unfolding fits
-  fits-long l = rw (← e, lt-leb size most l) (sym (fails-second (leb least size) (isOf kind s)))
-
-  pub fits-by : least ≤ size → size ≤ most → isOf kind s ≡ fits kind least most s
-  unfolding fits
-  fits-by l m = rw (← e, le-leb least size l, le-leb size most m)
+pub fits-by : (kind : Kind) (least most : ℕ) (s : Bytes) (size : ℕ) → size ≡ sizeOf kind s → least ≤ size → size ≤ most
+    → isOf kind s ≡ fits kind least most s
+unfolding fits
+fits-by kind least most s size e l m = rw (← e, le-leb least size l, le-leb size most m)

@@ -1,8 +1,12 @@
-pub mod Counts
 pub mod Figures
-pub mod Reals
+pub mod Signs
+pub mod NumberParts
+pub mod NumberChecks
+pub mod NumberLaws
+pub mod MovedPoint
 pub mod Months
 pub mod Fitting
 pub mod Days
 pub mod QuickFits
+pub mod NumberCases
 pub mod Cases

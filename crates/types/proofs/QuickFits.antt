@@ -16,7 +16,7 @@ use Rattle.text.specs.Separators.{isIdByte}
 use Rattle.types.specs.internal.Quick.{isShortId, isEarlyDate, isShortTime, isSized, isQuick, fitsQuickly}
 use Rattle.types.specs.declared.kind.Kind.{Kind}
 use Rattle.types.specs.declared.kind.Kind.the-variants.{AN, ID, Set842, N0, R, DT, TM}
-use Rattle.types.proofs.Reals.{digits-count, digits-real}
+use Rattle.types.proofs.NumberChecks.{digits-count, digits-real}
 use Rattle.types.proofs.Months.{twenty-eight}
 use Rattle.types.proofs.Days.{date-day}
 use Rattle.types.proofs.Fitting.{fits-by}
@@ -99,7 +99,7 @@ quick-size AN s e = refl
 quick-size ID s e = refl
 quick-size Set842 s e = refl
 quick-size N0 s e = refl
-quick-size R s e = digits-count s e
+quick-size R s e = digits-count s (and-second (leb (length s) 15) (isNumber s) e)
 quick-size DT s e = refl
 quick-size TM s e = refl
 
@@ -109,7 +109,8 @@ quick-of AN s l e = refl
 quick-of ID s l e = and-second (leb (length s) 3) (isOf ID s) e
 quick-of Set842 s l e = e
 quick-of N0 s l e = e
-quick-of R s l e = digits-real s l e
+quick-of R s l e =
+    digits-real s (and-second (leb (length s) 15) (isNumber s) e) l (leb-true (length s) 15 (and-first (leb (length s) 15) (isNumber s) e))
 quick-of DT s l e = early-date s e
 quick-of TM s l e = and-second (eqb (length s) 4) (isOf TM s) e
 

@@ -1,12 +1,13 @@
 -- The six types of document 01, "Element rules", over the bytes of one value.
 -- Assumes nothing.
-use Prim.Native.Nat.{ℕ, suc, _-_, _%_}
+use Prim.Native.Nat.{ℕ, _%_}
 use mathlib.Core.Bool.{Bool, true, not, cond, _&&_, _||_}
 use mathlib.Core.List.{List, [], _∷_}
 use lib.Dec.{leb, eqb}
 use lib.ListN.{length, take, drop, getD}
-use Rattle.text.specs.Bytes.{Bytes, byte, bytes, between, every, among, same, valueOf}
+use Rattle.text.specs.Bytes.{Bytes, bytes, between, every, among, same, valueOf}
 use Rattle.text.specs.Separators.{isDigit, isIdByte}
+use Rattle.types.specs.Reals.{digits, isReal}
 use Rattle.types.specs.declared.kind.Kind.{Kind}
 use Rattle.types.specs.declared.kind.Kind.the-variants.{AN, ID, Set842, N0, R, DT, TM}
 
@@ -21,24 +22,6 @@ isNumber s = every isDigit s
 -- the number that one to ten digits write; of any other value 0
 unfoldable pub numberOf : Bytes → ℕ
 numberOf s = cond (between 1 10 (length s) && isNumber s) (valueOf s) 0
-
--- how many bytes pass the test
-abbrev pub countOf : (ℕ → Bool) → Bytes → ℕ
-countOf f [] = 0
-countOf f (b ∷ s) = cond (f b) (suc (countOf f s)) (countOf f s)
-
--- the bytes behind the sign, if there is one
-abbrev pub unsigned : Bytes → Bytes
-unsigned [] = []
-unsigned (b ∷ s) = cond (eqb b (byte "-")) s (b ∷ s)
-
--- a digit or a point
-abbrev pub isFigure : ℕ → Bool
-isFigure b = isDigit b || eqb b (byte ".")
-
--- R: a sign or none, then digits, one or more, with one point or none
-unfoldable pub isReal : Bytes → Bool
-isReal s = every isFigure (unsigned s) && leb (countOf (eqb (byte ".")) (unsigned s)) 1 && leb 1 (countOf isDigit s)
 
 -- every fourth year is a leap year; of the hundreds only every fourth
 abbrev pub isLeap : ℕ → Bool
@@ -81,7 +64,7 @@ sizeOf AN s = length s
 sizeOf ID s = length s
 sizeOf Set842 s = length s
 sizeOf N0 s = length s
-sizeOf R s = countOf isDigit s
+sizeOf R s = length (digits s)
 sizeOf DT s = length s
 sizeOf TM s = length s
 

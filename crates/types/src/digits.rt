@@ -1,8 +1,8 @@
 // Digits, and the numbers they write.
 ghost use mathlib.Core.Path.{_≡_};
-ghost use Rattle.text.specs.Separators.{isDigit};
-ghost use Rattle.types.specs.Types.{isNumber, countOf, numberOf, figures};
-ghost use Rattle.types.specs.internal.Parts.{Written};
+ghost use Rattle.text.specs.Bytes.{valueFrom};
+ghost use Rattle.types.specs.Types.{isNumber, numberOf, figures};
+ghost use Rattle.types.specs.internal.Parts.{Valued, Written};
 use text::separators;
 
 // Digits alone.
@@ -19,16 +19,15 @@ pub(crate) fn is_number(value: &[u8]) -> bool
     true
 }
 
-// How many bytes are digits.
-pub(crate) fn digit_count(value: &[u8]) -> usize
-    ensures { λ r. ⌜ r ≡ countOf isDigit (now (value .entry)) ⌝ }
+// The number that digits write behind a first number.
+pub(crate) fn value_from(first: usize, digits: &[u8]) -> usize
+    requires { ⌜ Valued first (now digits) ⌝ }
+    ensures { λ r. ⌜ r ≡ valueFrom first (now (digits .entry)) ⌝ }
 {
-    let mut n: usize = 0;
+    let mut n = first;
     let mut i = 0;
-    while i < value.len() {
-        if separators::is_digit(value[i]) {
-            n += 1;
-        }
+    while i < digits.len() {
+        n = n * 10 + ((digits[i] - b'0') as usize);
         i += 1;
     }
     n
@@ -39,13 +38,7 @@ pub(crate) fn figures(value: &[u8], from: usize, count: usize) -> usize
     requires { ⌜ Written (now value) from count ⌝ }
     ensures { λ r. ⌜ r ≡ figures from count (now (value .entry)) ⌝ }
 {
-    let mut n: usize = 0;
-    let mut i = 0;
-    while i < count {
-        n = n * 10 + ((value[from + i] - b'0') as usize);
-        i += 1;
-    }
-    n
+    value_from(0, &value[from..from + count])
 }
 
 // The number that one to ten digits write; 0 for any other value.

@@ -2,5 +2,6 @@
 mod dates;
 pub mod digits;
 pub mod kind;
+pub mod numbers;
 pub mod quick;
 pub mod values;

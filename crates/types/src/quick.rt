@@ -81,14 +81,14 @@ pub fn short_id(value: &[u8], least: usize, most: usize) -> bool
     is_short_id(value)
 }
 
-// An R of digits alone, of a length from least to most.
+// An R of up to fifteen digits alone, of a length from least to most.
 pub fn digits_alone(value: &[u8], least: usize, most: usize) -> bool
     ensures { λ r. ⌜ r ≡ fitsQuickly R least most (now (value .entry)) ⌝ }
 {
     if !is_sized(value, least, most) {
         return false;
     }
-    digits::is_number(value)
+    (value.len() <= 15) & digits::is_number(value)
 }
 
 // A date with a day up to the 28th, of a length from least to most.

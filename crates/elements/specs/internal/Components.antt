@@ -1,6 +1,6 @@
 -- The components of one element, one after the other.
 -- Assumes nothing.
-use Prim.Native.Nat.{ℕ, _+_, _-_, _≤_}
+use Prim.Native.Nat.{ℕ, suc, _+_, _-_, _≤_}
 use mathlib.Core.Path.{_≡_}
 use mathlib.Core.Bool.{Bool, cond, _||_}
 use mathlib.Core.List.{[], _∷_}
@@ -11,6 +11,11 @@ use Rattle.text.specs.Pieces.{pieces}
 use Rattle.types.specs.Types.{fits}
 use Rattle.types.specs.declared.kind.Kind.the-variants.{AN}
 use Rattle.elements.specs.Data.{Value, value, unitValues}
+
+-- how many bytes pass the test
+abbrev pub countOf : (ℕ → Bool) → Bytes → ℕ
+countOf f [] = 0
+countOf f (b ∷ s) = cond (f b) (suc (countOf f s)) (countOf f s)
 
 -- the component that starts at `from` ends at r: before a separator, or at the end of the part
 pub record Upto (p : Bytes) (from separator r : ℕ) : Type 0 where

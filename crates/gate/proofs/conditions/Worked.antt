@@ -17,7 +17,8 @@ use Rattle.rows.specs.Rows.{list842}
 use Rattle.rows.specs.RowList.{rowAt, maxOf}
 use Rattle.rows.proofs.NextRows.{nextOf, after, edges842}
 use Rattle.rows.proofs.RowStep.{stepOf}
-use Rattle.types.specs.Types.{isReal, daysIn, isDate, isTime, fits}
+use Rattle.types.specs.Reals.{isReal}
+use Rattle.types.specs.Types.{daysIn, isDate, isTime, fits}
 use Rattle.text.specs.Bin.{beginsBin, isBin}
 use Rattle.text.specs.View.{viewOf, inspected}
 use Rattle.text.specs.Cut.{cutAttached, cutOf}

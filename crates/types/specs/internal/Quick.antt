@@ -21,13 +21,13 @@ isEarlyDate s = eqb (length s) 8 && isNumber s && between 1 12 (figures 4 2 s) &
 unfoldable pub isShortTime : Bytes → Bool
 isShortTime s = eqb (length s) 4 && isTime s
 
--- a usual value of the type; an R of digits alone
+-- a usual value of the type; an R of up to fifteen digits alone
 abbrev pub isQuick : Kind → Bytes → Bool
 isQuick AN s = true
 isQuick ID s = isShortId s
 isQuick Set842 s = isOf Set842 s
 isQuick N0 s = isNumber s
-isQuick R s = isNumber s
+isQuick R s = leb (length s) 15 && isNumber s
 isQuick DT s = isEarlyDate s
 isQuick TM s = isShortTime s
 

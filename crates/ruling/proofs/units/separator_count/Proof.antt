@@ -5,8 +5,8 @@ use mathlib.Core.Logic.{⊎-elim}
 use lib.Dec.{eqb}
 use lib.ListN.{length}
 use borrow.Author.Tests.{eq-eqb, ne-eqb}
-use Rattle.types.specs.Types.{countOf}
-use Rattle.types.proofs.Counts.{Counted, counted-none, counted-one, counted-other, counted-all}
+use Rattle.elements.specs.internal.Components.{countOf}
+use Rattle.ruling.proofs.Counts.{Counted, counted-none, counted-one, counted-other, counted-all}
 use borrow.Author.Needs.{needs}
 use Rattle.ruling.proofs.units.separator_count.Statement.{statement}
 use Rattle.ruling.proofs.units.separator_count.Tie as tie

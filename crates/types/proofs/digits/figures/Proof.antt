@@ -1,72 +1,46 @@
--- `figures` meets its contract: i digits write n, and ten digits fit.
+-- `figures` meets its contract: it is the number of a part.
 -- Assumes nothing.
-use Prim.Native.Nat.{_-_, _≤_}
-use Rattle.types.proofs.Figures.{Figured, figured-none, room, figured-more, figured-all}
+use Prim.Native.Nat.{ℕ, _+_, _-_}
+use mathlib.Core.Path.{_≡_, ap, _∙_}
+use denote.Ref.{now}
+use lib.ListN.{take, drop}
+use Rattle.text.specs.Bytes.{valueOf}
+use Rattle.types.proofs.Figures.{written-part}
 use native.Mathlib.Omega.{arith}
 use borrow.Author.Needs.{needs}
 use Rattle.types.proofs.digits.figures.Statement.{statement}
 use Rattle.types.proofs.digits.figures.Tie as tie
 
-abbrev Inv-loop : tie.InvT-loop
-Inv-loop value from count n₀ i₀ n i = Figured value from i n × (i ≤ count)
+add-value-from : tie.Need-add-value-from
+add-value-from c = search needs
 
-abbrev μ-loop : tie.MeasureT-loop
-μ-loop value from count n₀ i₀ n i = count - i
+sub-value-from : tie.Need-sub-value-from
+sub-value-from c = search needs
 
-loop-holds : tie.Need-loop-holds Inv-loop μ-loop
-loop-holds c = (figured-none _ _, omega arith)
+part-value-from-start : tie.Need-part-value-from-start
+part-value-from-start c = search needs
 
-mul-n : tie.Need-mul-n Inv-loop μ-loop
-mul-n c = omega (arith, (room (c .before .before .pre) (c .before .loop .inv .0) (c .loop-test .taken)) .small)
+part-value-from-end : tie.Need-part-value-from-end
+part-value-from-end c = search needs
 
-add-n : tie.Need-add-n Inv-loop μ-loop
-add-n c = omega (arith, (room (c .before .before .pre) (c .before .loop .inv .0) (c .loop-test .taken)) .inside)
+value-from-requires : tie.Need-value-from-requires
+value-from-requires c κs = let all : c .before .before .args .from + c .before .before .args .count - c .before .before .args .from ≡ c .before .before .args .count = omega arith in
+    rw all (written-part (c .before .before .pre))
 
-shared-slice-read-n : tie.Need-shared-slice-read-n Inv-loop μ-loop
-shared-slice-read-n c = (room (c .before .before .before .pre) (c .before .before .loop .inv .0) (c .before .loop-test .taken)) .inside
-
-sub-n : tie.Need-sub-n Inv-loop μ-loop
-sub-n c = (room (c .before .before .before .pre) (c .before .before .loop .inv .0) (c .before .loop-test .taken)) .low
-
-cast-n : tie.Need-cast-n Inv-loop μ-loop
-cast-n c = omega (arith, (room (c .before .before .before .pre) (c .before .before .loop .inv .0) (c .before .loop-test .taken)) .high)
-
-add-n-2 : tie.Need-add-n-2 Inv-loop μ-loop
-add-n-2 c = omega (
-  arith,
-  (room (c .before .before .before .pre) (c .before .before .loop .inv .0) (c .before .loop-test .taken)) .small,
-  (room (c .before .before .before .pre) (c .before .before .loop .inv .0) (c .before .loop-test .taken)) .high,
-)
-
-add-i : tie.Need-add-i Inv-loop μ-loop
-add-i c = search needs
-
-loop-less : tie.Need-loop-less Inv-loop μ-loop
-loop-less c = search needs
-
-loop-again : tie.Need-loop-again Inv-loop μ-loop
-loop-again c = (
-  figured-more (c .before .before .before .pre) (c .before .before .loop .inv .0) (c .before .loop-test .taken),
-  omega arith,
-)
-
-returns : tie.Need-returns Inv-loop μ-loop
-returns c = figured-all (c .before .loop .inv .0) (c .before .loop .inv .1) (c .loop-test .left)
+returns : tie.Need-returns
+returns c =
+    let from = c .before .before .before .args .from in
+    let count = c .before .before .before .args .count in
+    let all : from + count - from ≡ count = omega arith in
+    c .value-from .ensures ∙ ap (λ (n : ℕ). valueOf (take n (drop from (now (c .before .before .before .args .value))))) all
 
 pub figures-spec : {M : Type 1} → statement M
 figures-spec =
     tie.close
     (tie.spec
-    Inv-loop
-    μ-loop
-    loop-holds
-    mul-n
-    add-n
-    shared-slice-read-n
-    sub-n
-    cast-n
-    add-n-2
-    add-i
-    loop-less
-    loop-again
+    add-value-from
+    sub-value-from
+    part-value-from-start
+    part-value-from-end
+    value-from-requires
     returns)

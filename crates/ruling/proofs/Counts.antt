@@ -8,7 +8,7 @@ use native.Mathlib.Numerals.{add-one}
 use lib.ListN.{length, drop, getD, drop-of-length-le}
 use lib.Seq.{drop-cons}
 use Rattle.text.specs.Bytes.{Bytes}
-use Rattle.types.specs.Types.{countOf}
+use Rattle.elements.specs.internal.Components.{countOf}
 
 -- a count that has passed i bytes of s, of which n pass the test: all that count are those and the rest
 pub record Counted (f : ℕ → Bool) (s : Bytes) (all i n : ℕ) : Type 0 where
