@@ -102,9 +102,10 @@ extern "C" {
 #define STORMHLAW_ELEMENT_MISSING 8
 /* Too many elements, or too many components in NCA05: the first that is too many. */
 #define STORMHLAW_TOO_MANY 9
-/* Type or length of the element named does not fit, or ST01 is not 842. Of a BIN, before 4 to 7 are looked for:
-** element 1, BIN01 is no count, or another byte than the element separator follows it; element 2, another byte stands where the
-** terminator is due. */
+/* Type or length of the element named does not fit, or ST01 is not 842. A quantity, type R, is an optional '-', 1 to 15 digits with
+** at most one '.', and optionally an exponent: 'E', an optional '-' and one or two digits, which do not count for the length. See "How
+** a quantity is written". Of a BIN, before 4 to 7 are looked for: element 1, BIN01 is no count, or another byte than the element
+** separator follows it; element 2, another byte stands where the terminator is due. */
 #define STORMHLAW_VALUE_UNFIT 10
 /* A note is broken: all or none of some elements, at least one of some, or one that asks for others. The note's first. */
 #define STORMHLAW_NOTE_BROKEN 11
@@ -282,6 +283,51 @@ void stormhlaw_element(
 */
 void stormhlaw_component(
     const uint8_t *element, size_t element_length, uint8_t separator, uint64_t number, uint64_t span[2]);
+
+/*
+** How a quantity is written: an optional '-'; then digits, 1 to 15 with leading zeros counted, and at most one '.' before, among or
+** behind them; then optionally an exponent, which is 'E', an optional '-' and one or two digits. Nothing else belongs to it: no '+',
+** no small 'e', no blank.
+**
+** Quantities are NCA04 and, of NCA05, components 2, 3, 5, 6, 8, 9, 11, 12, 14 and 15. In an accepted report each of them that is not
+** empty is one; components 3, 6, 9, 12 and 15 have at most 10 digits before the exponent.
+**
+** The five numbers of a quantity:
+**
+**   number[STORMHLAW_FIT]       1 where the text is a quantity; 0 where it is none, and the other four are 0 then
+**   number[STORMHLAW_VALUE]     the digits before the exponent as one whole number, without the '.' and with the '-'
+**   number[STORMHLAW_PLACES]    how many of these digits stand behind the '.', 0 to 15
+**   number[STORMHLAW_EXPONENT]  the exponent, -99 to 99; 0 where none is written
+**   number[STORMHLAW_WRITTEN]   1 where an exponent is written, also one of 0; else 0
+**
+** The quantity is worth value times ten to the power of exponent - places.
+**
+**   text     the five numbers   worth
+**   -0.50    1, -50, 2, 0, 0    -0.50
+**   -0       1, 0, 0, 0, 0      0
+**   5.E1     1, 5, 0, 1, 1      50
+**   .5E-07   1, 5, 1, -7, 1     0.00000005
+**   5E-0     1, 5, 0, 0, 1      5
+**   E5       0, 0, 0, 0, 0      nothing: no digit stands before the exponent
+**
+** Texts that are worth the same may have other numbers: 1 has value 1 and places 0, 1.0 has value 10 and places 1. Compare what they
+** are worth. Other texts may have the same numbers: 5, 05 and 5. do.
+*/
+#define STORMHLAW_FIT 0
+#define STORMHLAW_VALUE 1
+#define STORMHLAW_PLACES 2
+#define STORMHLAW_EXPONENT 3
+#define STORMHLAW_WRITTEN 4
+
+/*
+** Tells whether a text is a quantity, and its numbers.
+**
+**   text, text_length   the bytes of the text, however many and of any kind: an element or a component for example
+**   number              the five numbers, always written
+**
+** Every text gets an answer; the empty one is no quantity.
+*/
+void stormhlaw_number(const uint8_t *text, size_t text_length, int64_t number[5]);
 
 #ifdef __cplusplus
 }

@@ -1,4 +1,4 @@
-/* Reads the report in the file that is named, or W1 where none is, and lists its segments and levels. */
+/* Reads the report in the file that is named, or a small one where none is, and lists its segments, quantities and levels. */
 #include <stdio.h>
 #include <string.h>
 
@@ -10,6 +10,21 @@
 
 static const char *const codes[] = {"?", "RP", "I", "F", "PC", "SN"};
 
+/* The row of NCA in the table of 79. */
+#define NCA 64
+
+/* The quantity of an NCA, its element 4, if it has one. */
+static void list_quantity(const uint8_t *segment, size_t length)
+{
+    uint64_t span[2];
+    int64_t number[5];
+    stormhlaw_element(segment, length, '*', 4, span);
+    stormhlaw_number(segment + span[0], (size_t)span[1], number);
+    if (number[STORMHLAW_FIT])
+        printf("  quantity: %lld times ten to the power of %lld\n", (long long)number[STORMHLAW_VALUE],
+               (long long)(number[STORMHLAW_EXPONENT] - number[STORMHLAW_PLACES]));
+}
+
 static void list_segments(const uint8_t *input, const uint64_t *segments, uint64_t count)
 {
     for (uint64_t k = 0; k < count; k++) {
@@ -18,6 +33,8 @@ static void list_segments(const uint8_t *input, const uint64_t *segments, uint64
         stormhlaw_element(input + record[0], (size_t)record[1], '*', 0, tag);
         printf("segment %llu: %.*s, row %llu, level %llu\n", (unsigned long long)(k + 1), (int)tag[1],
                (const char *)input + record[0] + tag[0], (unsigned long long)record[2], (unsigned long long)record[3]);
+        if (record[2] == NCA)
+            list_quantity(input + record[0], (size_t)record[1]);
     }
 }
 
@@ -36,7 +53,7 @@ int main(int count, char **words)
     static uint64_t segments[STORMHLAW_SEGMENT_NUMBERS * SEGMENTS];
     static uint64_t levels[STORMHLAW_LEVEL_NUMBERS * LEVELS];
     uint64_t answer[4];
-    const char *report = "ST*842*0001~BNR*11*NR7*20240301~HL*1**RP*1~HL*2*1*I*0~NCD*1~NCA**R1~SE*7*0001~";
+    const char *report = "ST*842*0001~BNR*11*NR7*20240301~HL*1**RP*1~HL*2*1*I*0~NCD*1~NCA**R1**2.50*EA~SE*7*0001~";
     size_t length = strlen(report);
 
     memcpy(input, report, length);

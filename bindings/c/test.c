@@ -1,5 +1,5 @@
-/* The worked reports of document 01, the lookups, the levels of segments, an attachment and line ends, through the header alone. Says what
-** differs and ends with status 1. */
+/* The worked reports of document 01, the lookups, the levels of segments, an attachment, line ends and quantities, through the header
+** alone. Says what differs and ends with status 1. */
 #include <stdio.h>
 #include <string.h>
 
@@ -319,6 +319,107 @@ static void expect_lines_not_rewritten(void)
     }
 }
 
+/* What stands around the five numbers of a quantity that are lent, and in them before the call. */
+#define GUARD 0x5a5a5a5a5a5a5a5a
+
+/* The five numbers of so many bytes; what stands around them stays. */
+static void expect_numbers(const char *what, const uint8_t *text, size_t length, const int64_t wanted[5])
+{
+    int64_t found[7], all[7] = {GUARD, wanted[0], wanted[1], wanted[2], wanted[3], wanted[4], GUARD};
+    for (size_t k = 0; k < 7; k++)
+        found[k] = GUARD;
+    stormhlaw_number(text, length, found + 1);
+    if (memcmp(found, all, sizeof all) == 0) {
+        passed++;
+        return;
+    }
+    failed++;
+    printf("the quantity %s:", what);
+    for (size_t k = 0; k < 7; k++)
+        printf(" %lld for %lld", (long long)found[k], (long long)all[k]);
+    printf("\n");
+}
+
+/* The text is a quantity, with these numbers. */
+static void expect_fit(const char *text, int64_t value, int64_t places, int64_t exponent, int64_t written)
+{
+    int64_t wanted[5];
+    wanted[STORMHLAW_FIT] = 1;
+    wanted[STORMHLAW_VALUE] = value;
+    wanted[STORMHLAW_PLACES] = places;
+    wanted[STORMHLAW_EXPONENT] = exponent;
+    wanted[STORMHLAW_WRITTEN] = written;
+    expect_numbers(text, (const uint8_t *)text, strlen(text), wanted);
+}
+
+static void expect_quantities(void)
+{
+    expect_fit("-0.50", -50, 2, 0, 0);
+    expect_fit("-0", 0, 0, 0, 0);
+    expect_fit("25", 25, 0, 0, 0);
+    expect_fit("5.", 5, 0, 0, 0);
+    expect_fit("-.5", -5, 1, 0, 0);
+    expect_fit("1.0", 10, 1, 0, 0);
+    expect_fit("5.E1", 5, 0, 1, 1);
+    expect_fit(".5E1", 5, 1, 1, 1);
+    expect_fit("5E-0", 5, 0, 0, 1);
+    expect_fit("5E-07", 5, 0, -7, 1);
+    expect_fit("-12.34E99", -1234, 2, 99, 1);
+    expect_fit("0E-99", 0, 0, -99, 1);
+    expect_fit("999999999999999", 999999999999999, 0, 0, 0);
+    expect_fit("-.999999999999999E-99", -999999999999999, 15, -99, 1);
+    expect_fit("000000000000007", 7, 0, 0, 0);
+}
+
+static void expect_no_quantities(void)
+{
+    static const char *const texts[] = {
+        "", "-", ".", "-.", "E", "E5", "-E5", ".E5", "5E", "5E-", "5E+1", "5e1", "5E123", "5E-007", "5E1.0", "5E1E1", "+1", "--1", "1-",
+        "1.2.3", "1,5", " 5", "5 ", "5A", "0x10", "1000000000000000", "0000000000000000", "1.000000000000000", ".0000000000000000",
+        "9999999999999999999999999999999999999999"};
+    static const int64_t zeros[5] = {0};
+    for (size_t k = 0; k < sizeof texts / sizeof *texts; k++)
+        expect_numbers(texts[k], (const uint8_t *)texts[k], strlen(texts[k]), zeros);
+    expect_numbers("with a zero byte", BYTES("5\0"), zeros);
+    expect_numbers("with a byte of 255", BYTES("5\xff"), zeros);
+}
+
+/* Only so many bytes are looked at as are given. */
+static void expect_first_bytes(void)
+{
+    static const uint8_t text[] = {'-', '1', '2', '.', '5', 'E', '-', '3', '4', '5'};
+    static const int64_t wanted[11][5] = {
+        {0}, {0}, {1, -1}, {1, -12}, {1, -12}, {1, -125, 1}, {0}, {0}, {1, -125, 1, -3, 1}, {1, -125, 1, -34, 1}, {0}};
+    for (size_t length = 0; length <= sizeof text; length++)
+        expect_numbers("in its first bytes", text, length, wanted[length]);
+}
+
+/* The answer where this is the NCA of W1. */
+static void expect_nca(const char *nca, const uint64_t wanted[4])
+{
+    char report[200];
+    snprintf(report, sizeof report, "ST*842*0001~BNR*11*NR7*20240301~HL*1**RP*1~HL*2*1*I*0~NCD*1~%s~SE*7*0001~", nca);
+    expect_read(report, TEN, wanted);
+}
+
+/* What is a quantity is accepted in NCA04 and in NCA05, where every third component has at most 10 digits. */
+static void expect_quantities_read(void)
+{
+    static const uint64_t unfit[2][4] = {{10, 6, 60, 4}, {10, 6, 60, 5}};
+    expect_nca("NCA**R1**-0.50*EA", (const uint64_t[]){0, 7, 2, 88});
+    expect_nca("NCA**R1**5.E1*EA", (const uint64_t[]){0, 7, 2, 87});
+    expect_nca("NCA**R1**123456789012345E-99*EA", (const uint64_t[]){0, 7, 2, 102});
+    expect_nca("NCA**R1**5*EA:1E1:1234567890E-10", (const uint64_t[]){0, 7, 2, 103});
+    expect_nca("NCA**R1**E5*EA", unfit[0]);
+    expect_nca("NCA**R1**5E*EA", unfit[0]);
+    expect_nca("NCA**R1**5e1*EA", unfit[0]);
+    expect_nca("NCA**R1**5E123*EA", unfit[0]);
+    expect_nca("NCA**R1**1234567890123456*EA", unfit[0]);
+    expect_nca("NCA**R1**5*EA:E1", unfit[1]);
+    expect_nca("NCA**R1**5*EA:1:12345678901", unfit[1]);
+    expect_nca("NCA**R1**5*EA:1:1E123", unfit[1]);
+}
+
 int main(void)
 {
     expect_read(W1, TEN, (const uint64_t[]){0, 7, 2, 78});
@@ -337,6 +438,10 @@ int main(void)
     expect_lines_skipped();
     expect_lines_refused();
     expect_lines_not_rewritten();
+    expect_quantities();
+    expect_no_quantities();
+    expect_first_bytes();
+    expect_quantities_read();
     printf("C: %d passed, %d failed\n", passed, failed);
     return failed != 0;
 }

@@ -57,6 +57,7 @@ def main() -> None:
         "go through the segments": lambda: [None for _ in read],
         "1,000 small reports": lambda: [stormhlaw.read(small) for _ in range(1000)],
         "1,000 elements": lambda: [stormhlaw.element(b"HL*2*1*I*0", 3) for _ in range(1000)],
+        "1,000 numbers": lambda: [stormhlaw.number(b"-12.50") for _ in range(1000)],
     }
     times = best(list(calls.values()), 50)
     print(f"{len(data):,} bytes, {len(read.segments):,} segments, {len(read.levels)} levels; microseconds, best of 50")

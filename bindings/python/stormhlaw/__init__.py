@@ -32,6 +32,13 @@ A BIN, row 55, carries an attachment: its element 1 is a count, and element 2 is
         if segment.row == 55:
             attached = stormhlaw.element(data[segment.start : segment.start + segment.length], 2)
 
+number() gives the number of a quantity, such as element 4 of an NCA, row 64: value, places and exponent as whole
+numbers, and a Decimal of them. It is None where the text is no quantity.
+
+    quantity = stormhlaw.number(stormhlaw.element(b"NCA**R1**-0.50*EA", 4))
+    if quantity is not None:
+        print(quantity.value, quantity.places, quantity.decimal)
+
 Every argument is checked before anything is called: a wrong type is a TypeError, an impossible value a ValueError, and
 the message names the argument. Any number of threads may call at once.
 
@@ -43,6 +50,7 @@ from stormhlaw._version import __version__
 from stormhlaw.answers import Reason, Refusal, Refused, Report
 from stormhlaw.how import STRICT, How, LineEnds
 from stormhlaw.lookup import component, element
+from stormhlaw.quantities import Number, number
 from stormhlaw.reading import read
 from stormhlaw.records import Code, Level, Levels, Segment, Segments
 from stormhlaw.rewriting import rewrite
@@ -56,6 +64,7 @@ __all__ = [
     "Level",
     "Levels",
     "LineEnds",
+    "Number",
     "Reason",
     "Refusal",
     "Refused",
@@ -66,6 +75,7 @@ __all__ = [
     "__version__",
     "component",
     "element",
+    "number",
     "read",
     "rewrite",
 ]

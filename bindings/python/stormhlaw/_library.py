@@ -25,6 +25,9 @@ Answer = ctypes.c_uint64 * 4
 Span = ctypes.c_uint64 * 2
 """Where a part starts, and how many bytes it has."""
 
+Quantity = ctypes.c_int64 * 5
+"""The five numbers of a quantity: whether the text is one, value, places, exponent, whether an exponent is written."""
+
 _BYTE, _SIZE, _NUMBER = ctypes.c_uint8, ctypes.c_size_t, ctypes.c_uint64
 # A pointer is given as a bytes object, an array of ctypes, or an address.
 _POINTER = ctypes.c_void_p
@@ -56,7 +59,8 @@ def _load(path: str) -> ctypes.CDLL:
     library.stormhlaw_rewrite.argtypes = [*_LENT, *three, _NUMBER, *three, *_LENT, *_LENT, *_LENT, _POINTER]
     library.stormhlaw_element.argtypes = [*_LENT, _BYTE, _NUMBER, _POINTER]
     library.stormhlaw_component.argtypes = [*_LENT, _BYTE, _NUMBER, _POINTER]
-    for function in ("read", "rewrite", "element", "component"):
+    library.stormhlaw_number.argtypes = [*_LENT, _POINTER]
+    for function in ("read", "rewrite", "element", "component", "number"):
         getattr(library, f"stormhlaw_{function}").restype = None
     return library
 

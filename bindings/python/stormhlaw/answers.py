@@ -31,8 +31,9 @@ class Reason(IntEnum):
     ELEMENT_MISSING = 8
     # The element named is the first that is too many.
     TOO_MANY = 9
-    # Type or length of the element named does not fit, or ST01 is not 842. Of a BIN, element 1: BIN01 is no count, or
-    # no element separator follows it; element 2: no terminator stands where it is due.
+    # Type or length of the element named does not fit, or ST01 is not 842; what a quantity may be says number(). Of a
+    # BIN, element 1: BIN01 is no count, or no element separator follows it; element 2: no terminator stands where it is
+    # due.
     VALUE_UNFIT = 10
     # All or none of some elements, at least one of some, or one that asks for others: the note's first is named.
     NOTE_BROKEN = 11

@@ -2,7 +2,8 @@
 
 Each argument is known to fit or not. A call whose arguments all fit must answer as the library does when it is called
 without the package, with tables as large as was asked for; a lookup, as Python's split() does, and in a BIN as its
-count says. Any other call must raise a TypeError or a ValueError that names an argument that does not fit.
+count says; a number, as a regular expression says. Any other call must raise a TypeError or a ValueError that names an
+argument that does not fit.
 """
 
 import array
@@ -18,7 +19,7 @@ from typing import Any, NamedTuple
 from unittest.mock import Mock
 
 import stormhlaw
-from stormhlaw import How, LineEnds, Refused, Separators, component, element, read, rewrite
+from stormhlaw import How, LineEnds, Refused, Separators, component, element, number, read, rewrite
 from stormhlaw._library import library
 from tests.reports import ATTACHED, W1, WITH_BIN, joined, with_items, with_segment
 
@@ -158,6 +159,20 @@ def any_bytes(chance):
     return bytes(data)
 
 
+def any_quantity(chance):
+    """Bytes of a quantity, sound or damaged, or any bytes of such."""
+    if chance.random() < 0.3:
+        return bytes(chance.choices(b"-.E0123456789+e \x00", k=chance.randrange(9)))
+    digits = bytearray(chance.choices(b"0123456789", k=chance.choice((1, 2, 3, 7, 8, 10, 14, 15, 16))))
+    if chance.random() < 0.5:
+        digits.insert(chance.randrange(len(digits) + 1), ord("."))
+    exponent = chance.choice((b"", b"", b"E1", b"E-1", b"E99", b"E-07", b"E0", b"E", b"E+1", b"e1", b"E123"))
+    data = bytearray(chance.choice((b"", b"-")) + digits + exponent)
+    if chance.random() < 0.1:
+        data[chance.randrange(len(data))] = chance.choice(b"-.E0+e \x00\xff")
+    return bytes(data)
+
+
 def padded(data, size):
     return data.ljust(-(-max(len(data), 1) // size) * size, b"~")
 
@@ -212,18 +227,23 @@ KINDS = (
 )  # fmt: skip
 
 
-def any_data(chance):
-    """Something to read."""
+def any_data(chance, make=any_bytes):
+    """Something to read, with the bytes that are made."""
     kind = chance.random()
     if kind < 0.1:
         return any_object(chance)
     if kind < 0.12:
         return Given(chance.choice(NUMBERS + LARGE + HUGE), UNFIT)
-    value, data = chance.choice(KINDS)(chance, any_bytes(chance))
+    value, data = chance.choice(KINDS)(chance, make(chance))
     if kind < 0.15 and type(value) is memoryview:
         value.release()
         return Given(value, UNFIT)
     return Given(value, data)
+
+
+def any_text(chance):
+    """Something that may be a quantity."""
+    return any_data(chance, any_quantity if chance.random() < 0.95 else any_bytes)
 
 
 def any_byte(chance):
@@ -292,6 +312,7 @@ FUNCTIONS = {
     },
     element: {"segment": any_data, "number": any_place, "separator": any_byte},
     component: {"element_bytes": any_data, "number": any_place, "separator": any_byte},
+    number: {"text": any_text},
     Separators: {"element": any_byte, "component": any_byte, "terminator": any_byte},
     How: {"line_ends": any_line_ends},
 }  # fmt: skip
@@ -360,12 +381,23 @@ def part_of(parts, first, number):
     return parts[number - first] if first <= number < first + len(parts) else b""
 
 
+def number_of(text):
+    """The four numbers of a quantity by a regular expression, or None."""
+    found = re.fullmatch(rb"(-?)([0-9]*)\.?([0-9]*)(?:E(-?[0-9]{1,2}))?", text)
+    if not found or not 1 <= len(found[2] + found[3]) <= 15:
+        return None
+    value = int(found[2] + found[3])
+    return -value if found[1] else value, len(found[3]), int(found[4] or 0), found[4] is not None
+
+
 def check_answer(function, plain, call):
     """The call, whose arguments all fit, answers as it must."""
     if function is element:
         assert call() == part_of(elements(plain["segment"], plain["separator"]), 0, plain["number"])
     elif function is component:
         assert call() == part_of(plain["element_bytes"].split(plain["separator"]), 1, plain["number"])
+    elif function is number:
+        assert call() == number_of(plain["text"])
     elif function is Separators:
         assert call().numbers() == tuple(value[0] for value in plain.values())
     elif function is How:

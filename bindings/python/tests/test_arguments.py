@@ -4,7 +4,7 @@ import unittest
 from enum import IntEnum
 from unittest.mock import Mock
 
-from stormhlaw import STRICT, How, LineEnds, Separators, component, element, read, rewrite
+from stormhlaw import STRICT, How, LineEnds, Separators, component, element, number, read, rewrite
 from tests.reports import W1, joined
 
 REPORT = joined(W1)
@@ -59,6 +59,7 @@ class Arguments(unittest.TestCase):
             ("data", rewrite, (NEW,)),
             ("segment", element, (1,)),
             ("element_bytes", component, (1,)),
+            ("text", number, ()),
         )
         kinds = (
             ("ST*842", "str"), (None, "None"), (7, "int"), (True, "bool"), (1.5, "float"), ([83, 84], "list"),

@@ -5,7 +5,7 @@ import ctypes
 import mmap
 import unittest
 
-from stormhlaw import LONGEST, Reason, Refused, Separators, component, element, read, rewrite
+from stormhlaw import LONGEST, Reason, Refused, Separators, component, element, number, read, rewrite
 from stormhlaw._lending import SMALL, lend
 from tests.reports import LEVELS, SEGMENTS, W1, joined, with_items
 
@@ -101,7 +101,7 @@ class Kinds(unittest.TestCase):
             with self.assertRaises(Refused) as caught:
                 read(empty)
             self.assertEqual(str(caught.exception), "refused 3 segment 1 byte 0 element 0")
-            self.assertEqual((element(empty, 0), component(empty, 1)), (b"", b""))
+            self.assertEqual((element(empty, 0), component(empty, 1), number(empty)), (b"", b"", None))
 
 
 class Lending(unittest.TestCase):
@@ -170,9 +170,10 @@ class Lending(unittest.TestCase):
 
     def test_too_long_to_copy(self):
         view = memoryview(mmap.mmap(-1, 2**31 + 1, prot=mmap.PROT_READ))
-        for call, name in ((element, "segment"), (component, "element_bytes")):
+        calls = ((element, "segment", (1,)), (component, "element_bytes", (1,)), (number, "text", ()))
+        for call, name, others in calls:
             with self.assertRaises(ValueError) as caught:
-                call(view, 1)
+                call(view, *others)
             wanted = f"{name}: at most 2**31 bytes wanted where they are copied, not 2147483649"
             self.assertEqual(str(caught.exception), wanted)
         for call in (read, lambda data: rewrite(data, NEW)):

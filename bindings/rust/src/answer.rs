@@ -51,8 +51,8 @@ pub enum Reason {
     ElementMissing = 8,
     /// Too many elements or components.
     TooMany = 9,
-    /// Type or length does not fit, or ST01 is not `842`. Of a BIN, element 1: BIN01 is no count, or no element
-    /// separator follows it; element 2: no terminator stands where it is due.
+    /// Type or length does not fit, or ST01 is not `842`; what a quantity may be says [`number`](crate::number). Of a BIN,
+    /// element 1: BIN01 is no count, or no element separator follows it; element 2: no terminator stands where it is due.
     ValueUnfit = 10,
     /// A note on the segment's elements is broken.
     NoteBroken = 11,

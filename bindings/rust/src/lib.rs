@@ -45,11 +45,20 @@
 //! # Ok::<(), stormhlaw::Refusal>(())
 //! ```
 //!
+//! A quantity, such as element 4 of an NCA, comes as whole numbers, and is displayed as a plain decimal:
+//!
+//! ```
+//! # use stormhlaw::{element, number};
+//! let quantity = number(element(b"NCA**R1**-0.50*EA", b'*', 4)).unwrap();
+//! assert_eq!((quantity.value(), quantity.places(), quantity.exponent()), (-50, 2, 0));
+//! assert_eq!(quantity.to_string(), "-0.50");
+//! ```
+//!
 //! Line ends between segments are skipped, or refused where [`How`] asks for a strict reading. A rewriting is always strict.
 //!
 //! [`read`] and [`rewrite`] do the same in records that the caller lends, and allocate nothing. [`element`] and
-//! [`component`] look up parts of a segment. Nothing is kept between calls, no input makes a function panic, and every
-//! function may be called from several threads at once.
+//! [`component`] look up parts of a segment, and [`number`] reads a quantity. Nothing is kept between calls, no input makes
+//! a function panic, and every function may be called from several threads at once.
 
 #![deny(unsafe_code)]
 #![warn(missing_docs)]
@@ -57,6 +66,7 @@
 mod answer;
 mod how;
 mod lookup;
+mod quantities;
 pub mod raw;
 mod reading;
 mod records;
@@ -68,6 +78,7 @@ mod valid;
 pub use answer::{Accepted, Reason, Refusal};
 pub use how::{How, LineEnds};
 pub use lookup::{component, component_span, element, element_span};
+pub use quantities::{number, Number};
 pub use reading::{read, LONGEST};
 pub use records::{Code, Level, Segment};
 pub use rewriting::rewrite;

@@ -1,5 +1,5 @@
-//! The functions of the library over plain numbers: tables of any length, and answers and spans as the library writes
-//! them. `include/stormhlaw.h` says what each number is.
+//! The functions of the library over plain numbers: tables of any length, and answers, spans and the numbers of a
+//! quantity as the library writes them. `include/stormhlaw.h` says what each number is.
 //!
 //! No other module calls C. What is lent are slices: no pointer is null, every length is right, and what is written
 //! overlaps with nothing else.
@@ -60,6 +60,8 @@ extern "C" {
         number: u64,
         span: *mut [u64; 2],
     );
+
+    fn stormhlaw_number(text: *const u8, text_length: usize, number: *mut [i64; 5]);
 }
 
 /// What an answer and a span hold before the call. The library always writes them; a zero would read as an acceptance.
@@ -147,6 +149,15 @@ pub fn component(element: &[u8], separator: u8, number: u64) -> [u64; 2] {
     // SAFETY: the slice and the array live until the call returns, and the array is borrowed for it alone.
     unsafe { stormhlaw_component(element.as_ptr(), element.len(), separator, number, &mut span) };
     span
+}
+
+/// The five numbers of a quantity: whether the text is one, value, places, exponent, and whether an exponent is written.
+pub fn number(text: &[u8]) -> [i64; 5] {
+    // Zeros read as no quantity.
+    let mut number = [0; 5];
+    // SAFETY: the slice and the array live until the call returns, and the array is borrowed for it alone.
+    unsafe { stormhlaw_number(text.as_ptr(), text.len(), &mut number) };
+    number
 }
 
 /// How many numbers a segment's record has, and a level's.

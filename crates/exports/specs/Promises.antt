@@ -2,14 +2,16 @@
 -- Assumes nothing.
 use Prim.Native.Nat.{ℕ, _%_}
 use mathlib.Core.Path.{_≡_}
-use mathlib.Core.Bool.{cond}
+use mathlib.Core.Bool.{Bool, cond}
 use mathlib.Core.List.{List, [], _∷_}
 use lib.Dec.{eqb}
+use lib.IntN.{ℤ, pos}
 use Rattle.text.specs.Bytes.{Bytes}
 use Rattle.text.specs.declared.lines.LineEnds.{LineEnds}
 use Rattle.text.specs.declared.lines.LineEnds.the-variants.{Skipped, Strict}
 use Rattle.text.specs.declared.lookup.Span.{Span}
 use Rattle.text.specs.declared.separators.Separators.{Separators}
+use Rattle.types.specs.declared.numbers.Number.{Number}
 use Rattle.gate.specs.Answers.{numbersOf}
 use Rattle.gate.specs.Records.{Tables}
 use Rattle.gate.specs.Reads.{Reads}
@@ -48,3 +50,11 @@ pub record ToldAgain (old new : Separators) (s : Bytes) (before : Tables) (outpu
 -- the two numbers of a part: where it starts, and how long it is
 abbrev pub spanNumbers : Span → List ℕ
 spanNumbers p = p .start ∷ p .len ∷ []
+
+-- 1 for yes and 0 for no
+abbrev pub bitOf : Bool → ℤ
+bitOf told = cond told (pos 1) (pos 0)
+
+-- the five numbers of a number check: fit or unfit, the value, how many digits stand behind the point, the exponent, and whether one is written
+abbrev pub numberNumbers : Number → List ℤ
+numberNumbers n = bitOf (n .fit) ∷ n .value ∷ pos (n .places) ∷ n .exponent ∷ bitOf (n .written) ∷ []

@@ -2,14 +2,17 @@
 // is written as numbers into an array that the caller lends.
 ghost use mathlib.Core.Path.{_≡_};
 ghost use Rattle.text.specs.Lookup.{elementSpan, componentSpan};
+ghost use Rattle.types.specs.Numbers.{checked};
 ghost use Rattle.gate.specs.Answers.{numbersOf};
-ghost use Rattle.exports.specs.Promises.{separatorsOf, linesOf, howOf, tablesOf, Told, ToldAgain, spanNumbers};
+ghost use Rattle.exports.specs.Promises.{separatorsOf, linesOf, howOf, tablesOf, Told, ToldAgain, spanNumbers, bitOf, numberNumbers};
 use gate::answer::Answer;
 use gate::how::How;
 use text::lines::LineEnds;
 use text::lookup;
 use text::lookup::Span;
 use text::separators::Separators;
+use types::numbers;
+use types::numbers::Number;
 
 // These three separators.
 fn separators_of(element: u8, component: u8, terminator: u8) -> Separators
@@ -67,6 +70,28 @@ fn two(span: Span) -> [u64; 2]
     ensures { λ r. ⌜ r ≡ spanNumbers span ⌝ }
 {
     [span.start as u64, span.len as u64]
+}
+
+// 1 for yes and 0 for no.
+fn bit(yes: bool) -> i64
+    ensures { λ r. ⌜ r ≡ bitOf yes ⌝ }
+{
+    if yes { 1 } else { 0 }
+}
+
+// Fit or unfit, value, places, exponent, and whether one is written.
+fn five(number: Number) -> [i64; 5]
+    ensures { λ r. ⌜ r ≡ numberNumbers number ⌝ }
+{
+    let value = number.value;
+    let exponent = number.exponent;
+    [
+        bit(number.fit),
+        value,
+        number.places as i64,
+        exponent,
+        bit(number.written),
+    ]
 }
 
 // Reads one transaction from the start of the input, as `reading::read` does, in the way that the sum of flags `how` names: both tables, and
@@ -134,4 +159,13 @@ pub extern "C" fn stormhlaw_component(
     ensures { λ _. ⌜ now (span .exit) ≡ spanNumbers (componentSpan separator (now (element .entry)) number) ⌝ }
 {
     *span = two(lookup::component_span(element, separator, number as usize));
+}
+
+// The number that a text of type R writes, of up to fifteen digits: 1, value, places, exponent, and 1 where an exponent is written, else 0.
+// Five zeros where the text does not fit.
+#[no_mangle]
+pub extern "C" fn stormhlaw_number(text: &[u8], number: &mut [i64; 5])
+    ensures { λ _. ⌜ now (number .exit) ≡ numberNumbers (checked 1 15 (now (text .entry))) ⌝ }
+{
+    *number = five(numbers::check_number(text, 1, 15));
 }
