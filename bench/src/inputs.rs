@@ -1,6 +1,6 @@
 //! The reports whose bytes are timed.
 
-use crate::lines::{Values, FAULT, LONG, SHORT};
+use crate::lines::{Values, FAULT, LONG, QUANTITIES, SHORT};
 use crate::report::{Input, Report};
 
 /// About 1 MB, less than the limit of 1,048,576 bytes.
@@ -96,6 +96,7 @@ pub fn inputs() -> Vec<Input> {
         Input::new("1 MB, short plain segments", repeated(LARGE, 50, &SHORT)),
         Input::new("1 MB, short plain, varied", varied(LARGE, 50, Values::short)),
         Input::new("1 MB, long elements", repeated(LARGE, 50, &LONG)),
+        Input::new("1 MB, quantities", repeated(LARGE, 50, &QUANTITIES)),
         Input::new("1 MB, 2,000 small BINs", small_bins(2_000, 50)),
         Input::new("900 KB, one BIN", one_bin(900_000)),
         Input::new("100 bytes", repeated(100, 1, &FAULT[5..6])),

@@ -22,6 +22,16 @@ pub const LONG: [&str; 3] = [
     "REF*ZZ*THE FULL TEXT OF THE FINDING AS THE SUPPLIER WROTE IT DOWN ON THE DAY OF THE DELIVERY, WITH THE NAMES OF ALL WHO WERE THERE",
 ];
 
+/// Faults with quantities that have signs, points and exponents, and one with a second unit.
+pub const QUANTITIES: [&str; 6] = [
+    "NCD*1*A*0001*SOLDER*BRIDGE",
+    "NCA*1*R1**-12.50*KG",
+    "NCA*2*R2**0.125E-2*KG",
+    "NCA*3*R3**.5*MR",
+    "NCA*4*R4**1500*EA:12.5:1",
+    "NTE*GEN*REWORKED AND TESTED AGAIN",
+];
+
 /// Words of a finding.
 const WORDS: [&str; 12] =
     ["SOLDER", "JOINT", "OPEN", "PIN", "BRIDGE", "CRACK", "AT", "EDGE", "OF", "HOUSING", "SEAL", "LEAKS"];

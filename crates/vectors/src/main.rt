@@ -1,8 +1,9 @@
 // Runs the cases of each file that the arguments name, and prints what comes of each. A case is a header of sixteen bytes and its input:
-//   0        1 a reading, 2 a rewriting, 3 an element lookup, 4 a component lookup, 5 a reading of a long input
+//   0        1 a reading, 2 a rewriting, 3 an element lookup, 4 a component lookup, 5 a reading of a long input, 6 a number check
 //   1 to 3   element, component, terminator; of a lookup the separator alone
 //   4 to 6   the new set of a rewriting; how long a long input is, which goes on with bytes `~` behind its own
-//   7, 9     how many numbers the segment table and the level table have, two bytes each, the lower first
+//   7, 9     how many numbers the segment table and the level table have, two bytes each, the lower first; of a number check the least and the
+//            most digits
 //   11       the number that a lookup asks for, or how many bytes the output of a rewriting has, two bytes; of a reading one byte, odd where it
 //            is strict with line ends
 //   13       how long the input is, three bytes
@@ -15,6 +16,8 @@ use text::lines::LineEnds;
 use text::lookup;
 use text::lookup::Span;
 use text::separators::Separators;
+use types::numbers;
+use types::numbers::Number;
 
 fn word(bytes: &[u8]) {
     io::write_all(1, bytes);
@@ -28,6 +31,25 @@ fn number(n: u64) {
 fn next(n: u64) {
     word(b" ");
     number(n);
+}
+
+// How far a number lies from 0.
+fn size(n: i64) -> u64 {
+    if 0 <= n {
+        return n as u64;
+    }
+    let less = n + 1;
+    let back = 0 - less;
+    back as u64 + 1
+}
+
+// A number with its sign, behind a space.
+fn next_signed(n: i64) {
+    word(b" ");
+    if n < 0 {
+        word(b"-");
+    }
+    number(size(n));
 }
 
 // A byte of a header; 0 past its end.
@@ -259,6 +281,23 @@ fn print_span(span: Span) {
     word(b"\n");
 }
 
+fn print_number(checked: Number) {
+    word(b"number");
+    next(checked.fit as u64);
+    let value = checked.value;
+    next_signed(value);
+    next(checked.places as u64);
+    let exponent = checked.exponent;
+    next_signed(exponent);
+    next(checked.written as u64);
+    word(b"\n");
+}
+
+// A number check, with the least and the most digits that the header has.
+fn number_case(header: &[u8], text: &[u8]) {
+    print_number(numbers::check_number(text, two_at(header, 7), two_at(header, 9)));
+}
+
 // One case.
 fn run_case(header: &[u8], input: &[u8]) {
     let separator = byte_at(header, 1);
@@ -269,6 +308,7 @@ fn run_case(header: &[u8], input: &[u8]) {
         3 => print_span(lookup::element_span(input, separator, asked)),
         4 => print_span(lookup::component_span(input, separator, asked)),
         5 => long_case(header, input),
+        6 => number_case(header, input),
         _ => word(b"no such kind\n"),
     }
 }

@@ -20,6 +20,12 @@ impl Pattern for u64 {
     }
 }
 
+impl Pattern for i64 {
+    fn at(place: usize) -> i64 {
+        -0x5A5A_0000_0000_0000 - place as i64
+    }
+}
+
 impl Pattern for u8 {
     fn at(place: usize) -> u8 {
         (place * 7 + 3) as u8

@@ -1,8 +1,9 @@
 //! Drives the proved library, through its C interface, and the independent reader with the same inputs, line ends skipped and
-//! strictly, and compares the answers, the whole tables and outputs, and guard words around everything that was lent. Ends
-//! with status 1 if anything differs.
+//! strictly, and compares the answers, the whole tables and outputs, the spans of lookups and the numbers of number checks, and
+//! guard words around what was lent. Ends with status 1 if anything differs.
 
 mod lent;
+mod numbers;
 mod outcome;
 mod parts;
 mod rewriting;
@@ -28,12 +29,13 @@ fn run(words: &[String]) -> Result<bool, String> {
     let count = number(words, "--count", COUNT)?;
     let from = number(words, "--from", 0)?;
     println!(
-        "seeds {from} to {}, count {count}, and W1 with every table size and separator",
+        "seeds {from} to {}, count {count}, W1 with every table size and separator, and every short number",
         from + count - 1
     );
     let mut tally = Tally::default();
     parts::rooms(&mut tally);
     parts::sets(&mut tally);
+    numbers::fixed(&mut tally);
     for seed in from..from + count {
         parts::generated(&mut tally, seed);
     }

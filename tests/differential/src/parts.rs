@@ -1,5 +1,6 @@
 //! What is compared: generated reports, every table size, every separator, lookups.
 
+use crate::numbers;
 use crate::outcome::Sizes;
 use crate::rewriting;
 use crate::tally::Tally;
@@ -19,7 +20,8 @@ const EVERY_ROOM_ONE_IN: u64 = 512;
 /// The longest report, in bytes, that is read with every table size.
 const EVERY_ROOM_LONGEST: usize = 600;
 
-/// The case of one seed: its readings, its rewritings, lookups in it and in a BIN, and for some every table size.
+/// The case of one seed: its readings, its rewritings, lookups in it and in a BIN, number checks, and for some every table
+/// size.
 pub fn generated(tally: &mut Tally, seed: u64) {
     let case = report(seed);
     let name = format!("seed {seed}");
@@ -31,6 +33,7 @@ pub fn generated(tally: &mut Tally, seed: u64) {
     rewriting::compare(tally, &name, &case.input, sets, unnamed, with_output);
     look_up(tally, &name, &case);
     look_up_bin(tally, &name, &case);
+    numbers::generated(tally, &name, &case);
     if seed.is_multiple_of(EVERY_ROOM_ONE_IN) && case.input.len() <= EVERY_ROOM_LONGEST {
         every_room(tally, &name, &case.input, case.separators);
     }

@@ -16,6 +16,8 @@ pub struct Tally {
     readings: [u64; ANSWERS],
     rewritings: [u64; ANSWERS],
     lookups: u64,
+    /// Number checks, and how many of them had a number.
+    numbers: [u64; 2],
     differences: usize,
 }
 
@@ -59,6 +61,12 @@ impl Tally {
         self.rewritings[(answer as usize).min(ANSWERS - 1)] += 1;
     }
 
+    /// Counts one number check, of a number or of a text that is none.
+    pub fn checked(&mut self, fit: bool) {
+        self.numbers[0] += 1;
+        self.numbers[1] += u64::from(fit);
+    }
+
     /// Tells of a difference.
     pub fn differs(&mut self, name: &str, difference: &str, input: &[u8], given: &str) {
         self.differences += 1;
@@ -84,6 +92,7 @@ impl Tally {
             println!();
         }
         println!("lookups {}", self.lookups);
+        println!("numbers {}; fit {}", self.numbers[0], self.numbers[1]);
         println!("differences {}", self.differences);
     }
 }

@@ -1,7 +1,8 @@
-//! The element rules of document 01: answers 9, 8, 10 and 11.
+//! The element rules of document 01, and of document 02, Item 6: answers 9, 8, 10 and 11.
 
 use crate::answer::Fault;
 use crate::cut::{Cut, CAPITAL, COMPONENT, DIGIT};
+use crate::number::{self, MOST_DIGITS};
 use crate::rows::{Tag, TAG_COUNT};
 use crate::types;
 
@@ -14,7 +15,7 @@ pub enum Type {
     ID,
     /// Digits.
     N0,
-    /// A decimal number; only digits count for length.
+    /// A decimal number, with an exponent or without; only the digits before that count for length.
     R,
     /// A date.
     DT,
@@ -84,7 +85,9 @@ const fn id(least: usize, most: usize) -> Element {
     element(Type::ID, least, most)
 }
 
+/// Its lengths count digits, and no number may have more than fifteen.
 const fn r(least: usize, most: usize) -> Element {
+    assert!(1 <= least && most <= MOST_DIGITS);
     element(Type::R, least, most)
 }
 
@@ -260,7 +263,8 @@ fn fits(rule: &Element, cut: &Cut, input: &[u8], number: usize, component: u8) -
         Type::AN => held & COMPONENT == 0 && within(rule, length),
         Type::ID => held & !(DIGIT | CAPITAL) == 0 && within(rule, length),
         Type::N0 => held & !DIGIT == 0 && within(rule, length),
-        Type::R => decimal(rule, &input[from..to]),
+        Type::R if held & !DIGIT == 0 => within(rule, length),
+        Type::R => number::fits(&input[from..to], rule.least, rule.most),
         Type::DT => types::date(&input[from..to]),
         Type::TM => types::time(&input[from..to]),
         Type::Is842 => input[from..to] == *b"842",
@@ -274,11 +278,6 @@ fn within(rule: &Element, length: usize) -> bool {
     rule.least <= length && length <= rule.most
 }
 
-/// Whether the bytes are a number of type R within the rule's bounds.
-fn decimal(rule: &Element, bytes: &[u8]) -> bool {
-    matches!(types::decimal_digits(bytes), Some(digits) if within(rule, digits))
-}
-
 /// Whether every component of NCA05 that is there fits its type and length.
 fn components_fit(bytes: &[u8], component: u8) -> bool {
     bytes
@@ -290,7 +289,7 @@ fn components_fit(bytes: &[u8], component: u8) -> bool {
 /// Whether one component that is there fits its type and length.
 fn component_fits(rule: &Element, bytes: &[u8]) -> bool {
     match rule.kind {
-        Type::R => decimal(rule, bytes),
+        Type::R => number::fits(bytes, rule.least, rule.most),
         _ => within(rule, bytes.len()) && bytes.iter().all(|b| b.is_ascii_uppercase() || b.is_ascii_digit()),
     }
 }

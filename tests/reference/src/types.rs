@@ -1,21 +1,5 @@
-//! The types R, DT and TM, which the kinds of bytes alone do not settle
+//! The types DT and TM, which the kinds of bytes alone do not settle
 //! (document 01, "Element rules").
-
-/// R: an optional leading `-`, digits, at most one `.`, at least one digit. Gives how many digits
-/// it has, which alone count for length; none if it is no such number.
-pub fn decimal_digits(text: &[u8]) -> Option<usize> {
-    let figures = text.strip_prefix(b"-").unwrap_or(text);
-    let mut digits = 0;
-    let mut points = 0;
-    for byte in figures {
-        match byte {
-            b'0'..=b'9' => digits += 1,
-            b'.' => points += 1,
-            _ => return None,
-        }
-    }
-    (digits >= 1 && points <= 1).then_some(digits)
-}
 
 /// DT: eight digits CCYYMMDD that are a real Gregorian date.
 pub fn date(text: &[u8]) -> bool {
@@ -65,31 +49,6 @@ fn two(tens: u8, ones: u8) -> u32 {
 #[cfg(test)]
 mod tests {
     use super::*;
-
-    #[test]
-    fn numbers_of_type_r() {
-        for (text, digits) in [
-            ("5", 1),
-            ("5.", 1),
-            (".5", 1),
-            ("-.5", 1),
-            ("-5", 1),
-            ("-5.", 1),
-            ("007.50", 5),
-            ("0", 1),
-            ("-0.0", 2),
-            ("123456789012345", 15),
-            ("-1234567.89012345", 15),
-            ("1234567890123456", 16),
-        ] {
-            assert_eq!(decimal_digits(text.as_bytes()), Some(digits), "{text}");
-        }
-        for text in
-            ["", ".", "-", "-.", "+1", "1-", "--1", "1.2.3", "..1", " 1", "1 ", "1E2", "1,2", "A", "5:"]
-        {
-            assert_eq!(decimal_digits(text.as_bytes()), None, "{text}");
-        }
-    }
 
     #[test]
     fn dates_agree_with_a_calendar_walked_day_by_day() {

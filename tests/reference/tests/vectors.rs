@@ -2,7 +2,7 @@
 
 mod plainly;
 
-use reference::plain::read_plain;
+use reference::plain::{number_plain, read_plain};
 use reference::vectors::{generated, groups, Case, How, FILE_BYTES, OUTPUT_BYTES, TABLE_NUMBERS};
 use reference::{component_span, rewrite, LineEnds, Separators};
 use std::collections::BTreeSet;
@@ -31,8 +31,9 @@ fn names_and_limits() {
     assert_eq!(
         names,
         [
-            "answers", "astray", "attached", "bounds", "levels", "lines", "long", "lookups", "pairs",
-            "rewriting", "rooms", "rowsa", "rowsb", "rowsc", "rowsd", "separators", "truncated", "worked"
+            "answers", "astray", "attached", "bounds", "levels", "lines", "long", "lookups", "numbers",
+            "pairs", "quantities", "rewriting", "rooms", "rowsa", "rowsb", "rowsc", "rowsd", "separators",
+            "truncated", "worked"
         ]
     );
     let mut names: Vec<String> = Vec::new();
@@ -66,6 +67,24 @@ fn line(name: &str, numbers: impl Iterator<Item = u64>) -> String {
     format!("{name}{numbers}\n")
 }
 
+/// What a program prints for a lookup or a number check, with plain ones; nothing for any other kind.
+fn looked_up(header: &[u8], input: &[u8]) -> Option<String> {
+    let asked = number(&header[11..13]);
+    if header[0] == 6 {
+        assert_eq!((&header[1..7], asked), (&[0; 6][..], 0));
+        let [fit, value, places, exponent, written] =
+            number_plain(input, number(&header[7..9]), number(&header[9..11])).numbers();
+        return Some(format!("number {fit} {value} {places} {exponent} {written}\n"));
+    }
+    let (start, length) = match header[0] {
+        3 => plainly::element(input, header[1], asked),
+        4 => component_span(input, header[1], asked),
+        _ => return None,
+    };
+    assert_eq!(header[2..11], [0; 9]);
+    Some(format!("span {start} {length}\n"))
+}
+
 /// What a program prints for a file, with the plain reader.
 fn played(name: &str, mut file: &[u8]) -> String {
     let mut out = format!("file {name}\n");
@@ -76,13 +95,8 @@ fn played(name: &str, mut file: &[u8]) -> String {
         let old = Separators::new(header[1], header[2], header[3]);
         let new = Separators::new(header[4], header[5], header[6]);
         let asked = number(&header[11..13]);
-        if header[0] == 3 || header[0] == 4 {
-            assert_eq!(header[2..11], [0; 9]);
-            let (start, length) = match header[0] {
-                3 => plainly::element(input, header[1], asked),
-                _ => component_span(input, header[1], asked),
-            };
-            out += &format!("span {start} {length}\n");
+        if let Some(printed) = looked_up(header, input) {
+            out += &printed;
             continue;
         }
         let mut segments: Vec<u64> = (0..number(&header[7..9]) as u64).map(|at| 700_000 + at).collect();

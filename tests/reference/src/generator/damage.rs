@@ -1,7 +1,7 @@
 //! Damage to a report, to its segments and elements or to its bytes.
 
 use super::draft::{Draft, Segment, Style};
-use super::{attached, Random};
+use super::{attached, numbers, Random};
 use crate::rows::{Tag, TAGS};
 use crate::{Separators, CODES};
 
@@ -11,7 +11,7 @@ pub fn segments(random: &mut Random, draft: &mut Draft, times: usize) {
     let style = Style { separators: draft.separators, mixed: random.chance(50) };
     let mut closing_hit = false;
     for _ in 0..times {
-        match random.below(16) {
+        match random.below(18) {
             0 => copy_segment(random, draft),
             1 => remove_segment(random, draft),
             2 => swap_segments(random, draft),
@@ -22,6 +22,7 @@ pub fn segments(random: &mut Random, draft: &mut Draft, times: usize) {
             11 => change_composite(random, &style, draft),
             12 => clear_element(random, draft),
             13 | 14 => attached::damage(random, &style, draft),
+            15 | 16 => change_number(random, &style, draft),
             _ => {
                 closing_hit = true;
                 change_closing(random, &style, draft);
@@ -165,6 +166,13 @@ fn change_composite(random: &mut Random, style: &Style, draft: &mut Draft) {
     *composite = components.join(&style.separators.component);
 }
 
+/// Breaks a number; where none can stand, another element changes.
+fn change_number(random: &mut Random, style: &Style, draft: &mut Draft) {
+    if !numbers::damage(random, style, draft) {
+        change_element(random, style, draft);
+    }
+}
+
 fn change_text(random: &mut Random, style: &Style, text: &mut Vec<u8>) {
     let inside = random.below(text.len() + 1);
     match random.below(12) {
@@ -175,8 +183,8 @@ fn change_text(random: &mut Random, style: &Style, text: &mut Vec<u8>) {
         6 => drop(text.pop()),
         7 => *text = style.text(random, 1, 15),
         8 => *text = style.code(random, 1, 9),
-        9 => text.insert(inside, *random.pick(b"-.+ aZ09")),
-        10 => *text = (0..random.below(16)).map(|_| *random.pick(b"0123456789.-")).collect(),
+        9 => text.insert(inside, *random.pick(b"-.+ aZE09")),
+        10 => *text = (0..random.below(16)).map(|_| *random.pick(b"0123456789.-E")).collect(),
         _ => {
             let many = vec![style.separators.component; 13 + random.below(5)];
             *text = [b"EA", &many[..], b"EA"].concat();

@@ -1,7 +1,7 @@
 //! A valid report as pieces, before it becomes bytes.
 
 use super::lines::Lines;
-use super::{attached, Random};
+use super::{attached, numbers, Random};
 use crate::rows::{Tag, MOST, NEXT, TAGS};
 use crate::{Separators, CODES};
 
@@ -201,7 +201,6 @@ fn trimmed(mut segment: Segment) -> Segment {
 }
 
 const CAPITALS: &[u8] = b"ABCDEFGHIJKLMNOPQRSTUVWXYZ0123456789";
-const DIGITS: &[u8] = b"0123456789";
 
 impl Style {
     /// A length between two bounds; the bounds themselves come often.
@@ -238,17 +237,10 @@ impl Style {
         (0..length).map(|_| *random.pick(CAPITALS)).collect()
     }
 
-    /// A number of type R.
+    /// A number of type R with at most so many digits.
     fn decimal(&self, random: &mut Random, most: usize) -> Vec<u8> {
-        let length = self.length(random, 1, most);
-        let mut number: Vec<u8> = (0..length).map(|_| *random.pick(DIGITS)).collect();
-        if random.chance(40) {
-            number.insert(random.below(length + 1), b'.');
-        }
-        if random.chance(30) {
-            number.insert(0, b'-');
-        }
-        number
+        let digits = self.length(random, 1, most);
+        numbers::with_digits(random, digits)
     }
 
     /// A date.

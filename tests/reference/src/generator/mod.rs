@@ -5,9 +5,11 @@ mod attached;
 mod damage;
 mod draft;
 mod lines;
+mod numbers;
 mod random;
 
 pub use attached::counted_segment;
+pub use numbers::number_text;
 pub use random::Random;
 
 use crate::{Separators, LEVEL_NUMBERS, LONGEST, SEGMENT_NUMBERS};

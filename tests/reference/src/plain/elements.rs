@@ -1,5 +1,6 @@
 //! The element rules as the paper prints them, and the tests 9, 8, 10 and 11.
 
+use super::number::number_plain;
 use super::Fault;
 
 /// The rules that the paper prints element by element.
@@ -21,7 +22,7 @@ pub enum Kind {
     ID,
     /// Digits.
     N0,
-    /// A decimal number.
+    /// A decimal number, with an exponent or without.
     R,
     /// A date.
     DT,
@@ -272,15 +273,7 @@ impl Rule {
                 bounds.contains(&text.len()) && text.iter().all(|byte| known.contains(byte))
             }
             Kind::N0 => bounds.contains(&text.len()) && digits(text),
-            Kind::R => {
-                let unsigned = if text.starts_with(b"-") { &text[1..] } else { text };
-                let parts: Vec<&[u8]> = unsigned.split(|byte| *byte == b'.').collect();
-                let count = parts.iter().map(|part| part.len()).sum();
-                parts.len() <= 2
-                    && parts.iter().all(|part| digits(part))
-                    && count >= 1
-                    && bounds.contains(&count)
-            }
+            Kind::R => number_plain(text, self.least, self.most).fit,
             Kind::DT => bounds.contains(&text.len()) && digits(text) && real_date(text),
             Kind::TM => {
                 matches!(text.len(), 4 | 6 | 7 | 8)

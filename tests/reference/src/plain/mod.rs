@@ -1,16 +1,18 @@
 //! The same reading in the plainest way: slow, allocating, and taken from the words of document 01 and
-//! of document 02, Items 1, 3 and 5.
+//! of document 02, Items 1, 3, 5 and 6.
 //!
-//! It shares with the fast reader only the types of the separators, of the choice between readings and
-//! of the answer. The row list and the element rules are read from the paper's text at run time, and
-//! rows are found from the bracketed list itself by keeping every way in which the list may still go
-//! on.
+//! It shares with the fast reader only the types of the separators, of the choice between readings, of
+//! the answer and of a number. The row list and the element rules are read from the paper's text at run
+//! time, rows are found from the bracketed list itself by keeping every way in which the list may still
+//! go on, and numbers in a list of all forms that one may have.
 
 mod elements;
+mod number;
 mod rows;
 mod segment;
 
 pub use elements::{rules, Kind, Note, Rule, Rules};
+pub use number::{forms, number_plain, Form};
 pub use rows::{candidates, first_ways, parse, Part, Ways, PAPER};
 
 use crate::{Answer, LineEnds, Separators};

@@ -10,6 +10,9 @@ use crate::vectors::text::start_of;
 use crate::vectors::{groups, Case, Group, How, Told};
 use crate::Separators;
 
+/// The groups of vectors that the program is given.
+const TAKEN: [&str; 7] = ["answers", "astray", "attached", "levels", "lines", "quantities", "worked"];
+
 /// How many generated reports there are.
 const GENERATED: usize = 100;
 
@@ -53,7 +56,7 @@ pub fn reports() -> Vec<Report> {
 /// The vectors that the program can be given: readings by the default with the standard separators. Those
 /// that lack room, W10 among them, cannot be: the program's room is its own, and `limits` goes to its end.
 fn of_vectors(group: Group) -> Vec<Report> {
-    if !["answers", "astray", "attached", "levels", "lines", "worked"].contains(&group.name.as_str()) {
+    if !TAKEN.contains(&group.name.as_str()) {
         return Vec::new();
     }
     let report = |(number, told): (usize, _)| match told {

@@ -237,12 +237,11 @@ fn composites() -> Vec<Told> {
 /// Numbers, dates, times, codes and texts.
 fn types() -> Vec<Told> {
     let mut cases = Vec::new();
-    for number in ["5.", ".5", "-.5", "-5", "0", "00000", "-123456789.012345", "1.00000"] {
-        cases.push(accepted(in_fault(&[&format!("NCA**R1**{number}*EA")]), 6, 1));
-    }
-    for number in [".", "-", "-.", "+1", "1.2.3", "1-", "1E2", " 1", "1234567890123456"] {
-        cases.push(refused(in_fault(&[&format!("NCA**R1**{number}*EA")]), 10, 5, 4));
-    }
+    let fit = |number: &str| accepted(in_fault(&[&format!("NCA**R1**{number}*EA")]), 6, 1);
+    let unfit = |number: &str| refused(in_fault(&[&format!("NCA**R1**{number}*EA")]), 10, 5, 4);
+    cases.extend(["5.", ".5", "-.5", "-5", "0", "00000", "-123456789.012345", "1.00000"].map(fit));
+    cases.extend([".", "-", "-.", "+1", "1.2.3", "1-"].map(unfit));
+    cases.extend([fit("1E2"), unfit(" 1"), unfit("1234567890123456")]);
     for date in ["00000229", "20000229", "99991231", "20240131", "20240430"] {
         cases.push(accepted(in_heading(&[&format!("DTM*002*{date}")]), 5, 1));
     }

@@ -1,6 +1,6 @@
 //! One case: how it is written into a file, and what is printed for it.
 
-use crate::{component_span, element_span, read, rewrite, Answer, LineEnds, Separators};
+use crate::{component_span, element_span, number, read, rewrite, Answer, LineEnds, Number, Separators};
 
 /// How a report is read: the byte of a case that says so. Only its lowest bit is looked at.
 #[derive(Clone, Copy, Debug, PartialEq, Eq)]
@@ -79,6 +79,15 @@ pub enum Case {
         /// The number asked for.
         number: usize,
     },
+    /// Kind 6.
+    Number {
+        /// The text to check.
+        text: Vec<u8>,
+        /// The least number of digits.
+        least: usize,
+        /// The greatest number of digits.
+        most: usize,
+    },
 }
 
 /// A case, with the answer's four numbers where they are known without any reader.
@@ -154,6 +163,7 @@ impl Case {
             Case::Component { element, separator, number } => {
                 (4, Separators::new(*separator, 0, 0), none, (0, 0), *number, element)
             }
+            Case::Number { text, least, most } => (6, none, none, (*least, *most), 0, text),
         };
         file.extend([kind, old.element, old.component, old.terminator]);
         file.extend([new.element, new.component, new.terminator]);
@@ -189,6 +199,7 @@ impl Case {
             Case::Component { element, separator, number } => {
                 print_span(out, component_span(element, *separator, *number));
             }
+            Case::Number { text, least, most } => print_number(out, number(text, *least, *most)),
         }
     }
 }
@@ -230,4 +241,8 @@ fn print_line<T: ToString>(out: &mut String, name: &str, numbers: &[T]) {
 
 fn print_span(out: &mut String, (start, length): (usize, usize)) {
     out.push_str(&format!("span {start} {length}\n"));
+}
+
+fn print_number(out: &mut String, number: Number) {
+    print_line(out, "number", &number.numbers());
 }

@@ -10,8 +10,10 @@ pub mod levels;
 mod lines;
 mod long;
 mod lookups;
+pub mod numbers;
 mod pairs;
 mod places;
+mod quantities;
 mod rewriting;
 mod sets;
 pub mod text;
@@ -51,7 +53,9 @@ pub fn groups() -> Vec<Group> {
         ("lines", lines::cases()),
         ("long", long::cases()),
         ("lookups", lookups::cases()),
+        ("numbers", numbers::cases()),
         ("pairs", pairs::cases()),
+        ("quantities", quantities::cases()),
         ("rewriting", rewriting::cases()),
         ("rooms", whole::rooms()),
         ("separators", sets::cases()),
