@@ -1,5 +1,6 @@
-// The usual ruled segments with no component separator, whose elements are told to suit their rules by quick tests: shortcuts, which state
-// no rule. Each is proved to pass only what the rule of its element passes; any other segment is left to the rules themselves.
+// The usual ruled segments with no component separator, whose elements are told to suit their rules by quick tests and, of a number, by its
+// check: shortcuts, which state no rule. Each is proved to pass only what the rule of its element passes; any other segment is left to the
+// rules themselves.
 ghost use mathlib.Core.Path.{_≡_};
 ghost use mathlib.Core.Bool.{true};
 ghost use Rattle.text.specs.Bytes.{bytes};
@@ -34,14 +35,17 @@ fn id_suits(p: &[u8], must: bool, least: usize, most: usize) -> bool
     quick::short_id(p, least, most)
 }
 
-// Digits of a length from least to most, or nothing where the element may be absent.
+// A number with from least to most digits, mostly digits alone, or nothing where the element may be absent.
 fn real_suits(p: &[u8], must: bool, least: usize, most: usize) -> bool
     ensures { λ r. ⌜ (r ≡ true → Suits (simple must R least most) (now (p .entry))) ⌝ }
 {
     if p.len() == 0 {
         return !must;
     }
-    quick::digits_alone(p, least, most)
+    if quick::digits_alone(p, least, most) {
+        return true;
+    }
+    values::fits(Kind::R, least, most, p)
 }
 
 // An early date of a length from least to most, or nothing where the element may be absent.
