@@ -1,5 +1,6 @@
 pub mod Figures
 pub mod Signs
+pub mod FirstDigits
 pub mod NumberParts
 pub mod NumberChecks
 pub mod NumberLaws

@@ -14,7 +14,8 @@ use Rattle.types.specs.Types.{isNumber}
 use Rattle.types.specs.Numbers.{signed, valueIn, exponentIn}
 use Rattle.types.specs.Worth.{Alike, sign, MovesThePoint}
 use Rattle.types.proofs.Signs.{sign-is, unsigned-is}
-use Rattle.types.proofs.NumberParts.{digits-positive, digitsIn, placesIn, digits-front, places-front, upto-digits, after-digits}
+use Rattle.types.proofs.FirstDigits.{digits-positive}
+use Rattle.types.proofs.NumberParts.{digitsIn, placesIn, digits-front, places-front, upto-digits, after-digits}
 
 abbrev E : ℕ
 E = byte "E"

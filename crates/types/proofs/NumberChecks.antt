@@ -20,7 +20,8 @@ use Rattle.types.specs.internal.NumberParts.{firstDigits, Digits, expone
 use Rattle.types.specs.internal.Parts.{Valued}
 use Rattle.types.specs.declared.kind.Kind.the-variants.{R}
 use Rattle.types.proofs.Figures.{value-append, value-small, valued, valued-behind}
-use Rattle.types.proofs.NumberParts.{digits-positive, behindDigits, fraction, run-digits, Ends, ended, raised, Outcome, fine, spoilt, parted, upto-bare, after-bare, digits-free}
+use Rattle.types.proofs.FirstDigits.{digits-positive, behindDigits, run-digits}
+use Rattle.types.proofs.NumberParts.{fraction, Ends, ended, raised, Outcome, fine, spoilt, parted, upto-bare, after-bare, digits-free}
 
 -- digits alone have neither sign nor point nor exponent
 module _ (s : Bytes) (e : isNumber s ≡ true) where

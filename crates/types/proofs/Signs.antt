@@ -15,6 +15,11 @@ use Rattle.types.specs.Reals.{isNegative, unsigned}
 use Rattle.types.specs.Numbers.{signed}
 use Rattle.types.specs.Worth.{sign}
 
+-- a number below 0
+pub negative-fits : (n : ℕ) → n < 9223372036854775808 → SFits w64 (negℤ (pos n))
+negative-fits zero l = record { sfits = omega arith }
+negative-fits (suc n) l = record { sfits = omega arith }
+
 module _ (n : ℕ) (small : n < 1000000000000000) where
   pub positive-is : toZ w64 n ≡ pos n
   positive-is = rw (lt-ltb n 9223372036854775808 (omega arith))
@@ -22,22 +27,15 @@ module _ (n : ℕ) (small : n < 1000000000000000) where
   negated : pos 0 -ℤ toZ w64 n ≡ negℤ (pos n)
   negated = ap (λ (z : ℤ). pos 0 -ℤ z) positive-is ∙ +ℤ-idl (negℤ (pos n))
 
-  negative-fits : SFits w64 (negℤ (pos n))
-  negative-fits = by n small
-    where
-      by : (m : ℕ) → m < 1000000000000000 → SFits w64 (negℤ (pos m))
-      by zero l = record { sfits = omega arith }
-      by (suc m) l = record { sfits = omega arith }
-
   pub negation-fits : SFits w64 (pos 0 -ℤ toZ w64 n)
-  negation-fits = rw negated negative-fits
+  negation-fits = rw negated (negative-fits n (omega arith))
 
   pub negation-is : toZ w64 (ofZ w64 (pos 0 -ℤ toZ w64 n)) ≡ negℤ (pos n)
   negation-is = toZ-ofZ negation-fits ∙ negated
 
 -- a size with a sign comes back out of its 64 bits
 pub signed-stays : (negative : Bool) (n : ℕ) → n < 1000000000000000 → toZ w64 (ofZ w64 (signed negative n)) ≡ signed negative n
-signed-stays true n small = toZ-ofZ (negative-fits n small)
+signed-stays true n small = toZ-ofZ (negative-fits n (omega arith))
 signed-stays false n small = positive-is n small
 
 -- a sign in front of a text that begins with none, unless one stands there

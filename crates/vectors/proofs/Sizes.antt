@@ -11,6 +11,7 @@ use lib.Signed.{nonNeg, leZ}
 use mir.Syntax.{w64}
 use mir.Val.{Fits, SFits, toZ, ofZ}
 use mir.Facts.{toZ-ofZ}
+use Rattle.types.proofs.Signs.{negative-fits}
 
 -- what 64 bits hold of a number that fits
 abbrev held : ℤ → ℤ
@@ -31,10 +32,6 @@ pub record Below (n : ℤ) : Type 0 where
 step : (k : ℕ) → negsuc k +ℤ pos 1 ≡ negℤ (pos k)
 step zero = refl
 step (suc k) = +ℤ-one (negsuc (suc k))
-
-negative-fits : (k : ℕ) → k < 9223372036854775808 → SFits w64 (negℤ (pos k))
-negative-fits zero l = record { sfits = omega arith }
-negative-fits (suc k) l = record { sfits = omega arith }
 
 pub below : (n : ℤ) → SFits w64 n → leZ (pos 0) (held n) ≡ false → Below n
 below (pos k) f e = absurd (true≢false (sym (le-leb 0 k (omega arith)) ∙ ap (leZ (pos 0)) (sym (toZ-ofZ f)) ∙ e))

@@ -1,7 +1,7 @@
 -- `begins` meets its contract: an empty text begins with no byte.
 -- Assumes nothing.
 use denote.Ref.{now}
-use Rattle.types.proofs.NumberParts.{begins-none, begins-first}
+use Rattle.types.proofs.FirstDigits.{begins-none, begins-first}
 use borrow.Author.Needs.{needs}
 use Rattle.types.proofs.numbers.begins.Statement.{statement}
 use Rattle.types.proofs.numbers.begins.Tie as tie

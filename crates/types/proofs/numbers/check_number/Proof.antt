@@ -12,7 +12,7 @@ use Rattle.text.proofs.Tests.{and-first, and-second}
 use Rattle.types.specs.Reals.{past, unsigned}
 use Rattle.types.specs.internal.NumberParts.{firstDigits, exponentOf}
 use Rattle.types.specs.declared.numbers.Exponent.{Exponent}
-use Rattle.types.proofs.NumberParts.{run-digits, run-inside, rest-part}
+use Rattle.types.proofs.FirstDigits.{run-digits, run-inside, rest-part}
 use Rattle.types.proofs.NumberChecks.{counted, wholeOf, behindOf, fractionOf, restOf, countOf, check-count, check-exponent, check-number}
 use borrow.Author.Needs.{needs}
 use Rattle.types.proofs.numbers.check_number.Statement.{statement}

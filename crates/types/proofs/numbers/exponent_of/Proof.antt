@@ -15,7 +15,7 @@ use Rattle.text.specs.Bytes.{valueOf}
 use Rattle.types.specs.Types.{isNumber}
 use Rattle.types.specs.Reals.{isNegative, unsigned, isExponent}
 use Rattle.types.specs.Numbers.{signed}
-use Rattle.types.proofs.NumberParts.{exponent-none, exponent-other, exponent-unfit, exponent-fit}
+use Rattle.types.proofs.FirstDigits.{exponent-none, exponent-other, exponent-unfit, exponent-fit}
 use Rattle.types.proofs.Figures.{value-small}
 use Rattle.types.proofs.Signs.{signed-stays}
 use Rattle.types.proofs.NumberChecks.{exponent-valued, exponent-valued-as}

@@ -5,7 +5,7 @@ use mathlib.Core.Path.{sym, _∙_}
 use lib.ListN.{length}
 use lib.Seq.{length-take-le}
 use borrow.Author.Tests.{not-true, not-false}
-use Rattle.types.proofs.NumberParts.{Running, running-none, running-more, running-stops, running-ends}
+use Rattle.types.proofs.FirstDigits.{Running, running-none, running-more, running-stops, running-ends}
 use native.Mathlib.Omega.{arith}
 use borrow.Author.Needs.{needs}
 use Rattle.types.proofs.numbers.first_digits.Statement.{statement}

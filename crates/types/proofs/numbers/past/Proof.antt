@@ -3,7 +3,7 @@
 use mathlib.Core.Path.{sym, _∙_}
 use denote.Ref.{now}
 use Rattle.text.proofs.Lists.{part-from}
-use Rattle.types.proofs.NumberParts.{begins-length}
+use Rattle.types.proofs.FirstDigits.{begins-length}
 use borrow.Author.Needs.{needs}
 use Rattle.types.proofs.numbers.past.Statement.{statement}
 use Rattle.types.proofs.numbers.past.Tie as tie
