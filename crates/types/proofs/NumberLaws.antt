@@ -7,21 +7,21 @@ use mathlib.Core.List.{[], _∷_, _++_, append-nil}
 use native.Mathlib.Omega.{arith}
 use native.Mathlib.Nat.{mul-assoc, add-mul, zero-mul, pow-succ'}
 use lib.Dec.{leb, eqb}
-use lib.IntN.{ℤ, pos, _*ℤ_, negsuc-*ℤ-pos}
+use lib.IntN.{ℤ, pos, negℤ, natAbs, _+ℤ_, _-ℤ_, _*ℤ_, +ℤ-assoc, negsuc-*ℤ-pos}
 use lib.ListN.{length, drop, replicate, length-append, length-replicate}
 use lib.Pow.{pow-add}
-use borrow.Author.Tests.{ne-eqb, eqb-false, le-leb, leb-true}
+use borrow.Author.Tests.{le-ltb, ne-eqb, eqb-false, le-leb, leb-true}
 use Rattle.text.specs.Bytes.{Bytes, byte, between, every, among, valueFrom, valueOf}
 use Rattle.text.specs.Separators.{isDigit}
 use Rattle.types.specs.Reals.{upto, after, isNegative, unsigned, mantissa, digits, places, isWritten, exponentText, isExponent, isReal}
-use Rattle.types.specs.Numbers.{signed, unfit, checked}
+use Rattle.types.specs.Numbers.{exponentIn, signed, unfit, checked}
 use Rattle.types.specs.Types.{isNumber, fits}
 use Rattle.text.proofs.Everys.{every-both}
 use Rattle.text.proofs.Tests.{and-first, and-second}
 use Rattle.types.proofs.Signs.{sign-is, unsigned-is}
 use Rattle.types.proofs.NumberParts.{digitsIn, placesIn, digits-front, places-front, upto-free, after-free, among-free, upto-bare, after-bare, after-digits, among-digits}
 use Rattle.types.specs.declared.numbers.Number.{Number}
-use Rattle.types.specs.Worth.{worth, wholes, TellsWorth, padded, ZerosTellNothing, pointed, PointTellsNothing}
+use Rattle.types.specs.Worth.{worth, wholes, TellsWorth, AlikeInWorth, padded, ZerosTellNothing, pointed, PointTellsNothing}
 
 -- what digits write behind a number
 value-behind : (n : ℕ) (s : Bytes) → valueFrom n s ≡ n * 10 ^ length s + valueOf s
@@ -55,6 +55,21 @@ tells-worth s n m e l =
     ap (λ (i : ℕ). signed (isNegative s) (worth i (digits s))) count
     ∙ ap (signed (isNegative s)) (worth-value k (digits s))
     ∙ signed-times (isNegative s) (valueOf (digits s)) (10 ^ k)
+
+-- m - p, and the scale of a text in units of which ten to the n make one
+less : (m p : ℕ) → p ≤ m → pos m -ℤ pos p ≡ pos (m - p)
+less m zero l = ap pos (omega arith)
+less m (suc p) l = rw (le-ltb m (suc p) l)
+
+scaled : (s : Bytes) (n m : ℕ) → pos n +ℤ exponentIn s ≡ pos m → places s ≤ m → pos (m - places s) ≡ pos n +ℤ (exponentIn s -ℤ pos (places s))
+scaled s n m e l =
+    sym (less m (places s) l) ∙ ap (λ (z : ℤ). z -ℤ pos (places s)) (sym e) ∙ +ℤ-assoc (pos n) (exponentIn s) (negℤ (pos (places s)))
+
+pub alike-in-worth : (s t : Bytes) → AlikeInWorth s t
+alike-in-worth s t a n m k e f l o =
+    let same : m - places s ≡ k - places t =
+    ap natAbs (scaled s n m e l ∙ ap (λ (z : ℤ). pos n +ℤ z) (a .scale) ∙ sym (scaled t n k f o)) in
+    tells-worth s n m e l ∙ (λ i. a .value i *ℤ pos (10 ^ same i)) ∙ sym (tells-worth t n k f o)
 
 -- the number and the check of a text by its parts: sign, digits, places, whether an exponent is written, and its text
 abbrev numberBy : Bool → ℕ → ℕ → Bool → Bytes → Number

@@ -29,6 +29,6 @@ numberIn s = record { fit = true; value = valueIn s; places = places s; exponent
 abbrev pub unfit : Number
 unfit = record { fit = false; value = pos 0; places = 0; exponent = pos 0; written = false }
 
--- "Checking type R now hands back" the number of a text that fits, with the least and the most digits, and zeros of any other
+-- the check: of a text that fits, with the least and the most digits, its number, and of any other zeros
 unfoldable pub checked : ℕ → ℕ → Bytes → Number
 checked least most s = cond (fits R least most s) (numberIn s) unfit

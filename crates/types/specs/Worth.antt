@@ -32,10 +32,15 @@ worthAt m s = signed (isNegative s) (worth (wholes s + m) (digits s))
 abbrev pub TellsWorth : Bytes → Type 0
 TellsWorth s = (n m : ℕ) → pos n +ℤ exponentIn s ≡ pos m → places s ≤ m → worthAt m s ≡ valueIn s *ℤ pos (10 ^ (m - places s))
 
--- two texts whose numbers are worth the same by one value and one scale
+-- two texts whose numbers have one value and one scale, the exponent less the places
 pub record Alike (s t : Bytes) : Type 0 where
   pub value : valueIn s ≡ valueIn t
   pub scale : exponentIn s -ℤ pos (places s) ≡ exponentIn t -ℤ pos (places t)
+
+-- such texts are worth the same, in any units that are small enough for both
+abbrev pub AlikeInWorth : Bytes → Bytes → Type 0
+AlikeInWorth s t = Alike s t → (n m k : ℕ) → pos n +ℤ exponentIn s ≡ pos m → pos n +ℤ exponentIn t ≡ pos k → places s ≤ m → places t ≤ k
+    → worthAt m s ≡ worthAt k t
 
 -- a `-`, or none
 abbrev pub sign : Bool → Bytes
