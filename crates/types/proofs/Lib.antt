@@ -3,7 +3,8 @@ pub mod Signs
 pub mod FirstDigits
 pub mod NumberParts
 pub mod NumberChecks
-pub mod NumberLaws
+pub mod TextWorth
+pub mod SameNumber
 pub mod MovedPoint
 pub mod Months
 pub mod Fitting

@@ -115,20 +115,8 @@ abbrev pub countOf : Bytes → ℕ
 countOf s = length (wholeOf s) + length (fractionOf s)
 
 module _ (s : Bytes) (least most : ℕ) where
-  abbrev whole : Bytes
-  whole = wholeOf s
-
-  abbrev behind : Bytes
-  behind = behindOf s
-
-  abbrev rest : Bytes
-  rest = restOf s
-
-  abbrev count : ℕ
-  count = countOf s
-
-  count-is : length (whole ++ firstDigits behind) ≡ count
-  count-is = length-append whole (firstDigits behind)
+  count-is : length (wholeOf s ++ fractionOf s) ≡ countOf s
+  count-is = length-append (wholeOf s) (fractionOf s)
 
   -- what is not R is not checked to be one
   not-real : isReal s ≡ false → unfit ≡ checked least most s
@@ -139,57 +127,57 @@ module _ (s : Bytes) (least most : ℕ) where
   unfolding isReal
   not-digits e = rw e
 
-  pub check-count : counted least most count ≡ false → unfit ≡ checked least most s
+  pub check-count : counted least most (countOf s) ≡ false → unfit ≡ checked least most s
   unfolding checked fits isReal
   check-count h = by (parted (unsigned s))
     where
-      by : Outcome (unsigned s) (whole ++ firstDigits behind) (firstDigits behind) rest → unfit ≡ checked least most s
+      by : Outcome (unsigned s) (wholeOf s ++ fractionOf s) (fractionOf s) (restOf s) → unfit ≡ checked least most s
       by (fine p) =
-          let n : length (digits s) ≡ count = ap length (p .digits-are) ∙ count-is in
-          let out = counted-out (leb 1 count) (leb count 15) (leb least count) (leb count most) (isNumber (digits s))
+          let n : length (digits s) ≡ countOf s = ap length (p .digits-are) ∙ count-is in
+          let out = counted-out (leb 1 (countOf s)) (leb (countOf s) 15) (leb least (countOf s)) (leb (countOf s) most) (isNumber (digits s))
           (not (isWritten s) || isExponent (exponentText s)) h in
           rw (n, out)
       by (spoilt n x) = not-real (not-digits n)
 
-  pub check-exponent : exponentOf rest .fit ≡ false → unfit ≡ checked least most s
+  pub check-exponent : exponentOf (restOf s) .fit ≡ false → unfit ≡ checked least most s
   unfolding isReal
   check-exponent h = not-real (by (parted (unsigned s)))
     where
-      last : Ends (unsigned s) rest → isReal s ≡ false
+      last : Ends (unsigned s) (restOf s) → isReal s ≡ false
       last (ended a b c) = absurd (true≢false (ap (λ (l : Bytes). exponentOf l .fit) (sym a) ∙ h))
       last (raised a b) =
           let no : isExponent (exponentText s) ≡ false = sym (raised-fit (exponentText s)) ∙ ap (λ (l : Bytes). exponentOf l .fit) (sym a) ∙ h in
           rw (b, no) (and-false (isNumber (digits s) && between 1 15 (length (digits s))))
 
-      by : Outcome (unsigned s) (whole ++ firstDigits behind) (firstDigits behind) rest → isReal s ≡ false
+      by : Outcome (unsigned s) (wholeOf s ++ fractionOf s) (fractionOf s) (restOf s) → isReal s ≡ false
       by (fine p) = last (p .ends)
       by (spoilt n x) = not-digits n
 
   -- what stands behind the digits says what is asked of it
   pub record Tailed : Type 0 where
     pub ok : not (isWritten s) || isExponent (exponentText s) ≡ true
-    pub value : exponentOf rest .value ≡ exponentIn s
-    pub written : exponentOf rest .written ≡ isWritten s
+    pub value : exponentOf (restOf s) .value ≡ exponentIn s
+    pub written : exponentOf (restOf s) .written ≡ isWritten s
 
-  tailed : Ends (unsigned s) rest → exponentOf rest .fit ≡ true → Tailed
+  tailed : Ends (unsigned s) (restOf s) → exponentOf (restOf s) .fit ≡ true → Tailed
   tailed (ended a b c) h = record { ok = rw b; value = rw (a, c); written = rw (a, b) }
   tailed (raised a b) h =
       let yes : isExponent (exponentText s) ≡ true = sym (raised-fit (exponentText s)) ∙ ap (λ (l : Bytes). exponentOf l .fit) (sym a) ∙ h in
       record { ok = rw (b, yes); value = rw (a, yes); written = rw (a, b, yes) }
 
-  pub check-number : counted least most count ≡ true → exponentOf rest .fit ≡ true
-      → numberOf (isNegative s) whole (firstDigits behind) (exponentOf rest) ≡ checked least most s
+  pub check-number : counted least most (countOf s) ≡ true → exponentOf (restOf s) .fit ≡ true
+      → numberOf (isNegative s) (wholeOf s) (fractionOf s) (exponentOf (restOf s)) ≡ checked least most s
   unfolding checked fits isReal
   check-number h x = by (parted (unsigned s))
     where
-      by : Outcome (unsigned s) (whole ++ firstDigits behind) (firstDigits behind) rest
-          → numberOf (isNegative s) whole (firstDigits behind) (exponentOf rest) ≡ checked least most s
+      by : Outcome (unsigned s) (wholeOf s ++ fractionOf s) (fractionOf s) (restOf s)
+          → numberOf (isNegative s) (wholeOf s) (fractionOf s) (exponentOf (restOf s)) ≡ checked least most s
       by (fine p) =
           let t = tailed (p .ends) x in
-          let n : length (digits s) ≡ count = ap length (p .digits-are) ∙ count-is in
+          let n : length (digits s) ≡ countOf s = ap length (p .digits-are) ∙ count-is in
           let d : isNumber (digits s) ≡ true =
-          ap isNumber (p .digits-are) ∙ rw (every-both isDigit whole (firstDigits behind), run-digits (unsigned s), run-digits behind) in
-          let fit = counted-in (leb 1 count) (leb count 15) (leb least count) (leb count most) (isNumber (digits s))
+          ap isNumber (p .digits-are) ∙ rw (every-both isDigit (wholeOf s) (fractionOf s), run-digits (unsigned s), run-digits (behindOf s)) in
+          let fit = counted-in (leb 1 (countOf s)) (leb (countOf s) 15) (leb least (countOf s)) (leb (countOf s) most) (isNumber (digits s))
           (not (isWritten s) || isExponent (exponentText s)) h d (t .ok) in
           let same = sym (p .digits-are) in
           let placed = sym (p .places-are) in

@@ -24,7 +24,9 @@ part-value-from-end : tie.Need-part-value-from-end
 part-value-from-end c = search needs
 
 value-from-requires : tie.Need-value-from-requires
-value-from-requires c κs = let all : c .before .before .args .from + c .before .before .args .count - c .before .before .args .from ≡ c .before .before .args .count = omega arith in
+value-from-requires c κs =
+    let args = c .before .before .args in
+    let all : args .from + args .count - args .from ≡ args .count = omega arith in
     rw all (written-part (c .before .before .pre))
 
 returns : tie.Need-returns

@@ -115,7 +115,8 @@ returns-2 : tie.Need-returns-2
 returns-2 c =
     let told = c .before .before .before in
     c .unfit2 .ensures
-    ∙ check-exponent (text (told .before .before .before .before .before .before)) _ _ (ap (λ (e : Exponent). e .fit) (sym (exponent-is told)) ∙ not-true _ (c .before .if2 .taken))
+    ∙ check-exponent (text (told .before .before .before .before .before .before)) _ _
+    (ap (λ (e : Exponent). e .fit) (sym (exponent-is told)) ∙ not-true _ (c .before .if2 .taken))
 
 begins-requires : tie.Need-begins-requires
 begins-requires c κs = search needs

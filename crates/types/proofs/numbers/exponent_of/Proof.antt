@@ -75,8 +75,9 @@ no-exponent-requires-3 c κs = search needs
 
 returns-3 : tie.Need-returns-3
 returns-3 c =
+    let read = c .before .before in
     c .no-exponent3 .ensures
-    ∙ exponent-unfit (now (c .before .before .before .before .before .before .before .before .before .args .rest)) (c .before .before .before .before .before .before .before .if1 .left) (sym (test-is (c .before .before)) ∙ not-true _ (c .before .if3 .taken))
+    ∙ exponent-unfit (now (read .before .before .before .before .before .before .before .args .rest)) (read .before .before .before .before .before .if1 .left) (sym (test-is read) ∙ not-true _ (c .before .if3 .taken))
 
 begins-requires : tie.Need-begins-requires
 begins-requires c κs = search needs
