@@ -84,11 +84,12 @@ fn five(number: Number) -> [i64; 5]
     ensures { λ r. ⌜ r ≡ numberNumbers number ⌝ }
 {
     let value = number.value;
+    let places = number.places as i64;
     let exponent = number.exponent;
     [
         bit(number.fit),
         value,
-        number.places as i64,
+        places,
         exponent,
         bit(number.written),
     ]

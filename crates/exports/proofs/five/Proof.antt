@@ -13,11 +13,11 @@ use Rattle.exports.proofs.Telling.{bit-stays}
 use Rattle.exports.proofs.five.Statement.{statement}
 use Rattle.exports.proofs.five.Tie as tie
 
+cast-places : tie.Need-cast-places
+cast-places c = search needs
+
 bit-requires : tie.Need-bit-requires
 bit-requires c κs = search needs
-
-cast-t5 : tie.Need-cast-t5
-cast-t5 c = search needs
 
 bit-requires-2 : tie.Need-bit-requires-2
 bit-requires-2 c κs = search needs
@@ -25,7 +25,7 @@ bit-requires-2 c κs = search needs
 returns : tie.Need-returns
 returns c =
     let number = c .before .before .before .before .before .args .number in
-    let fit : toZ w64 (ofZ w64 (c .before .before .bit .result)) ≡ bitOf (number .fit) = bit-stays (number .fit) (c .before .before .bit .ensures) in
+    let fit : toZ w64 (ofZ w64 (c .before .bit .result)) ≡ bitOf (number .fit) = bit-stays (number .fit) (c .before .bit .ensures) in
     let value : toZ w64 (ofZ w64 (number .value)) ≡ number .value = search needs in
     let few : number .places < 9223372036854775808 = search needs in
     let places : toZ w64 (number .places) ≡ pos (number .places) = rw (lt-ltb (number .places) 9223372036854775808 few) in
@@ -34,4 +34,4 @@ returns c =
     λ i. fit i ∷ value i ∷ places i ∷ exponent i ∷ written i ∷ []
 
 pub five-spec : {M : Type 1} → statement M
-five-spec = tie.close (tie.spec bit-requires cast-t5 bit-requires-2 returns)
+five-spec = tie.close (tie.spec cast-places bit-requires bit-requires-2 returns)
