@@ -11,7 +11,7 @@ use Rattle.gate.specs.Records.{Tables}
 use Rattle.gate.specs.declared.how.How.{How}
 use Rattle.gate.proofs.reading.Once.{reads-once}
 use Rattle.rewriting.proofs.Once.{rewrites-once}
-use Rattle.exports.specs.Promises.{Told, ToldAgain}
+use Rattle.exports.specs.Promises.{Told, ToldAgain, ToldPart}
 
 -- the numbers of a reading, and both tables, are one
 pub told-once : {how : How} {s : Bytes} {before x x′ : Tables} {four four′ : List ℕ} → Told how s before x four → Told how s before x′ four′
@@ -28,5 +28,6 @@ told-again-once {old} {new} {s} {before} {x} {x′} {output} {w} {w′} a b =
     (a .numbers ∙ ap numbersOf (o .0) ∙ sym (b .numbers), o .1, o .2)
 
 -- the numbers of a part are one
-pub span-once : {x y z : List ℕ} → x ≡ z → y ≡ z → x ≡ y
-span-once p q = p ∙ sym q
+pub part-once : (element component : ℕ) (segment : Bytes) (number part : ℕ) (two two′ : List ℕ) → ToldPart element component segment number part two
+    → ToldPart element component segment number part two′ → two ≡ two′
+part-once element component segment number part two two′ a b = a 0 ∙ sym (b 0)

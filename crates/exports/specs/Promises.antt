@@ -7,6 +7,7 @@ use mathlib.Core.List.{List, [], _∷_}
 use lib.Dec.{eqb}
 use lib.IntN.{ℤ, pos}
 use Rattle.text.specs.Bytes.{Bytes}
+use Rattle.text.specs.Lookup.{partSpan}
 use Rattle.text.specs.declared.lines.LineEnds.{LineEnds}
 use Rattle.text.specs.declared.lines.LineEnds.the-variants.{Skipped, Strict}
 use Rattle.text.specs.declared.lookup.Span.{Span}
@@ -50,6 +51,11 @@ pub record ToldAgain (old new : Separators) (s : Bytes) (before : Tables) (outpu
 -- the two numbers of a part: where it starts, and how long it is
 abbrev pub spanNumbers : Span → List ℕ
 spanNumbers p = p .start ∷ p .len ∷ []
+
+-- a part of a segment, told by its two numbers; no terminator has a say in it
+abbrev pub ToldPart : (element component : ℕ) → Bytes → (number part : ℕ) → List ℕ → Type 0
+ToldPart element component segment number part two =
+    (terminator : ℕ) → two ≡ spanNumbers (partSpan (separatorsOf element component terminator) segment number part)
 
 -- 1 for yes and 0 for no
 abbrev pub bitOf : Bool → ℤ

@@ -1,10 +1,9 @@
 // The functions that programs in C, Rust and Python call. A slice is passed as a pointer and a length, an array as a pointer; an answer
 // is written as numbers into an array that the caller lends.
 ghost use mathlib.Core.Path.{_≡_};
-ghost use Rattle.text.specs.Lookup.{elementSpan, componentSpan};
 ghost use Rattle.types.specs.Numbers.{checked};
 ghost use Rattle.gate.specs.Answers.{numbersOf};
-ghost use Rattle.exports.specs.Promises.{separatorsOf, linesOf, howOf, tablesOf, Told, ToldAgain, spanNumbers, bitOf, numberNumbers};
+ghost use Rattle.exports.specs.Promises.{separatorsOf, linesOf, howOf, tablesOf, Told, ToldAgain, spanNumbers, ToldPart, bitOf, numberNumbers};
 use gate::answer::Answer;
 use gate::how::How;
 use text::lines::LineEnds;
@@ -141,25 +140,21 @@ pub extern "C" fn stormhlaw_rewrite(
     *answer = four(rewriting::rewriting::rewrite(input, old, new, segments, levels, output));
 }
 
-// Where an element of the segment stands, 0 being the tag: start and length.
+// Where a part of the segment stands, start and length: of the element with that number, 0 being the tag, the component with the number
+// `part`, from 1; part 0 is the whole element. A part that is not there is empty, at the end of its element, or of the segment.
 #[no_mangle]
-pub extern "C" fn stormhlaw_element(segment: &[u8], separator: u8, number: u64, span: &mut [u64; 2])
-    ensures { λ _. ⌜ now (span .exit) ≡ spanNumbers (elementSpan separator (now (segment .entry)) number) ⌝ }
-{
-    *span = two(lookup::element_span(segment, separator, number as usize));
-}
-
-// Where a component of the element stands, from 1: start and length.
-#[no_mangle]
-pub extern "C" fn stormhlaw_component(
-    element: &[u8],
-    separator: u8,
+pub extern "C" fn stormhlaw_lookup(
+    segment: &[u8],
+    element: u8,
+    component: u8,
     number: u64,
+    part: u64,
     span: &mut [u64; 2],
 )
-    ensures { λ _. ⌜ now (span .exit) ≡ spanNumbers (componentSpan separator (now (element .entry)) number) ⌝ }
+    ensures { λ _. ⌜ ToldPart element component (now (segment .entry)) number part (now (span .exit)) ⌝ }
 {
-    *span = two(lookup::component_span(element, separator, number as usize));
+    let separators = separators_of(element, component, 0);
+    *span = two(lookup::part_span(segment, separators, number as usize, part as usize));
 }
 
 // The number that a text of type R writes, of up to fifteen digits: 1, value, places, exponent, and 1 where an exponent is written, else 0.

@@ -10,12 +10,11 @@ use native.Mathlib.Decide.{decLt}
 use lib.Dec.{eqb}
 use lib.ListN.{length, take, drop, getD, length-append, length-take, length-drop, drop-of-length-le, List·getD-append}
 use lib.Seq.{split-at, ext-getD, getD-take, getD-drop, getD-append-seam}
-use borrow.Author.Tests.{lt-ltb, eqb-true, eqb-false}
+use borrow.Author.Tests.{eqb-true, eqb-false}
 use Rattle.text.specs.Bytes.{Bytes, same}
 use Rattle.text.specs.Pieces.{pieces, joined}
 use Rattle.text.proofs.Pieces.{Clean, pieces-some, joined-pieces, pieces-clean, pieces-free, pieces-cut, firstPiece}
 use Rattle.text.specs.internal.Search.{Free}
-use Rattle.text.specs.Lookup.{pieceSpan}
 use Rattle.text.proofs.Sames.{same-true, same-false, true-same}
 use Rattle.finding.specs.internal.PieceEnds.{MayEnd}
 
@@ -132,21 +131,3 @@ drop-within n s =
     let past : length s ≤ n = omega arith in
     let here : length s ≤ min n (length s) = omega arith in
     drop-of-length-le s here ∙ sym (drop-of-length-le s past))
-
--- bytes that are longer than their first piece hold a separator, and others hold none
-pub free-when : (separator : ℕ) (s : Bytes) → length s ≤ length (firstPiece separator s) → Free separator s
-free-when separator s h = by-begins (firstPiece separator s) h (first-free separator s) (begins-first separator s)
-  where
-    by-begins : (p : Bytes) → length s ≤ length p → Free separator p → Begins separator s p → Free separator s
-    by-begins p l f (inl e) = subst (Free separator) (sym e) f
-    by-begins p l f (inr b) = absurd (omega (arith, simp length-append at (ap length (b .1))))
-
-pub unfree-when : (separator : ℕ) (s : Bytes) → length (firstPiece separator s) < length s → Free separator s → ⊥
-unfree-when separator s h f =
-    let e : firstPiece separator s ≡ s = rw (pieces-free separator s f) in
-    omega (arith, ap length e)
-
--- how long the first piece is, by its span
-pub first-length : (separator : ℕ) (s : Bytes) → pieceSpan separator s 0 .len ≡ length (firstPiece separator s)
-unfolding pieceSpan
-first-length separator s = rw (lt-ltb 0 (length (pieces separator s)) (pieces-some separator s))

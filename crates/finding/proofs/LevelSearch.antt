@@ -8,15 +8,13 @@ use mathlib.Core.List.{List}
 use native.Mathlib.Omega.{arith}
 use lib.ListN.{length, drop, getD, length-drop}
 use borrow.Author.Count.{below-more}
-use Rattle.text.specs.Bytes.{Bytes, same}
+use Rattle.text.specs.Bytes.{Bytes, same, among}
 use Rattle.text.specs.internal.Search.{Free}
-use Rattle.text.specs.Lookup.{pieceSpan}
-use Rattle.text.specs.declared.lookup.Span.{Span}
 use Rattle.levels.specs.Levels.{called}
 use Rattle.finding.specs.internal.Entries.{levelEntry, startOf}
 use Rattle.finding.specs.internal.TableLevels.{idAt, levelsUpTo, countIn, tableLevels}
 use Rattle.finding.specs.internal.PieceEnds.{MayEnd}
-use Rattle.finding.proofs.FirstPiece.{first-length, free-when, unfree-when}
+use Rattle.text.proofs.Searching.{among-free, among-unfree}
 use Rattle.finding.proofs.HlNames.{id-unfree, id-met, id-other-end, id-other-byte}
 use Rattle.finding.proofs.TableLevels.{called-hit, called-miss, called-nowhere, all-levels}
 
@@ -35,21 +33,21 @@ pub record Compares (s : Bytes) (separator : ℕ) (segments levels : List ℕ) (
   pub agree : (j : ℕ) → j < i → getD s (from + j) 0 ≡ getD id j 0
 
 -- bytes with a separator are nobody's HL01
-pub sought-unfree : (s : Bytes) (separator : ℕ) (segments levels : List ℕ) (count : ℕ) (id : Bytes) (first : Span) → first ≡ pieceSpan separator id 0
-    → first .len < length id → 0 ≡ called id (tableLevels s separator segments levels count)
+pub sought-unfree : (s : Bytes) (separator : ℕ) (segments levels : List ℕ) (count : ℕ) (id : Bytes) → among id separator ≡ true
+    → 0 ≡ called id (tableLevels s separator segments levels count)
 unfolding tableLevels
-sought-unfree s separator segments levels count id first e h =
+sought-unfree s separator segments levels count id h =
     sym
     (called-nowhere s separator segments levels id (countIn levels count)
     (λ k.
-    id-unfree s separator (startOf segments (levelEntry levels k 0)) id (unfree-when separator id (rw (e, first-length separator id) at h))))
+    id-unfree s separator (startOf segments (levelEntry levels k 0)) id (among-unfree separator id h)))
 
 -- before the first level is looked at
-pub seeks-all : (s : Bytes) (separator : ℕ) (segments levels : List ℕ) (count : ℕ) (id : Bytes) (first : Span) (left : ℕ)
-    → first ≡ pieceSpan separator id 0 → length id ≤ first .len → left ≡ countIn levels count
+pub seeks-all : (s : Bytes) (separator : ℕ) (segments levels : List ℕ) (count : ℕ) (id : Bytes) (left : ℕ)
+    → among id separator ≡ false → left ≡ countIn levels count
     → Seeks s separator segments levels count id left
-seeks-all s separator segments levels count id first left e h n = record {
-  free = free-when separator id (rw (e, first-length separator id) at h);
+seeks-all s separator segments levels count id left h n = record {
+  free = among-free separator id h;
   still = ap (called id) (all-levels s separator segments levels count left n);
 }
 

@@ -10,10 +10,8 @@ use native.Mathlib.Decide.{decLt}
 use lib.Dec.{leb}
 use lib.ListN.{length}
 use borrow.Author.Tests.{eq-eqb, ne-eqb, le-leb, lt-leb, leb-true}
-use Rattle.text.specs.Bytes.{Bytes, between, same}
+use Rattle.text.specs.Bytes.{Bytes, between, same, among}
 use Rattle.text.specs.internal.Search.{Free}
-use Rattle.text.specs.Lookup.{pieceSpan}
-use Rattle.text.specs.declared.lookup.Span.{Span}
 use Rattle.text.proofs.Sames.{true-same}
 use Rattle.text.proofs.Tests.{and-first, and-second}
 use Rattle.levels.specs.Levels.{Level, called, levelAt}
@@ -21,7 +19,7 @@ use Rattle.finding.specs.internal.Entries.{levelEntry, startOf}
 use Rattle.finding.specs.internal.TableLevels.{deepest, tableLevel, levelsUpTo, countIn, tableLevels}
 use Rattle.finding.specs.internal.Knows.{IdsDiffer}
 use Rattle.finding.specs.internal.Near.{nearFrom, near}
-use Rattle.finding.proofs.FirstPiece.{first-length, free-when, unfree-when}
+use Rattle.text.proofs.Searching.{among-free, among-unfree}
 use Rattle.finding.proofs.HlNames.{id-unfree}
 use Rattle.finding.proofs.TableLevels.{upto-length, upto-at, all-levels}
 
@@ -57,11 +55,11 @@ pub record Climbs (s : Bytes) (separator : ℕ) (segments levels : List ℕ) (co
   pub still : near id (tableLevels s separator segments levels count) ≡ nearFrom id (levelsUpTo s separator segments levels all) steps n
 
 -- before the last level is looked at
-pub climbs-all : (s : Bytes) (separator : ℕ) (segments levels : List ℕ) (count : ℕ) (id : Bytes) (first : Span) (all : ℕ) → first ≡ pieceSpan separator id 0
-    → length id ≤ first .len → all ≡ countIn levels count → Climbs s separator segments levels count id all all deepest
+pub climbs-all : (s : Bytes) (separator : ℕ) (segments levels : List ℕ) (count : ℕ) (id : Bytes) (all : ℕ) → among id separator ≡ false
+    → all ≡ countIn levels count → Climbs s separator segments levels count id all all deepest
 unfolding near
-climbs-all s separator segments levels count id first all e h are = record {
-  free = free-when separator id (rw (e, first-length separator id) at h);
+climbs-all s separator segments levels count id all h are = record {
+  free = among-free separator id h;
   still =
       ap (near id) (all-levels s separator segments levels count all are)
       ∙ ap (nearFrom id (levelsUpTo s separator segments levels all) deepest) (upto-length s separator segments levels all);
@@ -115,11 +113,11 @@ module _ (id : Bytes) (ls : List Level) (none : (n : ℕ) → 1 ≤ n → n ≤ 
       by-value r false e = rw e refl
 
 -- bytes with a separator are nobody's HL01
-pub near-unfree : (s : Bytes) (separator : ℕ) (segments levels : List ℕ) (count : ℕ) (id : Bytes) (first : Span) → first ≡ pieceSpan separator id 0
-    → first .len < length id → 0 ≡ near id (tableLevels s separator segments levels count)
+pub near-unfree : (s : Bytes) (separator : ℕ) (segments levels : List ℕ) (count : ℕ) (id : Bytes) → among id separator ≡ true
+    → 0 ≡ near id (tableLevels s separator segments levels count)
 unfolding near tableLevels
-near-unfree s separator segments levels count id first e h =
-    let held : Free separator id → ⊥ = unfree-when separator id (rw (e, first-length separator id) at h) in
+near-unfree s separator segments levels count id h =
+    let held = among-unfree separator id h in
     let all = countIn levels count in
     let ls = levelsUpTo s separator segments levels all in
     let none : (n : ℕ) → 1 ≤ n → n ≤ length ls → same (levelAt n ls .id) id ≡ false =

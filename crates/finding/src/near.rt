@@ -2,7 +2,6 @@
 use crate::search;
 use crate::tables;
 use text::compare;
-use text::lookup;
 ghost use mathlib.Core.Path.{_≡_};
 ghost use Rattle.text.specs.Bytes.{same};
 ghost use Rattle.text.specs.internal.Search.{Free};
@@ -33,8 +32,7 @@ pub(crate) fn find_near(
 ) -> usize
     ensures { λ r. ⌜ r ≡ near (now (id .entry)) (tableLevels (now (s .entry)) separator (now (segments .entry)) (now (levels .entry)) count) ⌝ }
 {
-    let first = lookup::piece_span(id, separator, 0);
-    if first.len < id.len() {
+    if text::search::holds(id, separator) {
         return 0;
     }
     let all = tables::level_count(levels, count);

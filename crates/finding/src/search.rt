@@ -1,6 +1,5 @@
 // Finding the level that has an HL01.
 use crate::tables;
-use text::lookup;
 ghost use mathlib.Core.Path.{_≡_};
 ghost use mathlib.Core.Bool.{true, false};
 ghost use Prim.Native.Nat.{_+_, _≤_, min};
@@ -76,8 +75,7 @@ pub(crate) fn find_level(
 ) -> usize
     ensures { λ r. ⌜ r ≡ called (now (id .entry)) (tableLevels (now (s .entry)) separator (now (segments .entry)) (now (levels .entry)) count) ⌝ }
 {
-    let first = lookup::piece_span(id, separator, 0);
-    if first.len < id.len() {
+    if text::search::holds(id, separator) {
         return 0;
     }
     let mut left = tables::level_count(levels, count);

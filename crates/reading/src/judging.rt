@@ -25,6 +25,7 @@ use rows::tags;
 use ruling::ruled;
 use text::compare;
 use text::lookup;
+use text::separators::Separators;
 use types::digits;
 
 // What the rules say of the next segment.
@@ -88,8 +89,8 @@ fn by_level(row: u8, known: Known, judged: Judged) -> Judgement
 }
 
 // The second element of the first segment, which starts with the bytes.
-fn opening_control<'a>(s: &'a [u8], separator: u8, segments: &[u64]) -> &'a [u8]
-    ensures { λ r. ⌜ now r ≡ openingControl (now (s .entry)) separator (now (segments .entry)) ⌝ }
+fn opening_control<'a>(s: &'a [u8], separators: Separators, segments: &[u64]) -> &'a [u8]
+    ensures { λ r. ⌜ now r ≡ openingControl (now (s .entry)) (separators .element) (now (segments .entry)) ⌝ }
 {
     if segments.len() < SEGMENT_WIDTH {
         return &s[0..0];
@@ -98,20 +99,20 @@ fn opening_control<'a>(s: &'a [u8], separator: u8, segments: &[u64]) -> &'a [u8]
     if s.len() < len {
         return &s[0..0];
     }
-    lookup::element(&s[..len], separator, 2)
+    lookup::lookup(&s[..len], separators, 2, 0)
 }
 
 // The verdict of the closing rules on an SE.
 fn judge_se(
     s: &[u8],
-    separator: u8,
+    separators: Separators,
     starts: &[usize; 33],
     layout: Layout,
     segments: &[u64],
     levels: &[u64],
     state: State,
 ) -> Verdict
-    ensures { λ r. ⌜ r ≡ firstBroken (closingIn (now (s .entry)) separator (now (starts .entry)) layout (now (segments .entry)) (now (levels .entry)) state) ⌝ }
+    ensures { λ r. ⌜ r ≡ firstBroken (closingIn (now (s .entry)) (separators .element) (now (starts .entry)) layout (now (segments .entry)) (now (levels .entry)) state) ⌝ }
 {
     let total = layout::element(s, starts, layout, 1);
     let told = digits::number_of(total);
@@ -122,10 +123,10 @@ fn judge_se(
         return Verdict::Broken(16, 1);
     }
     let control = layout::element(s, starts, layout, 2);
-    if !compare::same_bytes(control, opening_control(s, separator, segments)) {
+    if !compare::same_bytes(control, opening_control(s, separators, segments)) {
         return Verdict::Broken(16, 2);
     }
-    if !filling::all_filled(s, separator, segments, levels, state.known.levels) {
+    if !filling::all_filled(s, separators.element, segments, levels, state.known.levels) {
         return Verdict::Broken(15, 0);
     }
     Verdict::Holds
@@ -158,13 +159,12 @@ fn judge_late(
 ) -> Judgement
     ensures { λ r. ⌜ JudgesLate how (now (s .entry)) (now (starts .entry)) layout state (now (segments .entry)) (now (levels .entry)) tag row r ⌝ }
 {
-    let separator = how.separators.element;
     if tag == tags::HL {
         let known = state.known;
         let after = known.after(layout::element(s, starts, layout, 1));
         let judged = placing::judge_level(
             s,
-            separator,
+            how.separators.element,
             starts,
             layout,
             known,
@@ -175,7 +175,7 @@ fn judge_late(
         return by_level(row, after, judged);
     }
     if tag == tags::SE {
-        return match judge_se(s, separator, starts, layout, segments, levels, state) {
+        return match judge_se(s, how.separators, starts, layout, segments, levels, state) {
             Verdict::Holds => Judgement::Last(row),
             Verdict::Broken(number, element) => Judgement::Broken(number, element),
         };

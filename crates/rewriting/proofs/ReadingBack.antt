@@ -1,4 +1,4 @@
--- What a successful rewriting has written: it holds the same report, it is read to the same answer and tables, it is as long as what was read, and
+-- What a successful rewriting has written: it holds the same report, a lookup finds the same in it, it is read to the same answer and tables, it is as long as what was read, and
 -- with the old separators it is the same bytes.
 -- Assumes nothing.
 use Prim.Native.Nat.{ℕ, _≤_}
@@ -23,8 +23,9 @@ use Rattle.gate.specs.declared.answer.Answer.the-variants.{Accepted}
 use Rattle.gate.proofs.conditions.Conditions.{accepted-numbered, accepted-proper, meets-accepted, numbering-once}
 use Rattle.rewriting.specs.Rewrites.{strictly, rewritten}
 use Rattle.rewriting.specs.Conditions.{SameReport, ReadsTo, WritesExactly}
+use Rattle.rewriting.specs.Lookups.{LookedUpAlike}
 use Rattle.rewriting.proofs.SegmentBytes.{texts, spelt, used-length, used-taken}
-use Rattle.rewriting.proofs.WrittenSegments.{rewritten-length, again, AllKeep, all-keep, same-views, same-places, same-used, same-records}
+use Rattle.rewriting.proofs.WrittenSegments.{rewritten-length, again, AllKeep, all-keep, same-views, same-places, same-used, same-records, same-lookups}
 use Rattle.rewriting.proofs.AcceptedTable.{bytesOf}
 use Rattle.rewriting.proofs.SuccessFacts.{Success}
 
@@ -97,6 +98,11 @@ module _ (old new : Separators) (s : Bytes) (before : Tables) (output : Bytes) (
     new-numbering = rw taken-again numbering-again;
     elements = views;
   }
+
+  -- in which a lookup finds the same
+  pub looked-up : LookedUpAlike old s new (take b after)
+  unfolding same-report
+  looked-up = record { report = same-report; alike = same-lookups old new old-fitted new-fitted (x .gs) keep }
 
   -- read to the same answer and tables
   room-again : HasRoom (strictly new) before renewed

@@ -11,6 +11,7 @@ use Rattle.text.specs.Pieces.{closed}
 use Rattle.text.specs.View.{View, viewOf, written, empty, inspected}
 use Rattle.text.specs.Cut.{Placed, Leads, Whole}
 use Rattle.text.specs.declared.separators.Separators.{Separators}
+use Rattle.text.proofs.SeenAlike.{part-alike, bytes-alike, elements-alike}
 use Rattle.text.proofs.Writable.{Writable, cut-writable, writable-cut, writable-seen, writable-again}
 use Rattle.text.specs.Separators.{Fitted}
 use Rattle.elements.specs.Checks.{firstBroken}
@@ -21,6 +22,7 @@ use Rattle.gate.specs.Records.{segmentRecords}
 use Rattle.gate.specs.Reads.{cutBy, skipBy}
 use Rattle.gate.specs.Conditions.{usedBy}
 use Rattle.elements.proofs.FirstBroken.{each-every}
+use Rattle.rewriting.specs.Lookups.{FoundAlike, AllFoundAlike}
 use Rattle.rewriting.specs.Rewrites.{strictly, rewritten, apartFrom, collisionChecks, orLater, collision}
 use Rattle.rewriting.specs.declared.collisions.Clash.{Clash}
 use Rattle.rewriting.specs.declared.collisions.Clash.the-variants.{At, Nowhere}
@@ -112,3 +114,17 @@ module _ (old new : Separators) (old-fit : Fitted old) (new-fit : Fitted new) wh
   same-records h [] rows k = refl
   same-records h (g ∷ gs) [] k = refl
   same-records h (g ∷ gs) (r ∷ rows) k = rw (k .0 .view, k .0 .long, same-records (viewOf old (g .segment) ∷ h) gs rows (k .1))
+
+  -- and every lookup finds the same
+  found-alike : (g : Placed) → StaysSame g → FoundAlike old (g .segment) new (written new (viewOf old (g .segment)))
+  found-alike g k =
+      let h = written new (viewOf old (g .segment)) in
+      record {
+        place = part-alike new old h (g .segment) (k .view);
+        component = bytes-alike new old h (g .segment) (k .view);
+        element = elements-alike new old h (g .segment) (k .view);
+      }
+
+  pub same-lookups : (gs : List Placed) → AllKeep gs → AllFoundAlike old gs new (again gs)
+  same-lookups [] k = tt
+  same-lookups (g ∷ gs) k = (refl, found-alike g (k .0), same-lookups gs (k .1))

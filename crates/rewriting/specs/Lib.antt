@@ -1,3 +1,4 @@
 pub mod Rewrites
 pub mod Conditions
+pub mod Lookups
 pub mod internal

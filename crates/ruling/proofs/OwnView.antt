@@ -5,23 +5,24 @@ use Prim.Native.Nat.{ℕ, zero, suc, _+_, _-_, _≤_, _<_}
 use mathlib.Core.Path.{_≡_, refl, sym, ap, ap₂, _∙_}
 use mathlib.Core.Logic.{by-cases}
 use mathlib.Core.Bool.{Bool, true, false, cond}
-use mathlib.Core.List.{List, [], _∷_, _++_}
+use mathlib.Core.List.{List, [], _∷_}
 use native.Mathlib.Omega.{arith}
 use native.Mathlib.Decide.{decLt}
 use native.Mathlib.Nat.{add-sub-cancel-left}
 use lib.Dec.{ltb}
-use lib.ListN.{length, take, drop, getD, length-append, length-drop, length-map, take-append-drop, List·getD-map, List·getD-eq-default}
-use lib.Seq.{take-all, take-suc, take-append-le, drop-append-le, drop-drop}
+use lib.ListN.{length, take, drop, getD, length-map, List·getD-map, List·getD-eq-default}
 use borrow.Author.Tests.{lt-ltb, le-ltb, lt-leb, le-leb}
 use Rattle.text.specs.Bytes.{Bytes}
-use Rattle.text.specs.Pieces.{pieces, joined, closed}
-use Rattle.text.proofs.Pieces.{Clean, pieces-free, closed-snoc}
+use Rattle.text.specs.Pieces.{pieces, joined}
+use Rattle.text.proofs.Pieces.{Clean, pieces-free}
 use Rattle.text.specs.internal.Search.{Free}
 use Rattle.text.specs.Bin.{isBin}
 use Rattle.text.specs.View.{View, viewOf, elementsOf, elementOf, elementCount}
-use Rattle.text.specs.Lookup.{span, spanAmong, elementSpan}
+use Rattle.text.specs.Lookup.{elementSpan}
 use Rattle.text.specs.declared.separators.Separators.{Separators}
 use Rattle.text.specs.declared.lookup.Span.{Span}
+use Rattle.text.proofs.Spans.{part-of-part}
+use Rattle.text.proofs.Ends.{next-start, last-end}
 use Rattle.text.proofs.BinView.{view-plain, elements-plain}
 use Rattle.text.proofs.BinSpans.{elements-joined, lies-element}
 use Rattle.text.proofs.View.{free-pieces}
@@ -32,51 +33,6 @@ use Rattle.elements.specs.internal.Layouts.{elementIn, partBetween, pieceIn, co
 use Rattle.elements.specs.declared.layout.Layout.{Layout}
 use Rattle.elements.proofs.ByLayout.{part-inside, view-count, view-element, view-at, at-past}
 use Rattle.ruling.proofs.UpTo31.{ruled-agree}
-
--- one piece more, with its separator
-start-more : (sep : ℕ) (ps : List Bytes) (n : ℕ) → n < length ps
-    → length (closed sep (take (suc n) ps)) ≡ length (closed sep (take n ps)) + length (getD ps n []) + 1
-start-more sep ps n h =
-    rw (take-suc ps n [] h, closed-snoc sep (take n ps) (getD ps n [])) (simp length-append (omega arith))
-
-closed-joined : (sep : ℕ) (ps : List Bytes) → 0 < length ps → length (closed sep ps) ≡ suc (length (joined sep ps))
-closed-joined sep [] l = absurd (omega arith)
-closed-joined sep (p ∷ []) l = simp length-append (omega arith)
-closed-joined sep (p ∷ (q ∷ ps)) l =
-    omega (arith, length-append p (sep ∷ closed sep (q ∷ ps)), length-append p (sep ∷ joined sep (q ∷ ps)), closed-joined sep (q ∷ ps) (omega arith))
-
-module _ (sep : ℕ) (ps : List Bytes) (end n : ℕ) (h : n < length ps) where
-  abbrev spanOf : ℕ → Span
-  spanOf k = spanAmong sep ps end k
-
-  span-there : (k : ℕ) → k < length ps → spanOf k ≡ span (length (closed sep (take k ps))) (length (getD ps k []))
-  span-there k l = rw (lt-ltb k (length ps) l)
-
-  -- the next piece starts behind the separator; the last ends at the end
-  next-start : suc n < length ps → spanOf (suc n) .start ≡ spanOf n .start + spanOf n .len + 1
-  next-start u = rw (span-there n h, span-there (suc n) u) (start-more sep ps n h)
-
-  last-end : suc n ≡ length ps → length (joined sep ps) ≡ end → spanOf n .start + spanOf n .len ≡ end
-  last-end e w =
-      rw (span-there n h)
-      (omega (
-        arith,
-        start-more sep ps n h,
-        ap (λ (ps : List Bytes). length (closed sep ps)) (take-all (suc n) ps (omega arith)),
-        closed-joined sep ps (omega arith),
-        w,
-      ))
-
--- a part of a part
-part-of-part : (s : Bytes) (at : ℕ) (g : Bytes) (from len : ℕ) → take (length g) (drop at s) ≡ g → from + len ≤ length g
-    → take len (drop (at + from) s) ≡ take len (drop from g)
-part-of-part s at g from len here l =
-    let whole : drop at s ≡ g ++ drop (length g) (drop at s) =
-    sym (take-append-drop (length g) (drop at s)) ∙ ap (λ (x : Bytes). x ++ drop (length g) (drop at s)) here in
-    let room : len ≤ length (drop from g) = rw (length-drop from g) (omega arith) in
-    ap (take len)
-    (sym (drop-drop from at s) ∙ ap (drop from) whole ∙ drop-append-le from g (drop (length g) (drop at s)) (omega arith))
-    ∙ take-append-le len (drop from g) (drop (length g) (drop at s)) room
 
 clean-at : (x : ℕ) (ps : List Bytes) (k : ℕ) → Clean x ps → Free x (getD ps k [])
 clean-at x [] k c = tt

@@ -12,9 +12,9 @@ use Rattle.text.specs.Bytes.{Bytes, bytes, valueOf}
 use Rattle.text.specs.Pieces.{joined}
 use Rattle.text.specs.Bin.{binMark, beginsBin, countIn, attachedIn, counts, isBin}
 use Rattle.text.specs.View.{elementsOf}
-use Rattle.text.specs.Lookup.{span, spanAmong, pieceSpan, elementSpan, attachedFrom}
+use Rattle.text.specs.Lookup.{span, spanAmong, elementSpan, attachedFrom}
 use Rattle.text.specs.internal.Count.{countFrom}
-use Rattle.text.specs.internal.BinSpan.{binSpan}
+use Rattle.text.specs.internal.Spans.{pieceSpan, binSpan}
 use Rattle.text.specs.declared.separators.Separators.{Separators}
 use Rattle.text.specs.declared.bin.Counted.{Counted}
 use Rattle.text.specs.declared.bin.Counted.the-variants.{Told, Open, Broken}

@@ -9,6 +9,7 @@ pub mod Pieces
 pub mod Bins
 pub mod Searching
 pub mod Spans
+pub mod Ends
 pub mod View
 pub mod Serving
 pub mod BinView
@@ -17,6 +18,10 @@ pub mod CountedCut
 pub mod CountedBytes
 pub mod Counting
 pub mod BinSpans
+pub mod Parts
+pub mod Lookups
+pub mod SeenAlike
+pub mod LookupCases
 pub mod DocumentCut
 pub mod LineEnds
 pub mod LineCases

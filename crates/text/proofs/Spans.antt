@@ -6,14 +6,15 @@ use mathlib.Core.Logic.{by-cases}
 use mathlib.Core.List.{List, [], _∷_, _++_, append-assoc, append-nil}
 use native.Mathlib.Omega.{arith}
 use native.Mathlib.Decide.{decLt}
-use lib.ListN.{length, take, drop, getD, length-append, length-drop, List·getD-eq-default}
-use lib.Seq.{drop-at, take-at, getD-at, take-append-seam}
+use lib.ListN.{length, take, drop, getD, length-append, length-drop, take-append-drop, List·getD-eq-default}
+use lib.Seq.{drop-at, take-at, getD-at, take-append-seam, take-append-le, drop-append-le, drop-drop}
 use borrow.Author.Tests.{lt-ltb, le-ltb}
 use Rattle.text.specs.Bytes.{Bytes}
 use Rattle.text.specs.Pieces.{pieces, joined, closed}
 use Rattle.text.proofs.Pieces.{Clean, pieces-free, pieces-cut, pieces-closed, joined-pieces, closed-snoc, clean-snoc}
 use Rattle.text.specs.internal.Search.{Free, FirstAt}
-use Rattle.text.specs.Lookup.{span, spanAmong, pieceSpan, componentSpan, partOf}
+use Rattle.text.specs.Lookup.{span, spanAmong, partOf}
+use Rattle.text.specs.internal.Spans.{pieceSpan}
 use Rattle.text.specs.declared.lookup.Span.{Span}
 
 pub record Begun (sep : ℕ) (s : Bytes) (k at : ℕ) : Type 0 where
@@ -143,17 +144,13 @@ pub lies : (sep : ℕ) (s : Bytes) (n : ℕ) → Lies s (pieceSpan sep s n) (get
 unfolding pieceSpan
 lies sep s n = lies-among sep (pieces sep s) s (joined-pieces sep s) n
 
--- component n + 1 is the piece n; component 0 the empty part at the end
-pub component-none : (sep : ℕ) (s : Bytes) (n : ℕ) → n ≡ 0 → span (length s) 0 ≡ componentSpan sep s n
-unfolding componentSpan
-component-none sep s n e = rw e
-
-pub component-next : (sep : ℕ) (s : Bytes) (n : ℕ) → (n ≡ 0 → ⊥) → componentSpan sep s n ≡ pieceSpan sep s (n - 1)
-unfolding componentSpan
-component-next sep s zero h = absurd (h refl)
-component-next sep s (suc n) h = ap (pieceSpan sep s) (omega arith)
-
-pub component-inside : (sep : ℕ) (s : Bytes) (n : ℕ) → componentSpan sep s n .start + componentSpan sep s n .len ≤ length s
-unfolding componentSpan
-component-inside sep s zero = omega arith
-component-inside sep s (suc n) = lies sep s n .inside
+-- a part of a part
+pub part-of-part : (s : Bytes) (at : ℕ) (g : Bytes) (from len : ℕ) → take (length g) (drop at s) ≡ g → from + len ≤ length g
+    → take len (drop (at + from) s) ≡ take len (drop from g)
+part-of-part s at g from len here l =
+    let whole : drop at s ≡ g ++ drop (length g) (drop at s) =
+    sym (take-append-drop (length g) (drop at s)) ∙ ap (λ (x : Bytes). x ++ drop (length g) (drop at s)) here in
+    let room : len ≤ length (drop from g) = rw (length-drop from g) (omega arith) in
+    ap (take len)
+    (sym (drop-drop from at s) ∙ ap (drop from) whole ∙ drop-append-le from g (drop (length g) (drop at s)) (omega arith))
+    ∙ take-append-le len (drop from g) (drop (length g) (drop at s)) room

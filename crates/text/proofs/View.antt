@@ -124,7 +124,7 @@ module _ (q : Separators) where
   terminator-separates = or-right (eqb t e || eqb t c) (eqb t t) (eqb-refl t)
 
   -- writing a view gives the segment back
-  joined-each : (ps : List Bytes) → map (joined (q .component)) (map (pieces (q .component)) ps) ≡ ps
+  pub joined-each : (ps : List Bytes) → map (joined (q .component)) (map (pieces (q .component)) ps) ≡ ps
   joined-each [] = refl
   joined-each (p ∷ ps) = rw (joined-pieces (q .component) p, joined-each ps)
 

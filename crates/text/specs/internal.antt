@@ -2,4 +2,4 @@
 -- Assumes nothing.
 pub mod Search
 pub mod Count
-pub mod BinSpan
+pub mod Spans

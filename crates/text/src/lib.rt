@@ -3,4 +3,5 @@ pub mod bin;
 pub mod compare;
 pub mod lines;
 pub mod lookup;
+pub mod search;
 pub mod separators;

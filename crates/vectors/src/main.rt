@@ -1,11 +1,10 @@
 // Runs the cases of each file that the arguments name, and prints what comes of each. A case is a header of sixteen bytes and its input:
-//   0        1 a reading, 2 a rewriting, 3 an element lookup, 4 a component lookup, 5 a reading of a long input, 6 a number check
-//   1 to 3   element, component, terminator; of a lookup the separator alone
+//   0        1 a reading, 2 a rewriting, 3 a lookup, 4 a reading of a long input, 5 a number check
+//   1 to 3   element, component, terminator; a lookup has no terminator
 //   4 to 6   the new set of a rewriting; how long a long input is, which goes on with bytes `~` behind its own
-//   7, 9     how many numbers the segment table and the level table have, two bytes each, the lower first; of a number check the least and the
-//            most digits
-//   11       the number that a lookup asks for, or how many bytes the output of a rewriting has, two bytes; of a reading one byte, odd where it
-//            is strict with line ends
+//   7, 9     how many numbers the segment table and the level table have, two bytes each, the lower first; of a lookup the numbers of the
+//            element and of the component; of a number check the least and the most digits
+//   11       how many bytes the output of a rewriting has, two bytes; of a reading one byte, odd where it is strict with line ends
 //   13       how long the input is, three bytes
 ghost use mathlib.Core.Path.{_≡_};
 ghost use Prim.Native.Nat.{_<_, _≤_};
@@ -298,17 +297,22 @@ fn number_case(header: &[u8], text: &[u8]) {
     print_number(numbers::check_number(text, two_at(header, 7), two_at(header, 9)));
 }
 
+// A lookup of the two numbers that the header has.
+fn lookup_case(header: &[u8], segment: &[u8]) {
+    let separators = separators_at(header, 1);
+    let number = two_at(header, 7);
+    let part = two_at(header, 9);
+    print_span(lookup::part_span(segment, separators, number, part));
+}
+
 // One case.
 fn run_case(header: &[u8], input: &[u8]) {
-    let separator = byte_at(header, 1);
-    let asked = two_at(header, 11);
     match byte_at(header, 0) {
         1 => read_case(header, input),
         2 => rewrite_case(header, input),
-        3 => print_span(lookup::element_span(input, separator, asked)),
-        4 => print_span(lookup::component_span(input, separator, asked)),
-        5 => long_case(header, input),
-        6 => number_case(header, input),
+        3 => lookup_case(header, input),
+        4 => long_case(header, input),
+        5 => number_case(header, input),
         _ => word(b"no such kind\n"),
     }
 }

@@ -5,8 +5,8 @@ use mathlib.Core.Path.{_≡_}
 use mathlib.Core.List.{[], _∷_, _++_}
 use lib.ListN.{length, drop}
 use Rattle.text.specs.Bytes.{Bytes}
-use Rattle.text.specs.declared.lookup.Found.{Found}
-use Rattle.text.specs.declared.lookup.Found.the-variants.{At, Nowhere}
+use Rattle.text.specs.declared.search.Found.{Found}
+use Rattle.text.specs.declared.search.Found.the-variants.{At, Nowhere}
 
 -- the byte does not stand in the bytes
 abbrev pub Free : ℕ → Bytes → Type 0

@@ -12,17 +12,17 @@ Inv-loop s separator segments levels count id all n₀ steps₀ n steps = Climbs
 abbrev μ-loop : tie.MeasureT-loop
 μ-loop s separator segments levels count id all n₀ steps₀ n steps = steps
 
-piece-span-requires : tie.Need-piece-span-requires Inv-loop μ-loop
-piece-span-requires c κs = search needs
+holds-requires : tie.Need-holds-requires Inv-loop μ-loop
+holds-requires c κs = search needs
 
 returns : tie.Need-returns Inv-loop μ-loop
-returns c = near-unfree _ _ _ _ _ _ _ (c .before .before .piece-span .ensures) (c .if1 .taken)
+returns c = near-unfree _ _ _ _ _ _ (sym (c .before .holds .ensures) ∙ c .if1 .taken)
 
 level-count-requires : tie.Need-level-count-requires Inv-loop μ-loop
 level-count-requires c κs = search needs
 
 loop-holds : tie.Need-loop-holds Inv-loop μ-loop
-loop-holds c = climbs-all _ _ _ _ _ _ _ _ (c .before .before .before .piece-span .ensures) (c .before .if1 .left) (c .level-count .ensures)
+loop-holds c = climbs-all _ _ _ _ _ _ _ (sym (c .before .before .holds .ensures) ∙ c .before .if1 .left) (c .level-count .ensures)
 
 returns-2 : tie.Need-returns-2 Inv-loop μ-loop
 returns-2 c = climbs-below (c .before .before .loop .inv) (c .if2 .taken)
@@ -68,7 +68,7 @@ find-near-spec =
     (tie.spec
     Inv-loop
     μ-loop
-    piece-span-requires
+    holds-requires
     returns
     level-count-requires
     loop-holds

@@ -1,6 +1,7 @@
 -- `find_level` meets its contract: the levels above `left` have other HL01s, and the first i bytes of level n's HL01 agree.
 -- Assumes nothing.
 use Prim.Native.Nat.{_-_}
+use mathlib.Core.Path.{sym, _∙_}
 use native.Mathlib.Omega.{arith}
 use lib.ListN.{length}
 use borrow.Author.Tests.{not-true, not-false}
@@ -21,24 +22,23 @@ Inv-levels s separator segments levels count id left₀ left = Seeks s separator
 abbrev μ-levels : tie.MeasureT-levels
 μ-levels s separator segments levels count id left₀ left = left
 
-piece-span-requires : tie.Need-piece-span-requires Inv-loop μ-loop Inv-levels μ-levels
-piece-span-requires c κs = search needs
+holds-requires : tie.Need-holds-requires Inv-loop μ-loop Inv-levels μ-levels
+holds-requires c κs = search needs
 
 returns : tie.Need-returns Inv-loop μ-loop Inv-levels μ-levels
 returns c =
-    let a = c .before .before .before .before .before .before .before .args in
+    let a = c .before .before .before .before .before .before .args in
     sought-unfree (a .s .now) (a .separator) (a .segments .now) (a .levels .now) (a .count) (a .id .now)
-    (c .before .before .piece-span .result) (c .before .before .piece-span .ensures) (c .if1 .taken)
+    (sym (c .before .holds .ensures) ∙ c .if1 .taken)
 
 level-count-requires : tie.Need-level-count-requires Inv-loop μ-loop Inv-levels μ-levels
 level-count-requires c κs = search needs
 
 levels-holds : tie.Need-levels-holds Inv-loop μ-loop Inv-levels μ-levels
 levels-holds c =
-    let a = c .before .before .before .before .before .before .before .before .args in
+    let a = c .before .before .before .before .before .before .before .args in
     seeks-all (a .s .now) (a .separator) (a .segments .now) (a .levels .now) (a .count) (a .id .now)
-    (c .before .before .before .piece-span .result) (c .level-count .result)
-    (c .before .before .before .piece-span .ensures) (c .before .if1 .left) (c .level-count .ensures)
+    (c .level-count .result) (sym (c .before .before .holds .ensures) ∙ c .before .if1 .left) (c .level-count .ensures)
 
 sub-left : tie.Need-sub-left Inv-loop μ-loop Inv-levels μ-levels
 sub-left c = search needs
@@ -115,7 +115,7 @@ find-level-spec =
     μ-loop
     Inv-levels
     μ-levels
-    piece-span-requires
+    holds-requires
     returns
     level-count-requires
     levels-holds

@@ -27,10 +27,10 @@ abbrev control : tie.Start → Bytes
 control c = elementIn (c .args .s .now) (c .args .starts .now) (c .args .layout) 2
 
 abbrev opening : tie.Start → Bytes
-opening c = openingControl (c .args .s .now) (c .args .separator) (c .args .segments .now)
+opening c = openingControl (c .args .s .now) (c .args .separators .element) (c .args .segments .now)
 
 abbrev full : tie.Start → Bool
-full c = filled (tableLevels (c .args .s .now) (c .args .separator) (c .args .segments .now) (c .args .levels .now) (c .args .state .known .levels))
+full c = filled (tableLevels (c .args .s .now) (c .args .separators .element) (c .args .segments .now) (c .args .levels .now) (c .args .state .known .levels))
 
 element-requires : tie.Need-element-requires
 element-requires c κs = search needs

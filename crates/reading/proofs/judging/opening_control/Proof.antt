@@ -3,7 +3,7 @@
 use mathlib.Core.Path.{sym, _∙_}
 use lib.Seq.{length-take-le}
 use borrow.Author.Tests.{lt-ltb, le-ltb}
-use Rattle.text.proofs.BinSpans.{lies-element}
+use Rattle.text.proofs.Parts.{lies-part}
 use Rattle.reading.specs.internal.Judgements.{openingControl}
 use borrow.Author.Needs.{needs}
 use Rattle.reading.proofs.judging.opening_control.Statement.{statement}
@@ -38,17 +38,17 @@ returns-2 : tie.Need-returns-2
 unfolding openingControl
 returns-2 c = rw (le-ltb _ _ (c .before .before .before .if1 .left), lt-ltb _ _ (c .before .if2 .taken))
 
-slice-aggregate-element : tie.Need-slice-aggregate-element
-slice-aggregate-element c = sym (length-take-le _ _ (c .before .if2 .left))
+slice-aggregate-lookup : tie.Need-slice-aggregate-lookup
+slice-aggregate-lookup c = sym (length-take-le _ _ (c .before .if2 .left))
 
-element-requires : tie.Need-element-requires
-element-requires c κs = search needs
+lookup-requires : tie.Need-lookup-requires
+lookup-requires c κs = search needs
 
 returns-3 : tie.Need-returns-3
 unfolding openingControl
 returns-3 c =
     rw (le-ltb _ _ (c .before .before .before .before .if1 .left), le-ltb _ _ (c .before .before .if2 .left))
-    (c .element .ensures .content ∙ lies-element (c .before .before .before .before .before .before .before .args .separator) _ 2 .holds)
+    (c .lookup .ensures .content ∙ lies-part (c .before .before .before .before .before .before .before .args .separators) _ 2 0 .holds)
 
 pub opening-control-spec : {M : Type 1} → statement M
 opening-control-spec =
@@ -63,6 +63,6 @@ opening-control-spec =
     part-result-start-2
     part-result-end-2
     returns-2
-    slice-aggregate-element
-    element-requires
+    slice-aggregate-lookup
+    lookup-requires
     returns-3)

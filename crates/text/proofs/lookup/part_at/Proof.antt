@@ -1,11 +1,11 @@
--- `part` meets its contract: the memory, the place and the bytes of the part.
+-- `part_at` meets its contract: the memory, the place and the bytes of the part.
 -- Assumes nothing.
 use native.Mathlib.Omega.{arith}
 use mathlib.Core.Path.{refl}
 use native.Mathlib.Nat.{add-sub-cancel-left}
 use borrow.Author.Needs.{needs}
-use Rattle.text.proofs.lookup.part.Statement.{statement}
-use Rattle.text.proofs.lookup.part.Tie as tie
+use Rattle.text.proofs.lookup.part_at.Statement.{statement}
+use Rattle.text.proofs.lookup.part_at.Tie as tie
 
 add-to : tie.Need-add-to
 add-to c = search needs
@@ -22,5 +22,5 @@ part-result-end c = search needs
 returns : tie.Need-returns
 returns c = record { block = refl; place = omega arith; content = simp add-sub-cancel-left }
 
-pub part-spec : {M : Type 1} → statement M
-part-spec = tie.close (tie.spec add-to sub-result part-result-start part-result-end returns)
+pub part-at-spec : {M : Type 1} → statement M
+part-at-spec = tie.close (tie.spec add-to sub-result part-result-start part-result-end returns)

@@ -4,8 +4,8 @@ use Prim.Native.Nat.{_-_}
 use borrow.Author.Needs.{needs}
 use lib.ListN.{length}
 use Rattle.text.proofs.Searching.{Unmet, passed-none, passed-more, met, never-met}
-use Rattle.text.proofs.lookup.find.Statement.{statement}
-use Rattle.text.proofs.lookup.find.Tie as tie
+use Rattle.text.proofs.search.find.Statement.{statement}
+use Rattle.text.proofs.search.find.Tie as tie
 
 abbrev Inv-loop : tie.InvT-loop
 Inv-loop s from byte i₀ i = Unmet s from byte i
