@@ -3,6 +3,7 @@
 //! guard words around what was lent. Ends with status 1 if anything differs.
 
 mod lent;
+mod lookups;
 mod numbers;
 mod outcome;
 mod parts;

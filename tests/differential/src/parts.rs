@@ -1,10 +1,11 @@
-//! What is compared: generated reports, every table size, every separator, lookups.
+//! What is compared: generated reports, every table size, every separator.
 
+use crate::lookups;
 use crate::numbers;
 use crate::outcome::Sizes;
 use crate::rewriting;
 use crate::tally::Tally;
-use reference::generator::{counted_segment, report, Case, Random};
+use reference::generator::{report, Random};
 use reference::{Separators, LEVEL_NUMBERS, SEGMENT_NUMBERS};
 
 const W1: &[u8] = b"ST*842*0001~BNR*11*NR7*20240301~HL*1**RP*1~HL*2*1*I*0~NCD*1~NCA**R1~SE*7*0001~";
@@ -28,11 +29,8 @@ pub fn generated(tally: &mut Tally, seed: u64) {
     let sizes = Sizes { segments: case.segment_numbers, levels: case.level_numbers, output: 0 };
     let unnamed = unnamed_bits(seed);
     tally.read(&name, &case.input, case.separators, unnamed, sizes);
-    let sets = [case.separators, case.new];
-    let with_output = Sizes { output: case.output_length, ..sizes };
-    rewriting::compare(tally, &name, &case.input, sets, unnamed, with_output);
-    look_up(tally, &name, &case);
-    look_up_bin(tally, &name, &case);
+    rewriting::compare(tally, &name, &case, unnamed);
+    lookups::generated(tally, &name, &case);
     numbers::generated(tally, &name, &case);
     if seed.is_multiple_of(EVERY_ROOM_ONE_IN) && case.input.len() <= EVERY_ROOM_LONGEST {
         every_room(tally, &name, &case.input, case.separators);
@@ -45,44 +43,6 @@ fn unnamed_bits(seed: u64) -> u64 {
         0
     } else {
         Random::new(seed ^ 0x40).number() & !1
-    }
-}
-
-/// Lookups in a part of the case's input, by one of its separators or any byte.
-fn look_up(tally: &mut Tally, name: &str, case: &Case) {
-    let mut random = Random::new(!case.seed);
-    let input = &case.input[..case.input.len().min(2000)];
-    let from = random.below(input.len() + 1);
-    let part = &input[from..from + random.below((input.len() - from).min(90) + 1)];
-    let any = random.below(256) as u8;
-    let separator = *random.pick(&[case.separators.element, case.separators.component, any]);
-    for number in [random.below(4) as u64, random.below(40) as u64] {
-        tally.look_up(name, part, separator, number);
-    }
-    if case.seed.is_multiple_of(64) {
-        tally.look_up(name, part, separator, random.number());
-        tally.look_up(name, part, separator, u64::MAX);
-        tally.look_up(name, &[], separator, 0);
-    }
-}
-
-/// Lookups in a segment that begins with BIN, by the byte behind its tag and by any other; and by the element separator in
-/// the rest of the case's input from a BIN on, up to a place that a count may or may not end with.
-fn look_up_bin(tally: &mut Tally, name: &str, case: &Case) {
-    let mut random = Random::new(case.seed ^ 0xB1);
-    let (segment, separator) = counted_segment(&mut random);
-    let other = random.below(256) as u8;
-    for number in [0, 1, 2, 3, random.below(40) as u64] {
-        tally.look_up(name, &segment, separator, number);
-    }
-    tally.look_up(name, &segment, other, random.below(4) as u64);
-    let element = case.separators.element;
-    let input = &case.input[..case.input.len().min(20_000)];
-    let Some(from) = input.windows(4).position(|bytes| bytes == [b'B', b'I', b'N', element]) else { return };
-    let rest = &input[from..];
-    let ends = (0..rest.len()).filter(|at| rest[*at] == case.separators.terminator).take(6);
-    for end in ends.flat_map(|end| [end.saturating_sub(1), end, end + 1]) {
-        tally.look_up(name, &rest[..end], element, 1 + random.below(3) as u64);
     }
 }
 

@@ -1,8 +1,10 @@
 //! Rewriting by both sides, where the library has it.
 
+use crate::lookups;
 use crate::outcome::{Outcome, Sizes};
 use crate::sides::{library_how, library_set};
 use crate::tally::Tally;
+use reference::generator::Case;
 use reference::{LineEnds, Separators};
 use stormhlaw::raw;
 
@@ -23,22 +25,21 @@ fn independent(input: &[u8], [set, new]: [Separators; 2], sizes: Sizes) -> Outco
     outcome
 }
 
-/// Compares one rewriting, with both choices about line ends and with these bits besides: it is strict, whatever it is told.
-pub fn compare(
-    tally: &mut Tally,
-    name: &str,
-    input: &[u8],
-    sets: [Separators; 2],
-    unnamed: u64,
-    sizes: Sizes,
-) {
-    let two = independent(input, sets, sizes);
+/// Compares the case's rewriting, with both choices about line ends and with these bits besides: it is strict, whatever it is
+/// told. Where it succeeds, lookups in the output are held to those in the input.
+pub fn compare(tally: &mut Tally, name: &str, case: &Case, unnamed: u64) {
+    let sets = [case.separators, case.new];
+    let sizes =
+        Sizes { segments: case.segment_numbers, levels: case.level_numbers, output: case.output_length };
+    let two = independent(&case.input, sets, sizes);
     let hows = LineEnds::BOTH.map(|line_ends| library_how(line_ends, unnamed));
     for how in hows {
-        let one = library(input, sets, how, sizes);
+        let mut one = library(&case.input, sets, how, sizes);
         tally.rewritten(one.answer[0]);
         if let Some(difference) = one.difference(&two) {
-            tally.differs(name, &difference, input, &format!("{sets:?}, how {how:#x}, {sizes:?}"));
+            tally.differs(name, &difference, &case.input, &format!("{sets:?}, how {how:#x}, {sizes:?}"));
+        } else if one.answer[0] == 0 {
+            lookups::kept(tally, name, case, &mut one);
         }
     }
 }

@@ -1,7 +1,7 @@
 //! The two sides: the library through its C interface, and the independent reader.
 
 use crate::outcome::{Outcome, Sizes};
-use reference::{LineEnds, Separators};
+use reference::{lookup_span, LineEnds, Separators};
 use stormhlaw::{raw, How};
 
 /// The set as the library takes it.
@@ -34,11 +34,12 @@ pub fn reference_read(input: &[u8], set: Separators, line_ends: LineEnds, sizes:
 }
 
 /// Start and length by the library.
-pub fn library_element(bytes: &[u8], separator: u8, number: u64) -> (u64, u64) {
-    raw::element(bytes, separator, number).into()
+pub fn library_lookup(segment: &[u8], element: u8, component: u8, number: u64, part: u64) -> (u64, u64) {
+    raw::lookup(segment, element, component, number, part).into()
 }
 
-/// Start and length by the library.
-pub fn library_component(bytes: &[u8], separator: u8, number: u64) -> (u64, u64) {
-    raw::component(bytes, separator, number).into()
+/// Start and length by the independent reader.
+pub fn reference_lookup(segment: &[u8], element: u8, component: u8, number: u64, part: u64) -> (u64, u64) {
+    let (start, length) = lookup_span(segment, element, component, number as usize, part as usize);
+    (start as u64, length as u64)
 }

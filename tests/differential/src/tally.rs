@@ -1,8 +1,8 @@
 //! Counting what was compared, and telling of what differs.
 
 use crate::outcome::Sizes;
-use crate::sides::{library_component, library_element, library_how, library_read, reference_read};
-use reference::{component_span, element_span, LineEnds, Separators};
+use crate::sides::{library_how, library_lookup, library_read, reference_lookup, reference_read};
+use reference::{LineEnds, Separators};
 
 /// How many answers there are, 0 to 19.
 const ANSWERS: usize = 20;
@@ -16,9 +16,16 @@ pub struct Tally {
     readings: [u64; ANSWERS],
     rewritings: [u64; ANSWERS],
     lookups: u64,
+    /// Pairs of lookups before and behind a rewriting.
+    kept: u64,
     /// Number checks, and how many of them had a number.
     numbers: [u64; 2],
     differences: usize,
+}
+
+/// The bytes at a place, if it lies within the segment.
+fn bytes_at(segment: &[u8], (start, length): (u64, u64)) -> Option<&[u8]> {
+    segment.get(start as usize..)?.get(..length as usize)
 }
 
 impl Tally {
@@ -34,25 +41,31 @@ impl Tally {
         }
     }
 
-    /// Compares one element lookup and one component lookup.
-    pub fn look_up(&mut self, name: &str, bytes: &[u8], separator: u8, number: u64) {
-        let wide = |(start, length): (usize, usize)| (start as u64, length as u64);
-        let pairs = [
-            (
-                library_element(bytes, separator, number),
-                wide(element_span(bytes, separator, number as usize)),
-            ),
-            (
-                library_component(bytes, separator, number),
-                wide(component_span(bytes, separator, number as usize)),
-            ),
-        ];
-        self.lookups += 2;
-        for (one, two) in pairs {
-            if one != two {
-                let difference = format!("spans {one:?} and {two:?}");
-                self.differs(name, &difference, bytes, &format!("separator {separator}, number {number}"));
-            }
+    /// Compares one lookup.
+    pub fn look_up(&mut self, name: &str, bytes: &[u8], element: u8, component: u8, number: u64, part: u64) {
+        let one = library_lookup(bytes, element, component, number, part);
+        let two = reference_lookup(bytes, element, component, number, part);
+        self.lookups += 1;
+        if one != two {
+            let given = format!("separators {element} and {component}, element {number}, component {part}");
+            self.differs(name, &format!("spans {one:?} and {two:?}"), bytes, &given);
+        }
+    }
+
+    /// Compares two lookups of the library with the same numbers, in a segment and in what a rewriting made of it: the same
+    /// place, and for a component the same bytes.
+    pub fn keep(&mut self, name: &str, segments: [&[u8]; 2], sets: [Separators; 2], number: u64, part: u64) {
+        let places = [0, 1].map(|at| {
+            let Separators { element, component, .. } = sets[at];
+            library_lookup(segments[at], element, component, number, part)
+        });
+        let [one, two] = [0, 1].map(|at| bytes_at(segments[at], places[at]));
+        self.kept += 1;
+        if places[0] != places[1] || one.is_none() || (part > 0 && one != two) {
+            let difference =
+                format!("spans {places:?} before and behind a rewriting, bytes {one:?} and {two:?}");
+            let given = format!("{sets:?}, element {number}, component {part}");
+            self.differs(name, &difference, segments[0], &given);
         }
     }
 
@@ -91,7 +104,7 @@ impl Tally {
             }
             println!();
         }
-        println!("lookups {}", self.lookups);
+        println!("lookups {}; before and behind a rewriting {}", self.lookups, self.kept);
         println!("numbers {}; fit {}", self.numbers[0], self.numbers[1]);
         println!("differences {}", self.differences);
     }

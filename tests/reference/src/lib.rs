@@ -1,6 +1,6 @@
 //! A reader of X12 842 nonconformance reports, written from the rules of document 01 and of document
-//! 02, Items 1, 3, 5 and 6, alone, to compare another reader with: the same answers, the same tables,
-//! the same output, the same numbers.
+//! 02, Items 1, 3, 5, 6 and 8, alone, to compare another reader with: the same answers, the same tables,
+//! the same output, the same places, the same numbers.
 //!
 //! `read` is made for speed: one pass, no allocation. `plain::read_plain` says the same in the
 //! plainest way, from the words of the paper, and the tests hold the two together.
@@ -27,7 +27,7 @@ pub mod vectors;
 pub use answer::Answer;
 pub use levels::{CODES, LEVEL_NUMBERS, SEGMENT_NUMBERS};
 pub use line_ends::LineEnds;
-pub use lookup::{component_span, element_span};
+pub use lookup::lookup_span;
 pub use number::{number, Number};
 pub use read::{read, LONGEST};
 pub use rewrite::rewrite;

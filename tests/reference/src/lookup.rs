@@ -1,29 +1,34 @@
-//! Looking up elements and components (document 01, after rewriting; document 02, Item 1). Neither
-//! refuses.
+//! Looking up an element of a segment, or a component of one (document 02, Items 1 and 8). Nothing is
+//! refused, whatever the two separators are.
 
 use crate::attached;
 
-/// Where an element of a segment starts, and its length. Number 0 is the tag; a number past the
-/// last gives the empty part at the end. A BIN whose count ends exactly with the segment's bytes has
-/// two elements, BIN02 whole; every other segment is cut at each separator.
-pub fn element_span(segment: &[u8], element: u8, number: usize) -> (usize, usize) {
-    let Some(content) = attached::content(segment, element) else {
-        return piece(segment, element, number);
+/// Where part `part` of element `number` starts in the segment, and its length. Element 0 is the tag,
+/// part 0 the whole element, and parts from 1 on are its components. Past the last element comes the
+/// empty part at the segment's end, past the last component the empty part at the element's end. A BIN
+/// whose count ends exactly with the segment's bytes has two elements, BIN02 whole, and its tag and both
+/// of them are one component each; any other segment is cut at every separator.
+pub fn lookup_span(segment: &[u8], element: u8, component: u8, number: usize, part: usize) -> (usize, usize) {
+    let content = attached::content(segment, element);
+    let (start, length) = match content {
+        Some(content) => counted_piece(segment, content, number),
+        None => piece(segment, element, number),
     };
+    let (skipped, length) = match (part, content) {
+        (0, _) | (1, Some(_)) => (0, length),
+        (_, Some(_)) => (length, 0),
+        (_, None) => piece(&segment[start..start + length], component, part - 1),
+    };
+    (start + skipped, length)
+}
+
+/// The tag or an element of a whole BIN, whose BIN02 starts there.
+fn counted_piece(segment: &[u8], content: usize, number: usize) -> (usize, usize) {
     match number {
         0 => (0, 3),
         1 => (4, content - 5),
         2 => (content, segment.len() - content),
         _ => (segment.len(), 0),
-    }
-}
-
-/// Where a component of an element starts, and its length, numbered from 1. Number 0, or one past
-/// the last, gives the empty part at the end.
-pub fn component_span(element_bytes: &[u8], component: u8, number: usize) -> (usize, usize) {
-    match number.checked_sub(1) {
-        Some(before) => piece(element_bytes, component, before),
-        None => (element_bytes.len(), 0),
     }
 }
 

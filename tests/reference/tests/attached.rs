@@ -2,11 +2,13 @@
 //! rewriting by hand, and the largest BINs.
 
 mod plainly;
+mod words;
 
 use reference::generator::{counted_segment, Random};
 use reference::plain::read_plain;
-use reference::{component_span, element_span, read, rewrite};
+use reference::{lookup_span, read, rewrite};
 use reference::{LineEnds, Separators, LONGEST, SEGMENT_NUMBERS};
+use words::words;
 
 /// What stands before the BIN, which is then the sixth segment and starts at byte 38.
 const BEFORE: &[u8] = b"ST*842*0001~BNR*1~HL*1**I~NCD*1~EFI*1~";
@@ -74,31 +76,21 @@ fn by_definition(bin: &[u8]) -> Result<usize, [u64; 4]> {
     Err([3, 6, 38, 0])
 }
 
-/// All words of so many letters.
-fn words(letters: &[u8], length: usize) -> Vec<Vec<u8>> {
-    (0..length).fold(vec![Vec::new()], |words, _| {
-        let longer = |word: &Vec<u8>| letters.iter().map(|letter| [&word[..], &[*letter]].concat()).collect();
-        words.iter().flat_map(|word| -> Vec<Vec<u8>> { longer(word) }).collect()
-    })
-}
-
 #[test]
 fn every_short_word_is_read_as_defined() {
     let (mut whole, mut refused) = (0, 0);
-    for length in 0..=6 {
-        for word in words(b"012*~A", length) {
-            let bin = [b"BIN*", &word[..]].concat();
-            let (answer, segments) = given(&[BEFORE, &bin].concat());
-            match by_definition(&bin) {
-                Err(expected) => {
-                    assert_eq!(answer, expected, "{}", bin.escape_ascii());
-                    refused += 1;
-                }
-                Ok(length) => {
-                    assert_eq!(segments[5], [38, length as u64 - 1, 55, 1]);
-                    assert_eq!(answer[1..3], [7, 38 + length as u64], "{}", bin.escape_ascii());
-                    whole += 1;
-                }
+    for word in words(b"012*~A", 6) {
+        let bin = [b"BIN*", &word[..]].concat();
+        let (answer, segments) = given(&[BEFORE, &bin].concat());
+        match by_definition(&bin) {
+            Err(expected) => {
+                assert_eq!(answer, expected, "{}", bin.escape_ascii());
+                refused += 1;
+            }
+            Ok(length) => {
+                assert_eq!(segments[5], [38, length as u64 - 1, 55, 1]);
+                assert_eq!(answer[1..3], [7, 38 + length as u64], "{}", bin.escape_ascii());
+                whole += 1;
             }
         }
     }
@@ -198,7 +190,7 @@ fn a_bin_fills_an_input_to_the_limit() {
 /// The elements 0 to 4 by lookup.
 fn looked_up(segment: &[u8], separator: u8) -> [&[u8]; 5] {
     [0, 1, 2, 3, 4].map(|number| {
-        let (start, length) = element_span(segment, separator, number);
+        let (start, length) = lookup_span(segment, separator, b'^', number, 0);
         &segment[start..start + length]
     })
 }
@@ -220,32 +212,53 @@ fn lookups_by_hand() {
     assert_eq!(looked_up(b"BIN101X", b'1'), [&b"BIN"[..], b"0", b"X", b"", b""]);
     assert_eq!(looked_up(b"BIN333ABC", b'3'), [&b"BIN"[..], b"", b"", b"ABC", b""]);
     let segment = b"BIN*3*A*C";
-    assert_eq!(element_span(segment, b'*', 2), (6, 3));
+    assert_eq!(lookup_span(segment, b'*', b':', 2, 0), (6, 3));
     for number in [3, 4, 1000, usize::MAX] {
-        assert_eq!(element_span(segment, b'*', number), (9, 0));
+        assert_eq!(lookup_span(segment, b'*', b':', number, 0), (9, 0));
     }
-    // A component is cut as always.
-    assert_eq!(component_span(b"BIN:3:A:C", b':', 3), (6, 1));
+}
+
+#[test]
+fn components_by_hand() {
+    let parts = |segment, component, number| {
+        [0, 1, 2, usize::MAX].map(|part| lookup_span(segment, b'*', component, number, part))
+    };
+    // Whole: one component each, whatever bytes stand in it.
+    assert_eq!(parts(b"BIN*3*A:C", b':', 2), [(6, 3), (6, 3), (9, 0), (9, 0)]);
+    assert_eq!(parts(b"BIN*3*A*C", b'*', 2), [(6, 3), (6, 3), (9, 0), (9, 0)]);
+    assert_eq!(parts(b"BIN*3*A:C", b'3', 1), [(4, 1), (4, 1), (5, 0), (5, 0)]);
+    assert_eq!(parts(b"BIN*3*A:C", b'I', 0), [(0, 3), (0, 3), (3, 0), (3, 0)]);
+    assert_eq!(parts(b"BIN*3*A:C", b':', 3), [(9, 0); 4]);
+    // Cut, as the count is one off.
+    assert_eq!(parts(b"BIN*2*A:C", b':', 2), [(6, 3), (6, 1), (8, 1), (9, 0)]);
+    assert_eq!(parts(b"BIN*4*A:C", b':', 2), [(6, 3), (6, 1), (8, 1), (9, 0)]);
+    assert_eq!(parts(b"BIN*2*A:C", b'2', 1), [(4, 1), (4, 0), (5, 0), (5, 0)]);
+    assert_eq!(parts(b"BIN*2*A:C", b'I', 0), [(0, 3), (0, 1), (2, 1), (3, 0)]);
+    // An element is cut, whatever it looks like.
+    assert_eq!(lookup_span(b"BIN:3:A:C", b'*', b':', 0, 3), (6, 1));
+    assert_eq!(lookup_span(b"REF*BIN:3:A:C", b'*', b':', 1, 3), (10, 1));
 }
 
 #[test]
 fn lookups_agree_with_the_plain_ones() {
     let mut random = Random::new(842);
     let mut whole = 0;
-    for _ in 0..200_000 {
+    for _ in 0..100_000 {
         let (segment, separator) = counted_segment(&mut random);
         let other = random.below(256) as u8;
-        for separator in [separator, other] {
-            for number in [0, 1, 2, 3, 4, random.below(40), usize::MAX] {
-                let expected = plainly::element(&segment, separator, number);
-                let found = element_span(&segment, separator, number);
-                assert_eq!(found, expected, "{} at {separator}", segment.escape_ascii());
+        let far = random.below(40);
+        for (element, component) in [(separator, b':'), (separator, other), (other, separator)] {
+            let asked = [(0, 0), (0, 1), (1, 0), (1, 2), (2, 0), (2, 1), (2, 2), (3, 0), (4, 1)];
+            for (number, part) in asked.into_iter().chain([(2, far), (far, 0), (far, 1), (usize::MAX, 0)]) {
+                let expected = plainly::lookup(&segment, element, component, number, part);
+                let found = lookup_span(&segment, element, component, number, part);
+                assert_eq!(found, expected, "{} at {element}, {component}", segment.escape_ascii());
             }
         }
-        whole += usize::from(plainly::elements(&segment, separator).len() == 3);
+        whole += usize::from(plainly::components(&segment, separator, separator).len() == 3);
     }
-    println!("{whole} of 200,000 in three pieces");
-    assert!((60_000..170_000).contains(&whole));
+    println!("{whole} of 100,000 in three pieces");
+    assert!((30_000..85_000).contains(&whole));
 }
 
 /// Rewrites and gives the answer and the output.

@@ -2,12 +2,14 @@
 //! and generated reports held to what a strict reading says of them without the skipped bytes.
 
 mod both;
+mod words;
 
 use both::{given, Outcome};
 use reference::generator::{report, Case};
 use reference::vectors::text::{joined, written_with, W1};
 use reference::{rewrite, Answer, LineEnds, Separators, SEGMENT_NUMBERS};
 use std::collections::BTreeMap;
+use words::words;
 
 const STANDARD: Separators = Separators::STANDARD;
 
@@ -195,18 +197,6 @@ fn a_separator_is_no_line_end() {
     // Both are separators: nothing is skipped.
     let both = Separators::new(b'*', b'\r', b'\n');
     assert_eq!(ends("ST*842*0001\n\rBNR*1\n", both), [[4, 2, 12, 0]; 2]);
-}
-
-/// All words of up to so many letters.
-fn words(letters: &[u8], longest: usize) -> Vec<Vec<u8>> {
-    let mut all = vec![Vec::new()];
-    let mut last = all.clone();
-    for _ in 0..longest {
-        let longer = |word: &Vec<u8>| letters.iter().map(|letter| [&word[..], &[*letter]].concat()).collect();
-        last = last.iter().flat_map(|word| -> Vec<Vec<u8>> { longer(word) }).collect();
-        all.extend_from_slice(&last);
-    }
-    all
 }
 
 /// A short report with a BIN in these separators, with the word behind ST, with the word behind the BIN, and

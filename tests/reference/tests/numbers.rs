@@ -2,6 +2,7 @@
 //! against arithmetic on the text; and both readers against the check.
 
 mod both;
+mod words;
 
 use reference::generator::{number_text, report, Random};
 use reference::plain::{forms, number_plain};
@@ -10,6 +11,7 @@ use reference::vectors::text::in_fault;
 use reference::vectors::{groups, Case};
 use reference::{number, LineEnds, Number, Separators, LEVEL_NUMBERS, SEGMENT_NUMBERS};
 use std::collections::BTreeSet;
+use words::words;
 
 /// A number has at most so many digits.
 const MOST: usize = 15;
@@ -26,21 +28,6 @@ fn both_numbers(text: &[u8], least: usize, most: usize) -> Number {
 /// The number with the bounds of NCA04.
 fn of(text: &str) -> Number {
     both_numbers(text.as_bytes(), 1, MOST)
-}
-
-/// Every word of these letters with at most so many of them.
-fn words(letters: &[u8], longest: usize) -> Vec<Vec<u8>> {
-    let mut words: Vec<Vec<u8>> = vec![Vec::new()];
-    let mut from = 0;
-    for _ in 0..longest {
-        let shorter = words[from..].to_vec();
-        from = words.len();
-        let longer = |word: &Vec<u8>| -> Vec<Vec<u8>> {
-            letters.iter().map(|letter| [&word[..], &[*letter]].concat()).collect()
-        };
-        words.extend(shorter.iter().flat_map(longer));
-    }
-    words
 }
 
 #[test]

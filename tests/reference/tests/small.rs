@@ -1,7 +1,7 @@
-//! Separators, lookups and rewriting, each by itself.
+//! Separators and rewriting, each by itself.
 
 use reference::vectors::text::{in_fault, joined, W1};
-use reference::{component_span, element_span, rewrite, Answer, Separators};
+use reference::{rewrite, Answer, Separators};
 
 #[test]
 fn the_standard_set() {
@@ -31,44 +31,6 @@ fn the_three_differ() {
     assert!(!Separators::new(b'*', b'~', b'*').fit());
     assert!(!Separators::new(b'~', b'*', b'*').fit());
     assert!(!Separators::new(b'*', b'*', b'*').fit());
-}
-
-#[test]
-fn lookups_agree_with_cutting() {
-    for text in [&b"HL*2*1*I*0"[..], b"", b"*", b"**A", b"A**", b"REF", b"\0\xFF\0"] {
-        for separator in [b'*', b':', 0, 255, b'R'] {
-            let pieces: Vec<&[u8]> = text.split(|byte| *byte == separator).collect();
-            for number in 0..12 {
-                let (start, length) = element_span(text, separator, number);
-                match pieces.get(number) {
-                    Some(piece) => assert_eq!(text[start..start + length], **piece),
-                    None => assert_eq!((start, length), (text.len(), 0)),
-                }
-                let before: usize = pieces.iter().take(number).map(|piece| piece.len() + 1).sum();
-                assert_eq!(start, before.min(text.len()));
-                assert_eq!(component_span(text, separator, number + 1), (start, length));
-            }
-            assert_eq!(component_span(text, separator, 0), (text.len(), 0));
-            assert_eq!(element_span(text, separator, usize::MAX), (text.len(), 0));
-            assert_eq!(component_span(text, separator, usize::MAX), (text.len(), 0));
-        }
-    }
-}
-
-#[test]
-fn lookups_by_hand() {
-    let segment = b"NCA**R1**5*EA:1";
-    assert_eq!(element_span(segment, b'*', 0), (0, 3));
-    assert_eq!(element_span(segment, b'*', 1), (4, 0));
-    assert_eq!(element_span(segment, b'*', 2), (5, 2));
-    assert_eq!(element_span(segment, b'*', 5), (11, 4));
-    assert_eq!(element_span(segment, b'*', 6), (15, 0));
-    assert_eq!(component_span(b"EA:1", b':', 0), (4, 0));
-    assert_eq!(component_span(b"EA:1", b':', 1), (0, 2));
-    assert_eq!(component_span(b"EA:1", b':', 2), (3, 1));
-    assert_eq!(component_span(b"EA:1", b':', 3), (4, 0));
-    assert_eq!(element_span(b"", b'*', 0), (0, 0));
-    assert_eq!(component_span(b"", b':', 1), (0, 0));
 }
 
 /// Rewrites W1 or another text and gives the answer's numbers and the output.

@@ -4,7 +4,7 @@ mod plainly;
 
 use reference::plain::{number_plain, read_plain};
 use reference::vectors::{generated, groups, Case, How, FILE_BYTES, OUTPUT_BYTES, TABLE_NUMBERS};
-use reference::{component_span, rewrite, LineEnds, Separators};
+use reference::{rewrite, LineEnds, Separators};
 use std::collections::BTreeSet;
 
 #[test]
@@ -69,20 +69,22 @@ fn line(name: &str, numbers: impl Iterator<Item = u64>) -> String {
 
 /// What a program prints for a lookup or a number check, with plain ones; nothing for any other kind.
 fn looked_up(header: &[u8], input: &[u8]) -> Option<String> {
-    let asked = number(&header[11..13]);
-    if header[0] == 6 {
-        assert_eq!((&header[1..7], asked), (&[0; 6][..], 0));
-        let [fit, value, places, exponent, written] =
-            number_plain(input, number(&header[7..9]), number(&header[9..11])).numbers();
-        return Some(format!("number {fit} {value} {places} {exponent} {written}\n"));
-    }
-    let (start, length) = match header[0] {
-        3 => plainly::element(input, header[1], asked),
-        4 => component_span(input, header[1], asked),
+    let (first, second) = (number(&header[7..9]), number(&header[9..11]));
+    let printed = match header[0] {
+        3 => {
+            assert_eq!(header[3..7], [0; 4]);
+            let (start, length) = plainly::lookup(input, header[1], header[2], first, second);
+            format!("span {start} {length}\n")
+        }
+        5 => {
+            assert_eq!(header[1..7], [0; 6]);
+            let numbers = number_plain(input, first, second).numbers();
+            format!("number {}\n", numbers.map(|number| number.to_string()).join(" "))
+        }
         _ => return None,
     };
-    assert_eq!(header[2..11], [0; 9]);
-    Some(format!("span {start} {length}\n"))
+    assert_eq!(header[11..13], [0; 2]);
+    Some(printed)
 }
 
 /// What a program prints for a file, with the plain reader.
@@ -110,10 +112,11 @@ fn played(name: &str, mut file: &[u8]) -> String {
                 read_plain(input, old, how, &mut segments, &mut levels)
             }
             2 => plainly::rewrite(input, old, new, &mut segments, &mut levels, &mut output),
-            _ => {
+            4 => {
                 let behind = vec![b'~'; number(&header[4..7]) - input.len()];
                 read_plain(&[input, &behind].concat(), old, how, &mut segments, &mut levels)
             }
+            kind => panic!("no kind {kind}"),
         };
         out += &answer.numbers().map(|number| number.to_string()).join(" ");
         out += "\n";

@@ -1,6 +1,6 @@
 //! One case: how it is written into a file, and what is printed for it.
 
-use crate::{component_span, element_span, number, read, rewrite, Answer, LineEnds, Number, Separators};
+use crate::{lookup_span, number, read, rewrite, Answer, LineEnds, Number, Separators};
 
 /// How a report is read: the byte of a case that says so. Only its lowest bit is looked at.
 #[derive(Clone, Copy, Debug, PartialEq, Eq)]
@@ -48,7 +48,20 @@ pub enum Case {
         /// How many bytes the output has.
         output: usize,
     },
-    /// Kind 5.
+    /// Kind 3.
+    Lookup {
+        /// The segment's bytes.
+        segment: Vec<u8>,
+        /// The element separator.
+        element: u8,
+        /// The component separator.
+        component: u8,
+        /// The element asked for, 0 for the tag.
+        number: usize,
+        /// The component asked for, 0 for the whole element.
+        part: usize,
+    },
+    /// Kind 4.
     Long {
         /// The bytes that the input starts with.
         input: Vec<u8>,
@@ -61,25 +74,7 @@ pub enum Case {
         /// How long the input is: behind its first bytes stand bytes `~`.
         length: usize,
     },
-    /// Kind 3.
-    Element {
-        /// The segment's bytes.
-        segment: Vec<u8>,
-        /// The element separator.
-        separator: u8,
-        /// The number asked for.
-        number: usize,
-    },
-    /// Kind 4.
-    Component {
-        /// The element's bytes.
-        element: Vec<u8>,
-        /// The component separator.
-        separator: u8,
-        /// The number asked for.
-        number: usize,
-    },
-    /// Kind 6.
+    /// Kind 5.
     Number {
         /// The text to check.
         text: Vec<u8>,
@@ -147,29 +142,26 @@ impl Case {
     pub fn encode(&self, file: &mut Vec<u8>) {
         let none = Separators::new(0, 0, 0);
         let length = |bytes: &[u8]| Separators::new(bytes[0], bytes[1], bytes[2]);
-        let (kind, old, new, rooms, asked, input) = match self {
+        let (kind, old, new, pair, more, input) = match self {
             Case::Read { input, separators, how, rooms } => {
                 (1, *separators, none, *rooms, usize::from(how.0), input)
             }
             Case::Rewrite { input, separators, new, rooms, output } => {
                 (2, *separators, *new, *rooms, *output, input)
             }
+            Case::Lookup { segment, element, component, number, part } => {
+                (3, Separators::new(*element, *component, 0), none, (*number, *part), 0, segment)
+            }
             Case::Long { input, separators, how, rooms, length: bytes } => {
-                (5, *separators, length(&little(*bytes, 3)), *rooms, usize::from(how.0), input)
+                (4, *separators, length(&little(*bytes, 3)), *rooms, usize::from(how.0), input)
             }
-            Case::Element { segment, separator, number } => {
-                (3, Separators::new(*separator, 0, 0), none, (0, 0), *number, segment)
-            }
-            Case::Component { element, separator, number } => {
-                (4, Separators::new(*separator, 0, 0), none, (0, 0), *number, element)
-            }
-            Case::Number { text, least, most } => (6, none, none, (*least, *most), 0, text),
+            Case::Number { text, least, most } => (5, none, none, (*least, *most), 0, text),
         };
         file.extend([kind, old.element, old.component, old.terminator]);
         file.extend([new.element, new.component, new.terminator]);
-        file.extend(little(rooms.0, 2));
-        file.extend(little(rooms.1, 2));
-        file.extend(little(asked, 2));
+        file.extend(little(pair.0, 2));
+        file.extend(little(pair.1, 2));
+        file.extend(little(more, 2));
         file.extend(little(input.len(), 3));
         file.extend(input);
     }
@@ -188,16 +180,13 @@ impl Case {
                 print_answer(out, answer, &tables);
                 print_line(out, "output", &output);
             }
+            Case::Lookup { segment, element, component, number, part } => {
+                print_span(out, lookup_span(segment, *element, *component, *number, *part));
+            }
             Case::Long { input, separators, how, rooms, length } => {
                 let mut long = input.clone();
                 long.resize(*length, b'~');
                 print_reading(out, &long, *separators, *how, *rooms);
-            }
-            Case::Element { segment, separator, number } => {
-                print_span(out, element_span(segment, *separator, *number));
-            }
-            Case::Component { element, separator, number } => {
-                print_span(out, component_span(element, *separator, *number));
             }
             Case::Number { text, least, most } => print_number(out, number(text, *least, *most)),
         }

@@ -3,10 +3,16 @@
 use reference::plain::read_plain;
 use reference::{Answer, LineEnds, Separators, SEGMENT_NUMBERS};
 
-/// The elements of a segment, the tag first. BIN02 is whole where the count ends exactly with the
-/// segment's bytes.
-pub fn elements(segment: &[u8], separator: u8) -> Vec<&[u8]> {
-    counted(segment, separator).unwrap_or_else(|| segment.split(|byte| *byte == separator).collect())
+/// The components of each element of a segment, the tag's first. In a BIN whose count ends exactly with
+/// the segment's bytes each piece is one; any other segment is cut at every separator.
+pub fn components(segment: &[u8], element: u8, component: u8) -> Vec<Vec<&[u8]>> {
+    match counted(segment, element) {
+        Some(pieces) => pieces.into_iter().map(|piece| vec![piece]).collect(),
+        None => {
+            let elements = segment.split(|byte| *byte == element);
+            elements.map(|piece| piece.split(|byte| *byte == component).collect()).collect()
+        }
+    }
 }
 
 /// The three pieces of a BIN whose count ends exactly with the segment's bytes.
@@ -21,12 +27,24 @@ fn counted(segment: &[u8], separator: u8) -> Option<Vec<&[u8]>> {
     whole.then(|| vec![&segment[..3], digits, content])
 }
 
-/// Where an element starts, and its length.
-pub fn element(segment: &[u8], separator: u8, number: usize) -> (usize, usize) {
-    let pieces = elements(segment, separator);
-    match pieces.get(number) {
-        Some(piece) => (pieces[..number].iter().map(|piece| piece.len() + 1).sum(), piece.len()),
-        None => (segment.len(), 0),
+/// How long pieces are with a separator behind each.
+fn with_separators(pieces: &[&[u8]]) -> usize {
+    pieces.iter().map(|piece| piece.len() + 1).sum()
+}
+
+/// Where an element, or from 1 on a component of it, starts, and its length: behind all that stands before
+/// it. What is not there is empty, at the end of what it would stand in.
+pub fn lookup(segment: &[u8], element: u8, component: u8, number: usize, part: usize) -> (usize, usize) {
+    let elements = components(segment, element, component);
+    let Some(pieces) = elements.get(number) else { return (segment.len(), 0) };
+    let start: usize = elements[..number].iter().map(|pieces| with_separators(pieces)).sum();
+    let length = with_separators(pieces) - 1;
+    if part == 0 {
+        return (start, length);
+    }
+    match pieces.get(part - 1) {
+        Some(piece) => (start + with_separators(&pieces[..part - 1]), piece.len()),
+        None => (start + length, 0),
     }
 }
 
@@ -68,19 +86,14 @@ pub fn rewrite(
 
 /// One segment with its terminator, or the first element in which a data byte is a new separator.
 fn rewrite_segment(segment: &[u8], old: Separators, new: Separators) -> Result<Vec<u8>, usize> {
-    let pieces = elements(segment, old.element);
     let mut rewritten: Vec<Vec<u8>> = Vec::new();
-    for (number, piece) in pieces.iter().enumerate() {
-        if pieces[0] == b"BIN" && number == 2 {
-            rewritten.push(piece.to_vec());
-            continue;
-        }
-        let components: Vec<&[u8]> = piece.split(|byte| *byte == old.component).collect();
-        if components.concat().iter().any(|byte| [new.element, new.component, new.terminator].contains(byte))
-        {
+    for (number, pieces) in components(segment, old.element, old.component).iter().enumerate() {
+        let attached = number == 2 && segment.starts_with(&[b'B', b'I', b'N', old.element]);
+        let collides = |byte: &u8| [new.element, new.component, new.terminator].contains(byte);
+        if !attached && pieces.concat().iter().any(collides) {
             return Err(number);
         }
-        rewritten.push(components.join(&new.component));
+        rewritten.push(pieces.join(&new.component));
     }
     Ok([rewritten.join(&new.element), vec![new.terminator]].concat())
 }
