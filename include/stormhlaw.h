@@ -23,7 +23,7 @@
 ** A BIN, which carries an attachment, is ended by its count instead: BIN, the element separator, BIN01, the element separator,
 ** BIN02, the terminator. BIN01 is 1 to 15 digits that give the number of bytes of BIN02, 1 at least, and BIN02 is exactly that
 ** many bytes of any kind, separators, line ends and zero bytes among them. So it is wherever BIN and the element separator begin
-** a segment. Its bytes are got by stormhlaw_element with number 2; in the segment table a BIN has row 55.
+** a segment. Its bytes are got by stormhlaw_lookup as element 2; in the segment table a BIN has row 55.
 */
 #ifndef STORMHLAW_H
 #define STORMHLAW_H
@@ -253,36 +253,30 @@ static inline size_t stormhlaw_valid_levels(const uint64_t answer[4], const uint
 }
 
 /*
-** Finds an element of a segment: span[0] is where it starts within `segment`, span[1] how many bytes it has.
+** Finds an element of a segment, or a component of it: span[0] is where it starts within `segment`, span[1] how many bytes it has.
 **
 **   segment, segment_length   the bytes of one segment, without its terminator
-**   separator                 the element separator, any byte
+**   element, component        the two separators, any bytes
 **   number                    the element; 0 is the tag
+**   part                      the component, from 1; 0 is the whole element
 **   span                      always written
 **
-** An element that is absent is an empty part at its place. A number past the last gives the empty part at the end:
-** segment_length and 0.
+** The segment is cut at every element separator, and each element, the tag too, at every component separator. What is absent is an
+** empty part at its place. A component past the last gives the empty part at its element's end; an element past the last, with any
+** component, the empty part at the segment's end: segment_length and 0.
 **
-** Of a BIN number 1 is the count and number 2 all the bytes that it counts, where the count ends exactly with the segment, as it
-** does in every accepted report. Bytes that begin like a BIN and do not end so are cut at their separators.
+** Of a BIN element 1 is the count and element 2 all the bytes that it counts, where the count ends exactly with the segment, as it
+** does in every accepted report. Tag, count and these bytes are one component each, whatever bytes they hold: component 1 is all of
+** it, as component 0 is. Bytes that begin like a BIN and do not end so are cut at their separators.
+**
+** The last element is the first that ends where the segment ends, and the last component the first that ends where its element does:
+** so list_elements in the example knows where to stop.
 */
-void stormhlaw_element(
-    const uint8_t *segment, size_t segment_length, uint8_t separator, uint64_t number, uint64_t span[2]);
-
-/*
-** Finds a component of an element: span[0] is where it starts within `element`, span[1] how many bytes it has.
-**
-**   element, element_length   the bytes of one element
-**   separator                 the component separator, any byte
-**   number                    the component, from 1
-**   span                      always written
-**
-** Number 0, and a number past the last, give the empty part at the end: element_length and 0.
-**
-** BIN02 is one component: do not ask for components of it. This function is told no tag, and would cut it at the separator.
-*/
-void stormhlaw_component(
-    const uint8_t *element, size_t element_length, uint8_t separator, uint64_t number, uint64_t span[2]);
+void stormhlaw_lookup(
+    const uint8_t *segment, size_t segment_length,
+    uint8_t element, uint8_t component,
+    uint64_t number, uint64_t part,
+    uint64_t span[2]);
 
 /*
 ** How a quantity is written: an optional '-'; then digits, 1 to 15 with leading zeros counted, and at most one '.' before, among or

@@ -1,4 +1,4 @@
-/* The worked reports of document 01, the lookups, the levels of segments, an attachment, line ends and quantities, through the header
+/* The worked reports of document 01, the lookup, the levels of segments, an attachment, line ends and quantities, through the header
 ** alone. Says what differs and ends with status 1. */
 #include <stdio.h>
 #include <string.h>
@@ -29,6 +29,9 @@
 
 /* The bytes of a quoted text, zero bytes among them too. */
 #define BYTES(text) (const uint8_t *)(text), sizeof(text) - 1
+
+/* What stands around the numbers of a span or a quantity that are lent, and in them before the call. */
+#define GUARD 0x5a5a5a5a5a5a5a5a
 
 static int passed, failed;
 
@@ -130,33 +133,82 @@ static void expect_valid_records(void)
     expect_valid(W1, '*', '|', TEN, 77, STORMHLAW_OUTPUT_TOO_SHORT, 7, 2);
 }
 
-static void expect_element(const char *segment, uint64_t number, uint64_t start, uint64_t length)
+/* Start and length of a part of so many bytes, cut by these two separators; what stands around the two numbers stays. */
+static void expect_span(const char *segment, size_t size, const char *separators, uint64_t number, uint64_t part, uint64_t start,
+                        uint64_t length)
 {
-    uint64_t span[2], wanted[2] = {start, length};
-    stormhlaw_element((const uint8_t *)segment, strlen(segment), '*', number, span);
-    expect(segment, span, wanted, 2);
+    uint64_t found[4] = {GUARD, GUARD, GUARD, GUARD}, wanted[4] = {GUARD, start, length, GUARD};
+    stormhlaw_lookup((const uint8_t *)segment, size, (uint8_t)separators[0], (uint8_t)separators[1], number, part, found + 1);
+    expect(segment, found, wanted, 4);
 }
 
-static void expect_component(const char *element, uint64_t number, uint64_t start, uint64_t length)
+/* The same of a text that is cut by the standard separators. */
+static void expect_part(const char *segment, uint64_t number, uint64_t part, uint64_t start, uint64_t length)
 {
-    uint64_t span[2], wanted[2] = {start, length};
-    stormhlaw_component((const uint8_t *)element, strlen(element), ':', number, span);
-    expect(element, span, wanted, 2);
+    expect_span(segment, strlen(segment), "*:", number, part, start, length);
 }
 
-static void expect_lookups(void)
+/* Component 0 is the whole element; an element past the last is at the segment's end, whatever its component. */
+static void expect_elements(void)
 {
-    expect_element("HL*2**I", 0, 0, 2);
-    expect_element("HL*2**I", 1, 3, 1);
-    expect_element("HL*2**I", 2, 5, 0);
-    expect_element("HL*2**I", 3, 6, 1);
-    expect_element("HL*2**I", 4, 7, 0);
-    expect_element("", 0, 0, 0);
-    expect_component("EA:25:1", 0, 7, 0);
-    expect_component("EA:25:1", 1, 0, 2);
-    expect_component("EA:25:1", 2, 3, 2);
-    expect_component("EA:25:1", 3, 6, 1);
-    expect_component("EA:25:1", 4, 7, 0);
+    static const uint64_t far[] = {0, 1, 2, UINT64_MAX};
+    expect_part("HL*2**I", 0, 0, 0, 2);
+    expect_part("HL*2**I", 1, 0, 3, 1);
+    expect_part("HL*2**I", 2, 0, 5, 0);
+    expect_part("HL*2**I", 3, 0, 6, 1);
+    expect_part("HL*2*", 2, 0, 5, 0);
+    expect_part("NCA**R1**5*EA:2:10", 5, 0, 11, 7);
+    for (size_t k = 0; k < sizeof far / sizeof *far; k++) {
+        expect_part("HL*2**I", 4, far[k], 7, 0);
+        expect_part("HL*2**I", UINT64_MAX, far[k], 7, 0);
+        expect_part("NCA*EA:2", 2, far[k], 8, 0);
+        expect_part("", 0, far[k], 0, 0);
+        expect_part("", 1, far[k], 0, 0);
+        expect_part("", UINT64_MAX, far[k], 0, 0);
+    }
+}
+
+/* A component past the last is at its element's end, and not at the segment's. The tag has components too. */
+static void expect_components(void)
+{
+    expect_part("NCA*EA:25::1*X", 1, 0, 4, 8);
+    expect_part("NCA*EA:25::1*X", 1, 1, 4, 2);
+    expect_part("NCA*EA:25::1*X", 1, 2, 7, 2);
+    expect_part("NCA*EA:25::1*X", 1, 3, 10, 0);
+    expect_part("NCA*EA:25::1*X", 1, 4, 11, 1);
+    expect_part("NCA*EA:25::1*X", 1, 5, 12, 0);
+    expect_part("NCA*EA:25::1*X", 1, UINT64_MAX, 12, 0);
+    expect_part("NCA*EA:25::1*X", 2, 1, 13, 1);
+    expect_part("NCA*EA:25::1*X", 2, 2, 14, 0);
+    expect_part("A*:*B", 1, 1, 2, 0);
+    expect_part("A*:*B", 1, 2, 3, 0);
+    expect_part("A*:*B", 1, 3, 3, 0);
+    expect_part("HL*2**I", 2, 1, 5, 0);
+    expect_part("HL*2**I", 2, 2, 5, 0);
+    expect_part("A:BC*1", 0, 0, 0, 4);
+    expect_part("A:BC*1", 0, 1, 0, 1);
+    expect_part("A:BC*1", 0, 2, 2, 2);
+    expect_part("A:BC*1", 0, 3, 4, 0);
+    expect_part("A:BC*1", 0, UINT64_MAX, 4, 0);
+}
+
+/* Any two bytes may separate, also one of them twice. */
+static void expect_other_separators(void)
+{
+    expect_span("A|B^C|*:", 8, "|^", 1, 0, 2, 3);
+    expect_span("A|B^C|*:", 8, "|^", 1, 2, 4, 1);
+    expect_span("A|B^C|*:", 8, "|^", 1, 3, 5, 0);
+    expect_span("A|B^C|*:", 8, "|^", 2, 1, 6, 2);
+    expect_span("A|B^C|*:", 8, "|^", 2, 2, 8, 0);
+    expect_span("A*B*C", 5, "**", 1, 1, 2, 1);
+    expect_span("A*B*C", 5, "**", 1, 2, 3, 0);
+    expect_span("A*B*C", 5, "**", 2, 1, 4, 1);
+    expect_span("A\0B\xff" "C", 5, "\0\xff", 1, 0, 2, 3);
+    expect_span("A\0B\xff" "C", 5, "\0\xff", 1, 2, 4, 1);
+    expect_span("A\0B\xff" "C", 5, "\xff\0", 0, 2, 2, 1);
+    expect_span("ABA", 3, "BA", 1, 0, 2, 1);
+    expect_span("ABA", 3, "BA", 1, 1, 2, 0);
+    expect_span("ABA", 3, "BA", 1, 2, 3, 0);
 }
 
 /* The answer for a rewriting to | ^ and ', and the output, whose bytes were all '.' before. */
@@ -214,14 +266,6 @@ static void expect_answer(const char *what, const uint8_t *report, size_t length
     expect_how(what, report, length, 0, wanted);
 }
 
-/* An element of the first so many bytes of the BIN. */
-static void expect_bin_element(size_t length, uint64_t number, uint64_t start, uint64_t count)
-{
-    uint64_t span[2], wanted[2] = {start, count};
-    stormhlaw_element((const uint8_t *)"BIN*8*" ATTACHED, length, '*', number, span);
-    expect("an element of a BIN", span, wanted, 2);
-}
-
 static void expect_attachment_found(void)
 {
     static const uint64_t wanted_segments[36] = {0,  11, 1,  0, 12, 19, 2,  0, 32, 10, 18, 1, 43, 10, 18, 2, 54, 5, 46, 2,
@@ -231,17 +275,57 @@ static void expect_attachment_found(void)
     stormhlaw_read(BYTES(report), '*', ':', '~', 0, segments, 36, levels, 8, answer);
     expect("an attachment", answer, (const uint64_t[]){0, 9, 2, 100}, 4);
     expect("segments with an attachment", segments, wanted_segments, 36);
-    stormhlaw_element((const uint8_t *)report + segments[24], (size_t)segments[25], '*', 2, span);
-    expect_bytes("BIN02", (const uint8_t *)report + segments[24] + span[0], ATTACHED, 8);
-    expect_bin_element(14, 0, 0, 3);
-    expect_bin_element(14, 1, 4, 1);
-    expect_bin_element(14, 2, 6, 8);
-    expect_bin_element(14, 3, 14, 0);
-    /* With a byte less the count does not end with the segment, which is cut at its separators. */
-    expect_bin_element(13, 1, 4, 1);
-    expect_bin_element(13, 2, 6, 1);
-    expect_bin_element(13, 3, 8, 5);
-    expect_bin_element(13, 4, 13, 0);
+    for (uint64_t part = 0; part < 2; part++) {
+        stormhlaw_lookup((const uint8_t *)report + segments[24], (size_t)segments[25], '*', ':', 2, part, span);
+        expect("where BIN02 is", span, (const uint64_t[]){6, 8}, 2);
+        expect_bytes("BIN02", (const uint8_t *)report + segments[24] + span[0], ATTACHED, 8);
+    }
+}
+
+/* A part of so many bytes of the BIN with its terminator; it is whole at 14. */
+static void expect_bin(size_t size, const char *separators, uint64_t number, uint64_t part, uint64_t start, uint64_t length)
+{
+    expect_span("BIN*8*" ATTACHED "~", size, separators, number, part, start, length);
+}
+
+/* Tag, count and attached bytes are one component each, whatever separates components. */
+static void expect_whole_bin(void)
+{
+    static const char *const separators[] = {"*:", "*I", "*8", "**", "*~"};
+    for (size_t k = 0; k < sizeof separators / sizeof *separators; k++) {
+        for (uint64_t part = 0; part < 2; part++) {
+            expect_bin(14, separators[k], 0, part, 0, 3);
+            expect_bin(14, separators[k], 1, part, 4, 1);
+            expect_bin(14, separators[k], 2, part, 6, 8);
+            expect_bin(14, separators[k], 3, part, 14, 0);
+            expect_bin(14, separators[k], UINT64_MAX, part, 14, 0);
+        }
+        expect_bin(14, separators[k], 0, 2, 3, 0);
+        expect_bin(14, separators[k], 1, 2, 5, 0);
+        expect_bin(14, separators[k], 2, 2, 14, 0);
+        expect_bin(14, separators[k], 0, UINT64_MAX, 3, 0);
+        expect_bin(14, separators[k], 1, UINT64_MAX, 5, 0);
+        expect_bin(14, separators[k], 2, UINT64_MAX, 14, 0);
+        expect_bin(14, separators[k], 3, UINT64_MAX, 14, 0);
+    }
+}
+
+/* With a byte less, or one more, the count does not end with the segment, which is cut at its separators as any other. */
+static void expect_broken_bin(void)
+{
+    for (size_t size = 13; size <= 15; size += 2) {
+        expect_bin(size, "*:", 1, 0, 4, 1);
+        expect_bin(size, "*:", 2, 0, 6, 1);
+        expect_bin(size, "*:", 3, 0, 8, size - 8);
+        expect_bin(size, "*:", 3, 1, 8, 0);
+        expect_bin(size, "*:", 3, 2, 9, size - 9);
+        expect_bin(size, "*:", 3, 3, size, 0);
+        expect_bin(size, "*:", 4, 0, size, 0);
+        expect_bin(size, "*I", 0, 1, 0, 1);
+        expect_bin(size, "*I", 0, 2, 2, 1);
+        expect_bin(size, "*8", 1, 1, 4, 0);
+        expect_bin(size, "*8", 1, 2, 5, 0);
+    }
 }
 
 static void expect_attachment_rewritten(void)
@@ -318,9 +402,6 @@ static void expect_lines_not_rewritten(void)
         expect_bytes("line ends rewritten", output, "kept", 4);
     }
 }
-
-/* What stands around the five numbers of a quantity that are lent, and in them before the call. */
-#define GUARD 0x5a5a5a5a5a5a5a5a
 
 /* The five numbers of so many bytes; what stands around them stays. */
 static void expect_numbers(const char *what, const uint8_t *text, size_t length, const int64_t wanted[5])
@@ -429,7 +510,11 @@ int main(void)
     expect_room();
     expect_tables();
     expect_belonging();
-    expect_lookups();
+    expect_elements();
+    expect_components();
+    expect_other_separators();
+    expect_whole_bin();
+    expect_broken_bin();
     expect_rewriting();
     expect_valid_records();
     expect_attachment_found();

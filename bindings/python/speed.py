@@ -48,7 +48,7 @@ def main() -> None:
     segments, levels, answer = (ctypes.c_uint64 * segment_numbers)(), (ctypes.c_uint64 * level_numbers)(), Answer()
     lent = segments, segment_numbers, levels, level_numbers, answer
     read = stormhlaw.read(data)
-    small = report(100, 1)
+    small, hl = report(100, 1), stormhlaw.Segment(b"HL*2*1*I*0")
     calls = {
         "the library alone": lambda: library.stormhlaw_read(data, len(data), 42, 58, 126, 0, *lent),
         "read bytes": lambda: stormhlaw.read(data),
@@ -56,7 +56,8 @@ def main() -> None:
         "read a bytearray": lambda: stormhlaw.read(writable),
         "go through the segments": lambda: [None for _ in read],
         "1,000 small reports": lambda: [stormhlaw.read(small) for _ in range(1000)],
-        "1,000 elements": lambda: [stormhlaw.element(b"HL*2*1*I*0", 3) for _ in range(1000)],
+        "1,000 segments": lambda: [stormhlaw.Segment(b"HL*2*1*I*0") for _ in range(1000)],
+        "1,000 elements": lambda: [hl.element(3) for _ in range(1000)],
         "1,000 numbers": lambda: [stormhlaw.number(b"-12.50") for _ in range(1000)],
     }
     times = best(list(calls.values()), 50)

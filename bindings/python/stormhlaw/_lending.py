@@ -63,13 +63,7 @@ def lend(name: str, data: Any, too_long: Optional[bytes] = None) -> Lent:
     have to be copied, where only their number counts."""
     if is_a(data, bytes):
         return data, bytes.__len__(data), data
-    if type(data) is not memoryview and not is_a(data, bytearray):
-        raise TypeError(f"{name}: bytes, bytearray or memoryview wanted, not {kind_of(data)}")
-    try:
-        view = memoryview(data)
-    except ValueError:
-        raise ValueError(f"{name}: bytes, bytearray or memoryview wanted, not a released memoryview") from None
-    with view:
+    with _view(name, data) as view:
         if view.nbytes >= SMALL and _is_still(view):
             return _address(view), view.nbytes, cast(bytes, view.obj)
         copy = _copied(name, view, too_long)
@@ -82,6 +76,35 @@ def part_of(lent: Lent, start: int, length: int) -> bytes:
     if first is owner:
         return bytes.__getitem__(owner, slice(start, start + length))
     return ctypes.string_at(cast(int, first) + start, length)
+
+
+def taken(name: str, data: Any, start: int, length: int) -> bytes:
+    """A copy of some of the bytes of the argument of that name, and of no others where they are seen as bytes."""
+    end = start + length
+    if is_a(data, bytes):
+        _reaches(name, bytes.__len__(data), end)
+        return bytes.__getitem__(data, slice(start, end))
+    with _view(name, data) as view:
+        _reaches(name, view.nbytes, end)
+        if view.format == "B" and view.ndim == 1:
+            return view[start:end].tobytes()
+        return _copied(name, view, None)[start:end]
+
+
+def _reaches(name: str, size: int, end: int) -> None:
+    """Checks that so many bytes go as far as that."""
+    if size < end:
+        raise ValueError(f"{name}: {end} bytes or more wanted, not {size}")
+
+
+def _view(name: str, data: Any) -> memoryview:
+    """A view of the argument of that name, where it is not bytes."""
+    if type(data) is not memoryview and not is_a(data, bytearray):
+        raise TypeError(f"{name}: bytes, bytearray or memoryview wanted, not {kind_of(data)}")
+    try:
+        return memoryview(data)
+    except ValueError:
+        raise ValueError(f"{name}: bytes, bytearray or memoryview wanted, not a released memoryview") from None
 
 
 def _is_still(view: memoryview) -> bool:

@@ -57,10 +57,9 @@ def _load(path: str) -> ctypes.CDLL:
     three = 3 * [_BYTE]
     library.stormhlaw_read.argtypes = [*_LENT, *three, _NUMBER, *_LENT, *_LENT, _POINTER]
     library.stormhlaw_rewrite.argtypes = [*_LENT, *three, _NUMBER, *three, *_LENT, *_LENT, *_LENT, _POINTER]
-    library.stormhlaw_element.argtypes = [*_LENT, _BYTE, _NUMBER, _POINTER]
-    library.stormhlaw_component.argtypes = [*_LENT, _BYTE, _NUMBER, _POINTER]
+    library.stormhlaw_lookup.argtypes = [*_LENT, _BYTE, _BYTE, _NUMBER, _NUMBER, _POINTER]
     library.stormhlaw_number.argtypes = [*_LENT, _POINTER]
-    for function in ("read", "rewrite", "element", "component", "number"):
+    for function in ("read", "rewrite", "lookup", "number"):
         getattr(library, f"stormhlaw_{function}").restype = None
     return library
 

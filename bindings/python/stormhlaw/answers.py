@@ -6,7 +6,7 @@ from dataclasses import dataclass
 from enum import IntEnum
 from typing import Iterator
 
-from stormhlaw.records import Levels, Segment, Segments
+from stormhlaw.records import Levels, SegmentRecord, Segments
 
 
 class Reason(IntEnum):
@@ -57,7 +57,7 @@ class Reason(IntEnum):
 
 @dataclass(frozen=True)
 class Report:
-    """An accepted report. `for segment in report` goes through its segments."""
+    """An accepted report. `for record in report` goes through the records of its segments."""
 
     segments: Segments
     levels: Levels
@@ -75,7 +75,7 @@ class Report:
         """Four numbers a level: segment, parent, depth, code. Format `Q`, read only."""
         return self.levels.table
 
-    def __iter__(self) -> Iterator[Segment]:
+    def __iter__(self) -> Iterator[SegmentRecord]:
         return iter(self.segments)
 
 

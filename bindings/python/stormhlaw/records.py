@@ -23,7 +23,11 @@ from typing import (
     overload,
 )
 
+from stormhlaw._checking import COUNT, number
+from stormhlaw._lending import Data, taken
 from stormhlaw._library import LEVEL_NUMBERS, SEGMENT_NUMBERS
+from stormhlaw.lookup import Segment
+from stormhlaw.separators import STANDARD, Separators
 
 
 class Code(IntEnum):
@@ -41,7 +45,7 @@ class Code(IntEnum):
         return ("RP", "I", "F", "PC", "SN")[self - 1]
 
 
-class Segment(NamedTuple):
+class SegmentRecord(NamedTuple):
     """Where a segment stands, which it is, and where it belongs."""
 
     start: int
@@ -53,6 +57,11 @@ class Segment(NamedTuple):
     level: int
     """The number of the level that it belongs to, from 1: that of the latest HL, or its own where it is an HL. 0 in the
     heading, before the first HL, and for the SE."""
+
+    def segment(self, data: Data, separators: Separators = STANDARD) -> Segment:
+        """The segment itself, out of the data that were read, to be cut by the separators that they were read by."""
+        start, length = number("start", self.start, COUNT), number("length", self.length, COUNT)
+        return Segment(taken("data", data, start, length), separators)
 
 
 class Level(NamedTuple):
@@ -141,14 +150,14 @@ class Records(Sequence[Record]):
         return _restored, (type(self), self._table.tobytes())
 
 
-class Segments(Records[Segment]):
+class Segments(Records[SegmentRecord]):
     """The segments of a report: four numbers each in the table."""
 
     __slots__ = ()
     _width = SEGMENT_NUMBERS
 
     @staticmethod
-    def _records(table: memoryview) -> Iterator[Segment]:
+    def _records(table: memoryview) -> Iterator[SegmentRecord]:
         return map(_segment, _SEGMENT_STRUCT.iter_unpack(table))
 
 
@@ -158,7 +167,7 @@ class Levels(Records[Level]):
     __slots__ = ()
     _width = LEVEL_NUMBERS
 
-    def of(self, segment: Segment) -> Optional[Level]:
+    def of(self, segment: SegmentRecord) -> Optional[Level]:
         """The level that a segment of the same reading belongs to. None in the heading and for the SE."""
         return self[segment.level - 1] if segment.level else None
 
@@ -170,8 +179,8 @@ class Levels(Records[Level]):
 
 _SEGMENT_STRUCT, _LEVEL_STRUCT = Struct(f"{SEGMENT_NUMBERS}Q"), Struct(f"{LEVEL_NUMBERS}Q")
 _CODES: List[Code] = list(Code)
-# What Segment._make does, in a third less time for a whole table.
-_segment = cast(Callable[[Tuple[int, ...]], Segment], partial(tuple.__new__, Segment))
+# What SegmentRecord._make does, in a third less time for a whole table.
+_segment = cast(Callable[[Tuple[int, ...]], SegmentRecord], partial(tuple.__new__, SegmentRecord))
 
 
 def as_numbers(table: bytes) -> memoryview:

@@ -2,8 +2,8 @@
 
 Each argument is known to fit or not. A call whose arguments all fit must answer as the library does when it is called
 without the package, with tables as large as was asked for; a lookup, as Python's split() does, and in a BIN as its
-count says; a number, as a regular expression says. Any other call must raise a TypeError or a ValueError that names an
-argument that does not fit.
+count says; a segment out of its record, as a slice; a number, as a regular expression says. Any other call must raise a
+TypeError or a ValueError that names an argument that does not fit.
 """
 
 import array
@@ -19,7 +19,7 @@ from typing import Any, NamedTuple
 from unittest.mock import Mock
 
 import stormhlaw
-from stormhlaw import How, LineEnds, Refused, Separators, component, element, number, read, rewrite
+from stormhlaw import How, LineEnds, Refused, Segment, SegmentRecord, Separators, number, read, rewrite
 from stormhlaw._library import library
 from tests.reports import ATTACHED, W1, WITH_BIN, joined, with_items, with_segment
 
@@ -140,9 +140,14 @@ def any_place(chance):
     return any_number(chance, 2**64 - 1)
 
 
+def any_room(chance):
+    """A room, or the start or the length of a segment."""
+    return any_number(chance, 2**31)
+
+
 def any_count(chance):
     """A room or a length, which need not be given."""
-    given = any_number(chance, 2**31)
+    given = any_room(chance)
     return Given(None, None) if given.value is None or chance.random() < 0.5 else given
 
 
@@ -301,6 +306,18 @@ def any_how(chance):
     return Given(how, line_ends.plain)
 
 
+def looked_up(data, separators, number, part):
+    """A part of a segment, and where it stands."""
+    segment = Segment(data, separators)
+    found = segment.element(number) if part == 0 else segment.component(number, part)
+    return segment.data, segment.span(number, part), found
+
+
+def taken(start, length, data, separators):
+    """A segment out of its record."""
+    return SegmentRecord(start, length, 1, 0).segment(data, separators)
+
+
 FUNCTIONS = {
     read: {
         "data": any_data, "separators": any_separators, "how": any_how, "segment_room": any_count,
@@ -310,8 +327,8 @@ FUNCTIONS = {
         "data": any_data, "new": any_separators, "separators": any_separators, "how": any_how, "length": any_count,
         "segment_room": any_count, "level_room": any_count,
     },
-    element: {"segment": any_data, "number": any_place, "separator": any_byte},
-    component: {"element_bytes": any_data, "number": any_place, "separator": any_byte},
+    looked_up: {"data": any_data, "separators": any_separators, "number": any_place, "part": any_place},
+    taken: {"start": any_room, "length": any_room, "data": any_data, "separators": any_separators},
     number: {"text": any_text},
     Separators: {"element": any_byte, "component": any_byte, "terminator": any_byte},
     How: {"line_ends": any_line_ends},
@@ -367,18 +384,32 @@ def check_refusal(refusal, expected):
         assert [segment.row for segment in refusal.segments].index(79) == len(refusal.segments) - 1
 
 
-def elements(segment, separator):
-    """The tag and the elements by Python's own split; of a whole BIN the count, and as many bytes as it says."""
-    if segment.startswith(b"BIN" + separator):
-        count, _, attached = segment[4:].partition(separator)
+def elements(segment, element, component):
+    """The tag and the elements, as lists of their components, by Python's own split; of a whole BIN the count, and as
+    many bytes as it says, with one component each."""
+    if segment.startswith(b"BIN" + element):
+        count, _, attached = segment[4:].partition(element)
         if re.fullmatch(b"[0-9]{1,15}", count) and int(count) == len(attached) > 0:
-            return [b"BIN", count, attached]
-    return segment.split(separator)
+            return [[b"BIN"], [count], [attached]]
+    return [piece.split(component) for piece in segment.split(element)]
 
 
-def part_of(parts, first, number):
-    """The part of that number; the first has the number `first`."""
-    return parts[number - first] if first <= number < first + len(parts) else b""
+def span_of(pieces, before, start, end):
+    """Where the piece stands that has so many others before it, the first of which starts there; the end where there is
+    none."""
+    if before >= len(pieces):
+        return slice(end, end)
+    start += sum(len(piece) + 1 for piece in pieces[:before])
+    return slice(start, start + len(pieces[before]))
+
+
+def expected_span(segment, separators, number, part):
+    """Where a part of a segment stands."""
+    cut = elements(segment, *separators[:2])
+    whole = span_of([separators[1].join(parts) for parts in cut], number, 0, len(segment))
+    if part == 0 or number >= len(cut):
+        return whole
+    return span_of(cut[number], part - 1, whole.start, whole.stop)
 
 
 def number_of(text):
@@ -392,10 +423,12 @@ def number_of(text):
 
 def check_answer(function, plain, call):
     """The call, whose arguments all fit, answers as it must."""
-    if function is element:
-        assert call() == part_of(elements(plain["segment"], plain["separator"]), 0, plain["number"])
-    elif function is component:
-        assert call() == part_of(plain["element_bytes"].split(plain["separator"]), 1, plain["number"])
+    if function is looked_up:
+        data, span = plain["data"], expected_span(plain["data"], plain["separators"], plain["number"], plain["part"])
+        assert call() == (data, span, data[span])
+    elif function is taken:
+        data, found = plain["data"][plain["start"] : plain["start"] + plain["length"]], call()
+        assert (found.data, found.span(1, 1)) == (data, expected_span(data, plain["separators"], 1, 1))
     elif function is number:
         assert call() == number_of(plain["text"])
     elif function is Separators:
@@ -430,11 +463,20 @@ def check_raises(names, call):
     raise AssertionError(f"nothing was raised, but these do not fit: {names}")
 
 
+def unfit_names(function, given):
+    """The arguments that do not fit; of a record, also data that do not go so far."""
+    names = [name for name, one in given.items() if one.plain is UNFIT]
+    if function is taken and not {"start", "length", "data"}.intersection(names):
+        if given["start"].plain + given["length"].plain > len(given["data"].plain):
+            names.append("data")
+    return names
+
+
 def one_call(chance):
     function, makers = chance.choice(list(FUNCTIONS.items()))
     given = {name: make(chance) for name, make in makers.items()}
     values = {name: one.value for name, one in given.items()}
-    unfit = [name for name, one in given.items() if one.plain is UNFIT]
+    unfit = unfit_names(function, given)
     if unfit:
         check_raises(unfit, lambda: function(**values))
         return False

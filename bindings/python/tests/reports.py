@@ -2,14 +2,14 @@
 
 from pathlib import Path
 
-from stormhlaw import Code, Level, Segment
+from stormhlaw import Code, Level, SegmentRecord
 
 HERE = Path(__file__).resolve().parent.parent
 
 W1 = ["ST*842*0001", "BNR*11*NR7*20240301", "HL*1**RP*1", "HL*2*1*I*0", "NCD*1", "NCA**R1", "SE*7*0001"]
 SEGMENTS = [
-    Segment(0, 11, 1, 0), Segment(12, 19, 2, 0), Segment(32, 10, 18, 1), Segment(43, 10, 18, 2), Segment(54, 5, 46, 2),
-    Segment(60, 7, 64, 2), Segment(68, 9, 79, 0),
+    SegmentRecord(0, 11, 1, 0), SegmentRecord(12, 19, 2, 0), SegmentRecord(32, 10, 18, 1), SegmentRecord(43, 10, 18, 2),
+    SegmentRecord(54, 5, 46, 2), SegmentRecord(60, 7, 64, 2), SegmentRecord(68, 9, 79, 0),
 ]  # fmt: skip
 LEVELS = [Level(3, 0, 1, Code.REPORT), Level(4, 1, 2, Code.ITEM)]
 

@@ -4,7 +4,7 @@ import unittest
 from enum import IntEnum
 from unittest.mock import Mock
 
-from stormhlaw import STRICT, How, LineEnds, Separators, component, element, number, read, rewrite
+from stormhlaw import STRICT, How, LineEnds, Segment, SegmentRecord, Separators, number, read, rewrite
 from tests.reports import W1, joined
 
 REPORT = joined(W1)
@@ -46,6 +46,14 @@ def written_to(value):
     return how
 
 
+def overwritten(**fields):
+    """A segment that was written to behind its back."""
+    segment = Segment(b"HL*1")
+    for name, value in fields.items():
+        object.__setattr__(segment, name, value)
+    return segment
+
+
 class Arguments(unittest.TestCase):
     def refused(self, kind, message, call, *arguments, **named):
         with self.subTest(message), self.assertRaises(kind) as caught:
@@ -57,8 +65,9 @@ class Arguments(unittest.TestCase):
         calls = (
             ("data", read, ()),
             ("data", rewrite, (NEW,)),
-            ("segment", element, (1,)),
-            ("element_bytes", component, (1,)),
+            ("data", Segment, ()),
+            ("data", SegmentRecord(0, 2, 1, 0).segment, ()),
+            ("data", lambda data: overwritten(data=data).element(1), ()),
             ("text", number, ()),
         )
         kinds = (
@@ -84,13 +93,22 @@ class Arguments(unittest.TestCase):
         mock = Mock(spec=Separators)
         three = (b"*", b":", b"~")
         for value, kind in ((None, "None"), ("*:~", "str"), (b"*:~", "bytes"), (three, "tuple"), (mock, "Mock")):
-            self.refused(TypeError, f"separators: Separators wanted, not {kind}", read, REPORT, value)
-            self.refused(TypeError, f"separators: Separators wanted, not {kind}", rewrite, REPORT, NEW, value)
+            message = f"separators: Separators wanted, not {kind}"
+            self.refused(TypeError, message, read, REPORT, value)
+            self.refused(TypeError, message, rewrite, REPORT, NEW, value)
+            self.refused(TypeError, message, Segment, b"HL*1", value)
+            self.refused(TypeError, message, SegmentRecord(0, 2, 1, 0).segment, REPORT, value)
+            self.refused(TypeError, message, overwritten(separators=value).component, 1, 1)
             self.refused(TypeError, f"new: Separators wanted, not {kind}", rewrite, REPORT, value)
-        self.refused(TypeError, "separators.component: bytes wanted, not str", read, REPORT, tampered(":"))
         message = "separators.component: one byte wanted, not 2 bytes"
         self.refused(ValueError, message, rewrite, REPORT, NEW, tampered(b"::"))
-        self.refused(TypeError, "new.component: bytes wanted, not None", rewrite, REPORT, tampered(None))
+        self.refused(ValueError, message, Segment, b"HL*1", tampered(b"::"))
+        for value, kind in NO_BYTES:
+            message = f"component: bytes wanted, not {kind}"
+            self.refused(TypeError, f"separators.{message}", read, REPORT, tampered(value))
+            self.refused(TypeError, f"separators.{message}", Segment, b"HL*1", tampered(value))
+            self.refused(TypeError, f"separators.{message}", overwritten(separators=tampered(value)).span, 1)
+            self.refused(TypeError, f"new.{message}", rewrite, REPORT, tampered(value))
 
     def test_how(self):
         kinds = (
@@ -115,24 +133,36 @@ class Arguments(unittest.TestCase):
             self.refused(TypeError, message, read, REPORT, how=written_to(value))
             self.refused(TypeError, message, rewrite, REPORT, NEW, how=written_to(value))
 
-    def test_separator(self):
-        for call in (element, component):
-            for value, kind in NO_BYTES:
-                self.refused(TypeError, f"separator: bytes wanted, not {kind}", call, b"HL*1", 1, value)
-            for value in (b"", b"**"):
-                self.refused(ValueError, f"separator: one byte wanted, not {len(value)} bytes", call, b"HL*1", 1, value)
-
-    def test_number(self):
-        for call in (element, component):
+    def test_number_and_part(self):
+        segment = Segment(b"HL*1")
+        calls = (
+            ("number", segment.element),
+            ("number", segment.span),
+            ("number", lambda value: segment.component(value, 1)),
+            ("part", lambda value: segment.component(1, value)),
+            ("part", lambda value: segment.span(1, value)),
+        )
+        for name, call in calls:
             for value, kind in ((None, "None"), (True, "bool"), (1.0, "float"), ("1", "str"), (b"1", "bytes")):
-                self.refused(TypeError, f"number: a number wanted, not {kind}", call, b"HL*1", value)
+                self.refused(TypeError, f"{name}: a number wanted, not {kind}", call, value)
             for value in (-1, -(2**63), 2**64, 2**64 + 1):
-                message = f"number: a number from 0 to 2**64 - 1 wanted, not {value}"
-                self.refused(ValueError, message, call, b"HL*1", value)
+                message = f"{name}: a number from 0 to 2**64 - 1 wanted, not {value}"
+                self.refused(ValueError, message, call, value)
             for value in (1 << 20_000, -1 << 20_000):
-                message = "number: a number from 0 to 2**64 - 1 wanted, not one of 20001 bits"
-                self.refused(ValueError, message, call, b"HL*1", value)
-            self.assertEqual(call(b"HL*1", 2**64 - 1), b"")
+                message = f"{name}: a number from 0 to 2**64 - 1 wanted, not one of 20001 bits"
+                self.refused(ValueError, message, call, value)
+            self.assertIn(call(2**64 - 1), (b"", slice(4, 4)))
+
+    def test_records(self):
+        for field, record in (("start", SegmentRecord("0", 2, 1, 0)), ("length", SegmentRecord(0, "0", 1, 0))):
+            self.refused(TypeError, f"{field}: a number wanted, not str", record.segment, REPORT)
+        for value in (-1, 2**31 + 1):
+            wanted = f"a number from 0 to 2**31 wanted, not {value}"
+            self.refused(ValueError, f"start: {wanted}", SegmentRecord(value, 2, 1, 0).segment, REPORT)
+            self.refused(ValueError, f"length: {wanted}", SegmentRecord(0, value, 1, 0).segment, REPORT)
+        for data, size in ((b"", 0), (bytearray(5), 5), (memoryview(bytes(6)), 6), (memoryview(bytes(6)).cast("H"), 6)):
+            message = f"data: 7 bytes or more wanted, not {size}"
+            self.refused(ValueError, message, SegmentRecord(4, 3, 1, 0).segment, data)
 
     def test_rooms_and_length(self):
         names = {read: ("segment_room", "level_room"), rewrite: ("segment_room", "level_room", "length")}
@@ -161,8 +191,11 @@ class Arguments(unittest.TestCase):
 
         self.assertEqual(read(REPORT, segment_room=Number.SEVEN).bytes, 78)
         self.assertEqual(read(REPORT, segment_room=Lies(7), level_room=Lies(2)).bytes, 78)
-        self.assertEqual(element(b"HL*1", Lies(1)), b"1")
-        self.refused(ValueError, "number: a number from 0 to 2**64 - 1 wanted, not -1", element, b"HL*1", Lies(-1))
+        segment = SegmentRecord(Lies(0), Lies(4), 1, 0).segment(b"HL*1~")
+        self.assertEqual((segment.element(Lies(1)), segment.component(Lies(1), Number.SEVEN)), (b"1", b""))
+        message = "a number from 0 to 2**64 - 1 wanted, not -1"
+        self.refused(ValueError, f"number: {message}", segment.element, Lies(-1))
+        self.refused(ValueError, f"part: {message}", segment.component, 1, Lies(-1))
 
 
 if __name__ == "__main__":

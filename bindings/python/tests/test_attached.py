@@ -2,11 +2,12 @@
 
 import unittest
 
-from stormhlaw import Reason, Refused, Segment, Separators, element, read, rewrite
+from stormhlaw import Reason, Refused, Segment, SegmentRecord, Separators, read, rewrite
 from tests.reports import ATTACHED, BEFORE_BIN, BEHIND_BIN, LEVELS, SEGMENTS, WITH_BIN
 
-BIN = Segment(67, 14, 55, 2)
-ALL = SEGMENTS[:5] + [Segment(60, 6, 54, 2), BIN, Segment(82, 7, 64, 2), Segment(90, 9, 79, 0)]
+BIN = SegmentRecord(67, 14, 55, 2)
+BEHIND = [SegmentRecord(82, 7, 64, 2), SegmentRecord(90, 9, 79, 0)]
+ALL = SEGMENTS[:5] + [SegmentRecord(60, 6, 54, 2), BIN] + BEHIND
 NEW = Separators(b"|", b"^", b"'")
 
 
@@ -23,8 +24,11 @@ class Attached(unittest.TestCase):
     def test_whole(self):
         report = read(WITH_BIN)
         self.assertEqual((report.segments, report.levels, report.bytes), (ALL, LEVELS, 100))
-        segment = WITH_BIN[BIN.start : BIN.start + BIN.length]
-        self.assertEqual([element(segment, number) for number in range(4)], [b"BIN", b"8", ATTACHED, b""])
+        segment = report.segments[6].segment(WITH_BIN)
+        self.assertEqual(segment, Segment(b"BIN*8*" + ATTACHED))
+        self.assertEqual([segment.element(number) for number in range(4)], [b"BIN", b"8", ATTACHED, b""])
+        for part, wanted in ((0, ATTACHED), (1, ATTACHED), (2, b""), (3, b"")):
+            self.assertEqual(segment.component(2, part), wanted)
 
     def test_lookup_of_a_count_that_ends_elsewhere(self):
         for segment, wanted in (
@@ -34,7 +38,7 @@ class Attached(unittest.TestCase):
             (b"BIN*0000000000000001**", [b"BIN", b"0000000000000001", b"", b"", b""]),
             (b"BIN*000000000000001**", [b"BIN", b"000000000000001", b"*", b"", b""]),
         ):
-            self.assertEqual([element(segment, number) for number in range(5)], wanted)
+            self.assertEqual([Segment(segment).element(number) for number in range(5)], wanted)
 
     def test_rewriting_copies_it(self):
         report, output = rewrite(WITH_BIN, NEW)

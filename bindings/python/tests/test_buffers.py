@@ -5,7 +5,7 @@ import ctypes
 import mmap
 import unittest
 
-from stormhlaw import LONGEST, Reason, Refused, Separators, component, element, number, read, rewrite
+from stormhlaw import LONGEST, Reason, Refused, Segment, SegmentRecord, Separators, number, read, rewrite
 from stormhlaw._lending import SMALL, lend
 from tests.reports import LEVELS, SEGMENTS, W1, joined, with_items
 
@@ -89,11 +89,12 @@ class Kinds(unittest.TestCase):
     def test_lookup(self):
         for kind, make in KINDS.items():
             with self.subTest(kind):
-                self.assertEqual(element(make(PADDED), 2), b"0001~BNR")
-                self.assertIs(type(element(make(PADDED), 2)), bytes)
-                self.assertEqual(component(make(PADDED), 3, b"~"), b"HL*1**RP*1")
-                self.assertEqual(component(make(PADDED), 1, b"!"), PADDED)
-                self.assertIs(type(component(make(PADDED), 1, b"!")), bytes)
+                self.assertEqual(Segment(make(PADDED)).element(2), b"0001~BNR")
+                self.assertEqual(Segment(make(PADDED), Separators(b"!", b"~")).component(0, 3), b"HL*1**RP*1")
+                self.assertEqual(Segment(make(PADDED), Separators(b"!", b"!")).component(0, 1), PADDED)
+                segment = Segment(make(PADDED))
+                for found in (segment.data, segment.tag, segment.element(2), segment.component(2, 1)):
+                    self.assertIs(type(found), bytes)
 
     def test_empty(self):
         view = memoryview(b"ab")
@@ -101,7 +102,10 @@ class Kinds(unittest.TestCase):
             with self.assertRaises(Refused) as caught:
                 read(empty)
             self.assertEqual(str(caught.exception), "refused 3 segment 1 byte 0 element 0")
-            self.assertEqual((element(empty, 0), component(empty, 1), number(empty)), (b"", b"", None))
+            segment = Segment(empty)
+            self.assertEqual((segment.data, segment.tag, segment.component(1, 1)), (b"", b"", b""))
+            self.assertEqual(SegmentRecord(0, 0, 1, 0).segment(empty), segment)
+            self.assertIsNone(number(empty))
 
 
 class Lending(unittest.TestCase):
@@ -139,23 +143,28 @@ class Lending(unittest.TestCase):
         for make in (memoryview, KINDS["view of a part"], bytearray, spread, mapped):
             self.assertEqual(read(make(self.LARGE), level_room=5001), report)
             self.assertEqual(rewrite(make(self.LARGE), Separators(), level_room=5001), (report, self.LARGE))
-            self.assertEqual(element(make(self.LARGE), 2), b"0001~BNR")
-            self.assertEqual(element(make(self.LARGE), 1 << 40), b"")
+            segment = Segment(make(self.LARGE))
+            self.assertEqual(segment.data, self.LARGE)
+            self.assertEqual((segment.element(2), segment.element(1 << 40)), (b"0001~BNR", b""))
+            last = report.segments[-1]
+            self.assertEqual(last.segment(make(self.LARGE)).tag, b"SE")
 
     def test_nothing_is_held_after_a_call(self):
         data = bytearray(REPORT)
         read(data)
-        element(data, 1)
+        segments = Segment(data), SegmentRecord(0, 11, 1, 0).segment(data)
         data += b"more"
         view = memoryview(self.LARGE)
         read(view, level_room=5001)
+        segments += Segment(view), SegmentRecord(0, 11, 1, 0).segment(view)
         view.release()
+        self.assertEqual([segment.element(1) for segment in segments], 4 * [b"842"])
 
     def test_nothing_is_held_after_an_error(self):
         area = mmap.mmap(-1, 2**31 + 1, prot=mmap.PROT_READ)
         try:
             with memoryview(area) as view:
-                element(view, 1)
+                Segment(view)
         except ValueError:
             # The frames of the call still live.
             area.close()
@@ -170,12 +179,13 @@ class Lending(unittest.TestCase):
 
     def test_too_long_to_copy(self):
         view = memoryview(mmap.mmap(-1, 2**31 + 1, prot=mmap.PROT_READ))
-        calls = ((element, "segment", (1,)), (component, "element_bytes", (1,)), (number, "text", ()))
-        for call, name, others in calls:
+        for call, name in ((Segment, "data"), (number, "text")):
             with self.assertRaises(ValueError) as caught:
-                call(view, *others)
+                call(view)
             wanted = f"{name}: at most 2**31 bytes wanted where they are copied, not 2147483649"
             self.assertEqual(str(caught.exception), wanted)
+        # Of a long view no more than the segment is copied.
+        self.assertEqual(SegmentRecord(2**31 - 2, 2, 1, 0).segment(view).data, bytes(2))
         for call in (read, lambda data: rewrite(data, NEW)):
             with self.assertRaises(Refused) as caught:
                 call(view)

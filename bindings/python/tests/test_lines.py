@@ -5,7 +5,7 @@ import pickle
 import unittest
 from itertools import cycle
 
-from stormhlaw import STRICT, How, LineEnds, Reason, Refused, Segment, Separators, element, read, rewrite
+from stormhlaw import STRICT, How, LineEnds, Reason, Refused, SegmentRecord, Separators, read, rewrite
 from stormhlaw.how import DEFAULT
 from tests.reports import LEVELS, SEGMENTS, W1, joined
 
@@ -45,7 +45,7 @@ class Lines(unittest.TestCase):
                 report = read(data)
                 used = segments[-1].start + segments[-1].length + 1
                 self.assertEqual((report.segments, report.levels, report.bytes), (segments, LEVELS, used))
-                texts = [data[segment.start : segment.start + segment.length].decode() for segment in report]
+                texts = [record.segment(data).data.decode() for record in report]
                 self.assertEqual(texts, W1)
                 self.assertEqual(read(data, how=How()), report)
 
@@ -92,8 +92,8 @@ class Lines(unittest.TestCase):
         before = b"ST*842*0001~\r\nBNR*11*NR7*20240301~\nHL*1**I~NCD*1~\rEFI*00~\n"
         data = before + b"BIN*4*\r\n\r\n~\r\nSE*7*0001~"
         report = read(data)
-        self.assertEqual((report.segments[5], report.bytes), (Segment(58, 10, 55, 1), len(data)))
-        self.assertEqual(element(data[58:68], 2), b"\r\n\r\n")
+        self.assertEqual((report.segments[5], report.bytes), (SegmentRecord(58, 10, 55, 1), len(data)))
+        self.assertEqual(report.segments[5].segment(data).component(2, 1), b"\r\n\r\n")
 
     def test_rewriting_is_strict(self):
         for how in ({}, {"how": How()}, {"how": STRICT}):

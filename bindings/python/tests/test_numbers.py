@@ -8,7 +8,7 @@ import random
 import unittest
 from decimal import Decimal
 
-from stormhlaw import Number, Reason, Refused, component, element, number, read
+from stormhlaw import Number, Reason, Refused, number, read
 from tests.fuzzing import any_quantity, number_of
 from tests.reports import with_segment
 from tests.test_buffers import KINDS
@@ -161,10 +161,9 @@ class Readings(unittest.TestCase):
     def test_quantities_are_accepted(self):
         for text, wanted in FIT.items():
             data = with_segment(6, f"NCA**R1**{text.decode()}*EA:{text.decode()}")
-            segment = read(data).segments[5]
-            nca = data[segment.start : segment.start + segment.length]
-            self.assertEqual(number(element(nca, 4)), wanted)
-            self.assertEqual(number(component(element(nca, 5), 2)), wanted)
+            nca = read(data).segments[5].segment(data)
+            self.assertEqual(number(nca.element(4)), wanted)
+            self.assertEqual(number(nca.component(5, 2)), wanted)
 
     def test_other_texts_are_refused(self):
         for text in filter(None, UNFIT):

@@ -6,7 +6,7 @@ import threading
 import unittest
 from collections.abc import Sequence
 
-from stormhlaw import Code, Level, Levels, Segment, Segments, read
+from stormhlaw import Code, Level, Levels, SegmentRecord, Segments, read
 from tests.reports import LEVELS, SEGMENTS, W1, joined, with_items
 
 REPORT = joined(W1)
@@ -56,8 +56,8 @@ class Sequences(unittest.TestCase):
                 self.assertIn(record, records)
                 self.assertEqual(records.index(record), wanted.index(record))
                 self.assertEqual(records.count(record), 1)
-            self.assertNotIn(Segment(0, 11, 2, 0), records)
-            self.assertNotIn(Segment(0, 11, 1, 1), records)
+            self.assertNotIn(SegmentRecord(0, 11, 2, 0), records)
+            self.assertNotIn(SegmentRecord(0, 11, 1, 1), records)
             self.assertNotIn(None, records)
 
     def test_equality(self):
@@ -81,10 +81,12 @@ class Sequences(unittest.TestCase):
     def test_repr(self):
         self.assertEqual(
             repr(self.report.segments),
-            "Segments([Segment(start=0, length=11, row=1, level=0), Segment(start=12, length=19, row=2, level=0), "
-            "Segment(start=32, length=10, row=18, level=1), .. 4 more])",
+            "Segments([SegmentRecord(start=0, length=11, row=1, level=0), "
+            "SegmentRecord(start=12, length=19, row=2, level=0), "
+            "SegmentRecord(start=32, length=10, row=18, level=1), .. 4 more])",
         )
-        self.assertEqual(repr(self.report.segments[:1]), "Segments([Segment(start=0, length=11, row=1, level=0)])")
+        one = "Segments([SegmentRecord(start=0, length=11, row=1, level=0)])"
+        self.assertEqual(repr(self.report.segments[:1]), one)
         self.assertEqual(repr(self.report.levels[2:]), "Levels([])")
         self.assertLess(len(repr(read(with_items(4000)))), 1000)
 
@@ -124,7 +126,8 @@ class Records(unittest.TestCase):
         self.assertEqual([row for _, _, row, _ in read(REPORT)], [1, 2, 18, 18, 46, 64, 79])
 
     def test_records_are_fixed(self):
-        records = ((Segment(0, 11, 1, 0), "start"), (Level(3, 0, 1, Code.REPORT), "parent"), (read(REPORT), "bytes"))
+        level = Level(3, 0, 1, Code.REPORT)
+        records = ((SegmentRecord(0, 11, 1, 0), "start"), (level, "parent"), (read(REPORT), "bytes"))
         for record, field in records:
             with self.assertRaises(AttributeError):
                 setattr(record, field, 1)

@@ -1,9 +1,9 @@
-"""The worked reports W1 to W12 of document 01, and the lookups."""
+"""The worked reports W1 to W12 of document 01."""
 
 import unittest
 
 import stormhlaw
-from stormhlaw import Reason, Refused, Separators, component, element, read, rewrite
+from stormhlaw import Reason, Refused, Separators, read, rewrite
 from tests.reports import LEVELS, SEGMENTS, W1, joined, with_segment
 
 
@@ -58,20 +58,6 @@ class Worked(unittest.TestCase):
         data = joined(W1).replace(b"*", b"\x1d").replace(b"~", b"\x1e")
         self.assertEqual(read(data, Separators(b"\x1d", b"\x1f", b"\x1e")).segments, SEGMENTS)
         self.refused(joined(W1).replace(b"NR7", b"N\x007"), Reason.BYTE_UNFIT, 2, 12, 2)
-
-
-class Lookups(unittest.TestCase):
-    def test_elements(self):
-        self.assertEqual([element(b"HL*2**I", number) for number in range(6)], [b"HL", b"2", b"", b"I", b"", b""])
-        self.assertEqual(element(b"", 0), b"")
-        self.assertEqual(element(b"ST|842", 1, b"|"), b"842")
-
-    def test_components(self):
-        self.assertEqual([component(b"EA:25::1", number) for number in range(6)], [b"", b"EA", b"25", b"", b"1", b""])
-
-    def test_numbers_that_are_none(self):
-        self.assertRaises(ValueError, element, b"HL*2", -1)
-        self.assertRaises(ValueError, element, b"HL*2", 1 << 64)
 
 
 class Rewriting(unittest.TestCase):

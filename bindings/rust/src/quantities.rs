@@ -36,9 +36,10 @@ pub struct Number {
 /// are components 2, 3, 5, 6, 8, 9, 11, 12, 14 and 15 of NCA05: in an accepted report each of them that is not empty.
 ///
 /// ```
-/// use stormhlaw::{element, number};
+/// use stormhlaw::{number, Segment, Separators};
 ///
-/// let found = number(element(b"NCA**R1**-0.50*EA", b'*', 4)).unwrap();
+/// let nca = Segment::new(b"NCA**R1**-0.50*EA", Separators::STANDARD);
+/// let found = number(nca.element(4)).unwrap();
 /// assert_eq!((found.value(), found.places()), (-50, 2));
 /// assert_eq!((found.exponent(), found.has_exponent()), (0, false));
 ///

@@ -6,7 +6,7 @@
 
 #![allow(unsafe_code)]
 
-use crate::records::{Level, Segment};
+use crate::records::{Level, SegmentRecord};
 use crate::separators::Separators;
 use std::mem::{align_of, size_of};
 use std::slice::from_raw_parts_mut;
@@ -45,19 +45,13 @@ extern "C" {
         answer: *mut [u64; 4],
     );
 
-    fn stormhlaw_element(
+    fn stormhlaw_lookup(
         segment: *const u8,
         segment_length: usize,
-        separator: u8,
+        element: u8,
+        component: u8,
         number: u64,
-        span: *mut [u64; 2],
-    );
-
-    fn stormhlaw_component(
-        element: *const u8,
-        element_length: usize,
-        separator: u8,
-        number: u64,
+        part: u64,
         span: *mut [u64; 2],
     );
 
@@ -135,19 +129,12 @@ pub fn rewrite(
     answer
 }
 
-/// Start and length of an element of a segment.
-pub fn element(segment: &[u8], separator: u8, number: u64) -> [u64; 2] {
-    let mut span = [UNWRITTEN; 2];
+/// Start and length of a part of a segment that is cut by these two separators: of its element `number`, 0 being the tag,
+/// the component `part`, 0 being the whole element.
+pub fn lookup(segment: &[u8], element: u8, component: u8, number: u64, part: u64) -> [u64; 2] {
+    let (start, length, mut span) = (segment.as_ptr(), segment.len(), [UNWRITTEN; 2]);
     // SAFETY: the slice and the array live until the call returns, and the array is borrowed for it alone.
-    unsafe { stormhlaw_element(segment.as_ptr(), segment.len(), separator, number, &mut span) };
-    span
-}
-
-/// Start and length of a component of an element.
-pub fn component(element: &[u8], separator: u8, number: u64) -> [u64; 2] {
-    let mut span = [UNWRITTEN; 2];
-    // SAFETY: the slice and the array live until the call returns, and the array is borrowed for it alone.
-    unsafe { stormhlaw_component(element.as_ptr(), element.len(), separator, number, &mut span) };
+    unsafe { stormhlaw_lookup(start, length, element, component, number, part, &mut span) };
     span
 }
 
@@ -165,13 +152,13 @@ const SEGMENT_NUMBERS: usize = 4;
 const LEVEL_NUMBERS: usize = 4;
 
 // A record is as many numbers one behind the other, and nothing else.
-const _: () = assert!(size_of::<Segment>() == SEGMENT_NUMBERS * size_of::<u64>());
+const _: () = assert!(size_of::<SegmentRecord>() == SEGMENT_NUMBERS * size_of::<u64>());
 const _: () = assert!(size_of::<Level>() == LEVEL_NUMBERS * size_of::<u64>());
-const _: () = assert!(align_of::<Segment>() == align_of::<u64>());
+const _: () = assert!(align_of::<SegmentRecord>() == align_of::<u64>());
 const _: () = assert!(align_of::<Level>() == align_of::<u64>());
 
 /// The numbers of a segment table.
-pub(crate) fn segment_numbers(table: &mut [Segment]) -> &mut [u64] {
+pub(crate) fn segment_numbers(table: &mut [SegmentRecord]) -> &mut [u64] {
     // SAFETY: a record is four numbers, any number is fit in each place, and the slice stays borrowed. Their count is
     // no more than the slice has bytes, and does not overflow.
     unsafe { from_raw_parts_mut(table.as_mut_ptr().cast(), table.len() * SEGMENT_NUMBERS) }

@@ -5,7 +5,7 @@
 use crate::answer::{told, Accepted, Refusal};
 use crate::how::How;
 use crate::raw;
-use crate::records::{Level, Segment};
+use crate::records::{Level, SegmentRecord};
 use crate::separators::Separators;
 
 /// The most bytes an input may have.
@@ -16,10 +16,10 @@ pub const LONGEST: usize = 1_048_576;
 /// record keeps what it held.
 ///
 /// ```
-/// use stormhlaw::{read, How, Level, Segment, Separators};
+/// use stormhlaw::{read, How, Level, SegmentRecord, Separators};
 ///
 /// let report = b"ST*842*0001~BNR*11*NR7*20240301~HL*1**RP*1~HL*2*1*I*0~NCD*1~NCA**R1~SE*7*0001~";
-/// let mut segments = [Segment::default(); 100];
+/// let mut segments = [SegmentRecord::default(); 100];
 /// let mut levels = [Level::default(); 20];
 /// let accepted = read(report, Separators::STANDARD, How::new(), &mut segments, &mut levels)?;
 /// assert_eq!((accepted.segments, accepted.levels, accepted.bytes), (7, 2, 78));
@@ -29,7 +29,7 @@ pub fn read(
     input: &[u8],
     separators: Separators,
     how: How,
-    segments: &mut [Segment],
+    segments: &mut [SegmentRecord],
     levels: &mut [Level],
 ) -> Result<Accepted, Refusal> {
     let (segments, levels) = (raw::segment_numbers(segments), raw::level_numbers(levels));

@@ -2,10 +2,13 @@
 
 #![forbid(unsafe_code)]
 
-/// One segment of a report.
+use crate::lookup::Segment;
+use crate::separators::Separators;
+
+/// Where one segment of a report stands, which it is, and where it belongs.
 #[repr(C)]
 #[derive(Clone, Copy, Debug, Default, PartialEq, Eq, Hash)]
-pub struct Segment {
+pub struct SegmentRecord {
     /// The byte where it starts, behind the line end that was skipped before it.
     pub start: u64,
     /// How many bytes it has, without its terminator.
@@ -46,12 +49,18 @@ pub enum Code {
     SerialNumber,
 }
 
-impl Segment {
+impl SegmentRecord {
     /// The bytes of the segment in the input that was read. None if the record is not of that input.
     pub fn bytes<'a>(&self, input: &'a [u8]) -> Option<&'a [u8]> {
         let start = usize::try_from(self.start).ok()?;
         let end = start.checked_add(usize::try_from(self.length).ok()?)?;
         input.get(start..end)
+    }
+
+    /// The segment in the input that was read, with the separators that it was read by. None if the record is not of that
+    /// input.
+    pub fn segment<'a>(&self, input: &'a [u8], separators: Separators) -> Option<Segment<'a>> {
+        self.bytes(input).map(|bytes| Segment::new(bytes, separators))
     }
 
     /// The record of the level that it belongs to, where `levels` are those of the same reading. None in the heading, for
@@ -63,7 +72,7 @@ impl Segment {
 
 impl Level {
     /// The record of its HL, where `segments` are those of the same reading. None if there is no such record.
-    pub fn hl<'a>(&self, segments: &'a [Segment]) -> Option<&'a Segment> {
+    pub fn hl<'a>(&self, segments: &'a [SegmentRecord]) -> Option<&'a SegmentRecord> {
         numbered(segments, self.segment)
     }
 

@@ -5,7 +5,7 @@
 use crate::answer::{told, Accepted, Refusal};
 use crate::how::How;
 use crate::raw;
-use crate::records::{Level, Segment};
+use crate::records::{Level, SegmentRecord};
 use crate::separators::Separators;
 
 /// Reads the input and writes it with the new separators, as many bytes as the transaction takes. The tables are left as
@@ -16,11 +16,11 @@ use crate::separators::Separators;
 /// [`Reason::ByteUnfit`](crate::Reason::ByteUnfit).
 ///
 /// ```
-/// use stormhlaw::{rewrite, How, Level, Segment, Separators};
+/// use stormhlaw::{rewrite, How, Level, SegmentRecord, Separators};
 ///
 /// let report = b"ST*842*0001~BNR*11*NR7*20240301~HL*1**I~SE*4*0001~";
 /// let new = Separators { element: b'|', component: b'^', terminator: b'\'' };
-/// let mut segments = [Segment::default(); 100];
+/// let mut segments = [SegmentRecord::default(); 100];
 /// let mut levels = [Level::default(); 20];
 /// let mut output = [0; 50];
 /// let (old, how) = (Separators::STANDARD, How::strict());
@@ -33,7 +33,7 @@ pub fn rewrite(
     separators: Separators,
     how: How,
     new: Separators,
-    segments: &mut [Segment],
+    segments: &mut [SegmentRecord],
     levels: &mut [Level],
     output: &mut [u8],
 ) -> Result<Accepted, Refusal> {

@@ -5,7 +5,7 @@
 use crate::answer::{Accepted, Refusal};
 use crate::how::How;
 use crate::reading::{read, LONGEST};
-use crate::records::{Level, Segment};
+use crate::records::{Level, SegmentRecord};
 use crate::rewriting::rewrite;
 use crate::separators::Separators;
 use crate::valid::Valid;
@@ -30,7 +30,7 @@ const MOST: usize = LONGEST / SHORTEST_SEGMENT;
 /// [`Tables::with_room`].
 #[derive(Clone, Debug)]
 pub struct Tables {
-    segments: Vec<Segment>,
+    segments: Vec<SegmentRecord>,
     levels: Vec<Level>,
     valid: Valid,
 }
@@ -45,7 +45,7 @@ impl Tables {
     /// Room for so many segments and levels. No input has more than 209,715 of either, and no more room is made.
     pub fn with_room(segments: usize, levels: usize) -> Tables {
         Tables {
-            segments: vec![Segment::default(); segments.min(MOST)],
+            segments: vec![SegmentRecord::default(); segments.min(MOST)],
             levels: vec![Level::default(); levels.min(MOST)],
             valid: Valid::default(),
         }
@@ -72,7 +72,7 @@ impl Tables {
 
     /// The records of the segments that the last call accepted: all of an accepted report, those before the refused
     /// segment of a refused one.
-    pub fn segments(&self) -> &[Segment] {
+    pub fn segments(&self) -> &[SegmentRecord] {
         &self.segments[..self.valid.segments]
     }
 

@@ -3,7 +3,7 @@
 #![forbid(unsafe_code)]
 
 use crate::answer::{Accepted, Reason, Refusal};
-use crate::records::Segment;
+use crate::records::SegmentRecord;
 
 /// The row of SE in the table of 79.
 const SE: u64 = 79;
@@ -21,7 +21,7 @@ impl Refusal {
     /// How many records are valid, where `segments` is the segment table that was lent to the call: none after answers 1
     /// and 2, those before the refused segment after 3 to 17, all up to the SE after 18 and 19, which a rewriting gives
     /// once the report is accepted. A table that no such call filled makes the counts wrong, and nothing else.
-    pub fn valid(&self, segments: &[Segment]) -> Valid {
+    pub fn valid(&self, segments: &[SegmentRecord]) -> Valid {
         let count = match self.reason {
             Reason::SeparatorsUnfit | Reason::InputTooLong => 0,
             Reason::DataEqualsSeparator | Reason::OutputTooShort => up_to_the_end(segments),
@@ -38,13 +38,13 @@ impl From<Accepted> for Valid {
 }
 
 /// How many records there are up to the SE, with its own; 0 where there is no SE.
-fn up_to_the_end(segments: &[Segment]) -> usize {
+fn up_to_the_end(segments: &[SegmentRecord]) -> usize {
     segments.iter().position(|segment| segment.row == SE).map_or(0, |before| before + 1)
 }
 
 /// How many levels these segments make: levels are numbered in order, so the last segment that belongs to one tells. No
 /// more than there are segments, whatever the records hold.
-fn levels_of(segments: &[Segment]) -> usize {
+fn levels_of(segments: &[SegmentRecord]) -> usize {
     let last = segments.iter().rev().find(|segment| segment.level != 0);
     last.map_or(0, |segment| segment.level.min(segments.len() as u64) as usize)
 }

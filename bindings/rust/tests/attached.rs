@@ -1,6 +1,6 @@
 //! An attachment: BIN02 is ended by its count, may hold any byte, is handed back whole, and is copied by a rewriting.
 
-use stormhlaw::{element, element_span, Accepted, How, Reason, Refusal, Separators, Tables};
+use stormhlaw::{Accepted, How, Reason, Refusal, Segment, Separators, Tables};
 
 /// W1 with an EFI and a BIN behind its NCD: what stands before the BIN, 67 bytes and six segments, the eight bytes of its
 /// BIN02, and what follows them. Separators of both sets, 0, 255 and a line end are among the eight.
@@ -40,16 +40,25 @@ fn an_attachment_is_handed_back_whole() {
     let mut tables = Tables::for_input(&report);
     assert_eq!(tables.read(&report, STANDARD, How::new()), Ok(ACCEPTED));
     assert_eq!(segments(&tables), SEGMENTS);
-    let bin = tables.segments()[6].bytes(&report).unwrap();
-    let found: Vec<&[u8]> = (0..4).map(|number| element(bin, b'*', number)).collect();
+    let bin = tables.segments()[6].segment(&report, STANDARD).unwrap();
+    let found: Vec<&[u8]> = (0..4).map(|number| bin.element(number)).collect();
     assert_eq!(found, [&b"BIN"[..], b"8", ATTACHED, b""]);
-    let spans: Vec<_> = (0..4).map(|number| element_span(bin, b'*', number)).collect();
-    assert_eq!(spans, [0..3, 4..5, 6..14, 14..14]);
+    for part in [0, 1] {
+        let spans: Vec<_> = (0..4).map(|number| bin.span(number, part)).collect();
+        assert_eq!(spans, [0..3, 4..5, 6..14, 14..14]);
+    }
+    for part in [2, 3, usize::MAX] {
+        let spans: Vec<_> = (0..4).map(|number| bin.span(number, part)).collect();
+        assert_eq!(spans, [3..3, 5..5, 14..14, 14..14]);
+    }
 }
 
 #[test]
 fn lookup_takes_a_count_that_ends_with_the_segment() {
-    let looked_up = |segment: &[u8]| -> Vec<_> { (0..5).map(|n| element_span(segment, b'*', n)).collect() };
+    let looked_up = |bytes: &[u8]| -> Vec<_> {
+        let segment = Segment::new(bytes, STANDARD);
+        (0..5).map(|number| segment.span(number, 0)).collect()
+    };
     assert_eq!(looked_up(b"BIN*8*~*:\0\xff|'"), [0..3, 4..5, 6..7, 8..13, 13..13]);
     assert_eq!(looked_up(b"BIN*8*~*:\0\xff|'\n~"), [0..3, 4..5, 6..7, 8..15, 15..15]);
     assert_eq!(looked_up(b"BIN*0*"), [0..3, 4..5, 6..6, 6..6, 6..6]);

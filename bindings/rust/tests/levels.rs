@@ -1,6 +1,6 @@
 //! The level that each segment belongs to.
 
-use stormhlaw::{raw, Accepted, How, Level, Reason, Segment, Separators, Tables};
+use stormhlaw::{raw, Accepted, How, Level, Reason, SegmentRecord, Separators, Tables};
 
 /// Levels down to the fourth, and then an item under the first, with the level that each segment belongs to. No HL01 is
 /// the number of its level.
@@ -62,7 +62,9 @@ fn a_rewriting_leaves_the_same_levels() {
 fn the_record_of_a_level_names_its_hl() {
     let report = ended("");
     let tables = read(&report);
-    let hl = |segment: &Segment| segment.level(tables.levels()).and_then(|level| level.hl(tables.segments()));
+    let hl = |segment: &SegmentRecord| {
+        segment.level(tables.levels()).and_then(|level| level.hl(tables.segments()))
+    };
     let mut latest = None;
     for segment in tables.segments() {
         match segment.bytes(&report).unwrap() {
@@ -77,7 +79,7 @@ fn the_record_of_a_level_names_its_hl() {
 #[test]
 fn a_level_without_its_record_is_none() {
     let levels = [Level { segment: 4, parent: 0, depth: 1, code: 1 }, Level::default()];
-    let of = |level| Segment { level, ..Segment::default() };
+    let of = |level| SegmentRecord { level, ..SegmentRecord::default() };
     assert_eq!(of(1).level(&levels), Some(&levels[0]));
     assert_eq!(of(2).level(&levels), Some(&levels[1]));
     for level in [0, 3, u64::MAX] {

@@ -1,7 +1,7 @@
 //! Line ends between segments: skipped by default, refused by a strict reading, and so by every rewriting.
 
 use stormhlaw::{
-    element, raw, rewrite, Accepted, How, Level, LineEnds, Reason, Refusal, Segment, Separators, Tables,
+    raw, rewrite, Accepted, How, Level, LineEnds, Reason, Refusal, SegmentRecord, Separators, Tables,
 };
 
 const W1: [&str; 7] =
@@ -23,10 +23,10 @@ fn ended(ends: &[&str]) -> Vec<u8> {
 }
 
 /// The records of W1's segments where these ends stand behind them, and how many bytes it takes then.
-fn records(ends: &[&str]) -> (Vec<Segment>, usize) {
+fn records(ends: &[&str]) -> (Vec<SegmentRecord>, usize) {
     let (mut records, mut start, mut used) = (Vec::new(), 0, 0);
     for ((segment, (row, level)), end) in W1.iter().zip(ROWS_AND_LEVELS).zip(ends.iter().cycle()) {
-        records.push(Segment { start: start as u64, length: segment.len() as u64, row, level });
+        records.push(SegmentRecord { start: start as u64, length: segment.len() as u64, row, level });
         used = start + segment.len() + 1;
         start = used + end.len();
     }
@@ -135,8 +135,8 @@ fn an_attachment_keeps_its_line_ends() {
     let accepted = tables.read(report, STANDARD, How::new()).unwrap();
     assert_eq!((accepted.segments, accepted.bytes), (7, report.len()));
     let bin = tables.segments()[5];
-    assert_eq!(bin, Segment { start: 58, length: 10, row: 55, level: 1 });
-    assert_eq!(element(bin.bytes(report).unwrap(), b'*', 2), b"\r\n\r\n");
+    assert_eq!(bin, SegmentRecord { start: 58, length: 10, row: 55, level: 1 });
+    assert_eq!(bin.segment(report, STANDARD).unwrap().component(2, 1), b"\r\n\r\n");
 }
 
 #[test]
@@ -144,7 +144,7 @@ fn rewriting_is_strict_whatever_it_is_told() {
     let (plain, lines) = (ended(&[""]), ended(&["\r\n"]));
     for how in [How::new(), How::strict()] {
         let mut output = [b'.'; 100];
-        let (mut segments, mut levels) = ([Segment::default(); 10], [Level::default(); 5]);
+        let (mut segments, mut levels) = ([SegmentRecord::default(); 10], [Level::default(); 5]);
         let answer = rewrite(&lines, STANDARD, how, NEW, &mut segments, &mut levels, &mut output);
         assert_eq!(answer, refused(Reason::ByteUnfit, 2, 12, 0));
         assert_eq!(output, [b'.'; 100]);

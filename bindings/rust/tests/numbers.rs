@@ -1,6 +1,6 @@
 //! The number of a quantity: what is one, its value, places and exponent, and how it is displayed.
 
-use stormhlaw::{component, element, number, raw, Accepted, How, Reason, Refusal, Separators, Tables};
+use stormhlaw::{number, raw, Accepted, How, Reason, Refusal, Segment, Separators, Tables};
 
 /// Value, places, exponent, and whether one is written.
 type Four = (i64, u32, i32, bool);
@@ -187,9 +187,10 @@ fn read_nca(nca: &str) -> Result<Vec<u8>, (Reason, usize, usize)> {
 #[test]
 fn a_reading_accepts_quantities_and_no_other_texts() {
     for (text, numbers, _) in FIT {
-        let nca = read_nca(&format!("NCA**R1**{text}*EA:{text}")).unwrap();
-        assert_eq!(four(element(&nca, b'*', 4)), Some(numbers), "{text}");
-        assert_eq!(four(component(element(&nca, b'*', 5), b':', 2)), Some(numbers), "{text}");
+        let bytes = read_nca(&format!("NCA**R1**{text}*EA:{text}")).unwrap();
+        let nca = Segment::new(&bytes, Separators::STANDARD);
+        assert_eq!(four(nca.element(4)), Some(numbers), "{text}");
+        assert_eq!(four(nca.component(5, 2)), Some(numbers), "{text}");
     }
     for text in UNFIT.iter().filter(|text| !text.is_empty() && !text.contains('\0')) {
         let refused = |element| Err((Reason::ValueUnfit, 6, element));

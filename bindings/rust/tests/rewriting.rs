@@ -1,6 +1,6 @@
 //! Rewriting with other separators.
 
-use stormhlaw::{rewrite, Accepted, How, Level, Reason, Refusal, Segment, Separators};
+use stormhlaw::{rewrite, Accepted, How, Level, Reason, Refusal, SegmentRecord, Separators};
 
 const W1: &[u8] = b"ST*842*0001~BNR*11*NR7*20240301~HL*1**RP*1~HL*2*1*I*0~NCD*1~NCA**R1~SE*7*0001~";
 const NEW: Separators = Separators { element: b'|', component: b'^', terminator: b'\'' };
@@ -8,7 +8,7 @@ const NEW: Separators = Separators { element: b'|', component: b'^', terminator:
 /// The answer and the output, whose bytes were all `.` before.
 fn rewritten(input: &[u8], new: Separators, length: usize) -> (Result<Accepted, Refusal>, Vec<u8>) {
     let mut output = vec![b'.'; length];
-    let (mut segments, mut levels) = ([Segment::default(); 10], [Level::default(); 5]);
+    let (mut segments, mut levels) = ([SegmentRecord::default(); 10], [Level::default(); 5]);
     let answer =
         rewrite(input, Separators::STANDARD, How::strict(), new, &mut segments, &mut levels, &mut output);
     (answer, output)

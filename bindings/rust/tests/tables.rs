@@ -1,7 +1,7 @@
 //! Tables that own their records.
 
 use stormhlaw::{
-    element, Code, How, Level, Reason, Refusal, Segment, Separators, Tables, DEFAULT_LEVELS, LONGEST,
+    Code, How, Level, Reason, Refusal, SegmentRecord, Separators, Tables, DEFAULT_LEVELS, LONGEST,
 };
 
 const W1: &[u8] = b"ST*842*0001~BNR*11*NR7*20240301~HL*1**RP*1~HL*2*1*I*0~NCD*1~NCA**R1~SE*7*0001~";
@@ -19,7 +19,7 @@ fn texts<'a>(tables: &Tables, report: &'a [u8]) -> Vec<&'a str> {
 /// The names of the levels that the tables tell of.
 fn names<'a>(tables: &Tables, report: &'a [u8]) -> Vec<&'a [u8]> {
     let hls = tables.levels().iter().map(|level| level.hl(tables.segments()).unwrap());
-    hls.map(|hl| element(hl.bytes(report).unwrap(), b'*', 1)).collect()
+    hls.map(|hl| hl.segment(report, STANDARD).unwrap().element(1)).collect()
 }
 
 /// A report of that many items, with no other segments than it must have.
@@ -118,7 +118,7 @@ fn no_length_and_no_room_is_too_much() {
 
 #[test]
 fn a_level_without_its_segment_has_no_hl() {
-    let segments = [Segment { start: 1, length: 2, row: 18, level: 1 }];
+    let segments = [SegmentRecord { start: 1, length: 2, row: 18, level: 1 }];
     let level = |segment| Level { segment, ..Level::default() };
     assert_eq!(level(1).hl(&segments), Some(&segments[0]));
     for segment in [0, 2, u64::MAX] {

@@ -1,13 +1,16 @@
 //! How many records are valid after a refusal, beside how many the call wrote.
 
-use stormhlaw::{read, rewrite, Accepted, How, Level, Reason, Refusal, Segment, Separators, Valid, LONGEST};
+use stormhlaw::{
+    read, rewrite, Accepted, How, Level, Reason, Refusal, SegmentRecord, Separators, Valid, LONGEST,
+};
 
 const W1: [&str; 7] =
     ["ST*842*0001", "BNR*11*NR7*20240301", "HL*1**RP*1", "HL*2*1*I*0", "NCD*1", "NCA**R1", "SE*7*0001"];
 const NEW: Separators = Separators { element: b'|', component: b'^', terminator: b'\'' };
 
 /// What a record holds that no reading touched: no start, segment, row or level is as great.
-const OLD_SEGMENT: Segment = Segment { start: u64::MAX, length: 0, row: u64::MAX, level: u64::MAX };
+const OLD_SEGMENT: SegmentRecord =
+    SegmentRecord { start: u64::MAX, length: 0, row: u64::MAX, level: u64::MAX };
 const OLD_LEVEL: Level = Level { segment: u64::MAX, parent: 0, depth: 0, code: 0 };
 
 /// W1 with another segment in place of one of its own, counted from 1.
@@ -28,7 +31,7 @@ fn parts(bytes: &[u8]) -> impl Iterator<Item = &[u8]> {
 
 /// Two lent tables of old records.
 struct Lent {
-    segments: Vec<Segment>,
+    segments: Vec<SegmentRecord>,
     levels: Vec<Level>,
 }
 
@@ -153,7 +156,7 @@ fn records_of_an_earlier_reading_do_not_count() {
 
 #[test]
 fn any_refusal_and_any_table_give_counts_within_the_table() {
-    let row = |row| Segment { row, ..OLD_SEGMENT };
+    let row = |row| SegmentRecord { row, ..OLD_SEGMENT };
     let tables =
         [vec![], vec![row(18); 3], vec![row(79); 3], vec![row(18), row(79), row(18)], vec![row(0); 3]];
     for table in &tables {

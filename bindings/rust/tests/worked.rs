@@ -1,6 +1,8 @@
 //! The worked reports W1 to W12 of document 01, and what the tables hold after each.
 
-use stormhlaw::{read, Accepted, Code, How, Level, Reason, Refusal, Segment, Separators, LONGEST};
+use stormhlaw::{
+    read, Accepted, Code, How, Level, Reason, Refusal, Segment, SegmentRecord, Separators, LONGEST,
+};
 
 const W1: [&str; 7] =
     ["ST*842*0001", "BNR*11*NR7*20240301", "HL*1**RP*1", "HL*2*1*I*0", "NCD*1", "NCA**R1", "SE*7*0001"];
@@ -20,7 +22,7 @@ const SEGMENTS: [(u64, u64, u64, u64); 7] = [
 const LEVELS: [(u64, u64, u64, Code); 2] = [(3, 0, 1, Code::Report), (4, 1, 2, Code::Item)];
 
 /// What a record holds that no reading touched.
-const OLD_SEGMENT: Segment = Segment { start: 91, length: 92, row: 93, level: 98 };
+const OLD_SEGMENT: SegmentRecord = SegmentRecord { start: 91, length: 92, row: 93, level: 98 };
 const OLD_LEVEL: Level = Level { segment: 94, parent: 95, depth: 96, code: 97 };
 
 fn joined(segments: &[&str]) -> String {
@@ -133,7 +135,11 @@ fn a_segment_gives_its_bytes() {
     let report = joined(&W1).into_bytes();
     let (mut segments, mut levels) = ([OLD_SEGMENT; 7], [OLD_LEVEL; 2]);
     read(&report, Separators::STANDARD, How::new(), &mut segments, &mut levels).unwrap();
-    let found: Vec<_> = segments.iter().map(|segment| segment.bytes(&report).unwrap()).collect();
+    let found: Vec<_> = segments.iter().map(|record| record.bytes(&report).unwrap()).collect();
     assert_eq!(found, W1.map(str::as_bytes));
+    let cut: Vec<_> =
+        segments.iter().map(|record| record.segment(&report, Separators::STANDARD).unwrap()).collect();
+    assert_eq!(cut, W1.map(|text| Segment::new(text.as_bytes(), Separators::STANDARD)));
     assert_eq!(OLD_SEGMENT.bytes(&report), None);
+    assert_eq!(OLD_SEGMENT.segment(&report, Separators::STANDARD), None);
 }
