@@ -9,15 +9,13 @@ use native.Mathlib.Numerals.{add-one}
 use lib.Dec.{leb, ltb, eqb, leb·suc-suc}
 use lib.ListN.{length, take, drop, getD, drop-of-length-le}
 use lib.Seq.{drop-cons, take-at}
-use borrow.Author.Tests.{eq-eqb, ne-eqb, lt-ltb, le-ltb, le-leb}
-use Rattle.text.specs.Bytes.{Bytes, every}
+use borrow.Author.Tests.{ne-eqb, eqb-false, lt-ltb, le-ltb, le-leb}
+use Rattle.text.specs.Bytes.{Bytes, among}
 use Rattle.text.specs.Pieces.{before, pieces}
-use Rattle.text.specs.internal.Search.{Free}
 use Rattle.text.specs.View.{Piece, present}
 use Rattle.text.proofs.Bools.{and-true}
-use Rattle.text.proofs.Tests.{and-first, and-second}
 use Rattle.text.proofs.Pieces.{pieces-some, pieces-cut, pieces-free}
-use Rattle.text.proofs.Searching.{Unmet}
+use Rattle.text.proofs.Searching.{Unmet, among-free}
 use Rattle.types.specs.Types.{fits}
 use Rattle.elements.specs.Data.{Value, Shape, Simple, Composite, value, unitValues}
 use Rattle.elements.specs.Rules.{firstFilled, headed, fitsSimple, fitsEach, completeBy, suitsBy}
@@ -106,29 +104,21 @@ module _ (rule : Rule) (c : ℕ) where
   suits-simple single p n e = rw (there single p n, e)
 
 -- one value is one component exactly if no separator stands in it
-free-by : (c : ℕ) (p : Bytes) → every (λ (b : ℕ). not (eqb b c)) p ≡ true → Free c p
-free-by c [] e = tt
-free-by c (b ∷ p) e = (
-  λ q. true≢false (sym (rw (eq-eqb b c q) at (and-first (not (eqb b c)) (every (λ (b : ℕ). not (eqb b c)) p) e))),
-  free-by c p (and-second (not (eqb b c)) (every (λ (b : ℕ). not (eqb b c)) p) e),
-)
-
-counted-some : (f : ℕ → Bool) (p : Bytes) → every (λ (b : ℕ). not (f b)) p ≡ false → 1 ≤ countOf f p
-counted-some f [] e = absurd (true≢false e)
-counted-some f (b ∷ p) e = by-test (f b) e (counted-some f p)
+counted-some : (c : ℕ) (p : Bytes) → among p c ≡ true → 1 ≤ countOf (λ (b : ℕ). eqb b c) p
+counted-some c [] e = absurd (true≢false (sym e))
+counted-some c (b ∷ p) e = by-test (eqb b c) refl (counted-some c p)
   where
-    by-test : (t : Bool) → not t && every (λ (b : ℕ). not (f b)) p ≡ false → (every (λ (b : ℕ). not (f b)) p ≡ false → 1 ≤ countOf f p)
-        → 1 ≤ cond t (suc (countOf f p)) (countOf f p)
-    by-test true e h = omega arith
-    by-test false e h = h e
+    by-test : (t : Bool) → eqb b c ≡ t → (among p c ≡ true → 1 ≤ countOf (λ (b : ℕ). eqb b c) p)
+        → 1 ≤ cond t (suc (countOf (λ (b : ℕ). eqb b c) p)) (countOf (λ (b : ℕ). eqb b c) p)
+    by-test true q h = omega arith
+    by-test false q h = h (rw (ne-eqb c b (λ z. eqb-false b c q (sym z))) at e)
 
 module _ (x : Value) (c : ℕ) where
-  pub simple-free : (p : Bytes) → every (λ (b : ℕ). not (eqb b c)) p ≡ true
-      → fits (x .kind) (x .least) (x .most) p ≡ fitsSimple x (componentsBy false c p)
-  simple-free p e = rw (pieces-free c p (free-by c p e))
+  pub simple-free : (p : Bytes) → among p c ≡ false → fits (x .kind) (x .least) (x .most) p ≡ fitsSimple x (componentsBy false c p)
+  simple-free p e = rw (pieces-free c p (among-free c p e))
 
-  pub simple-cut : (p : Bytes) → every (λ (b : ℕ). not (eqb b c)) p ≡ false → false ≡ fitsSimple x (componentsBy false c p)
-  simple-cut p e = by-length (pieces c p) (omega (arith, count-pieces c p, counted-some (λ (b : ℕ). eqb b c) p e))
+  pub simple-cut : (p : Bytes) → among p c ≡ true → false ≡ fitsSimple x (componentsBy false c p)
+  simple-cut p e = by-length (pieces c p) (omega (arith, count-pieces c p, counted-some c p e))
     where
       by-length : (ps : Piece) → 1 < length ps → false ≡ fitsSimple x ps
       by-length [] l = absurd (omega arith)

@@ -1,10 +1,7 @@
 // The components of one element, and what is asked of them.
 ghost use mathlib.Core.Path.{_≡_};
-ghost use mathlib.Core.Bool.{not};
-ghost use Prim.Native.Nat.{ℕ, _≤_, _<_};
-ghost use lib.Dec.{eqb};
+ghost use Prim.Native.Nat.{_≤_, _<_};
 ghost use lib.ListN.{length};
-ghost use Rattle.text.specs.Bytes.{every};
 ghost use Rattle.text.specs.Pieces.{pieces};
 ghost use Rattle.elements.specs.Data.{value, unitValues};
 ghost use Rattle.elements.specs.Rules.{completeBy, fitsSimple, fitsEach, suitsBy};
@@ -12,22 +9,9 @@ ghost use Rattle.elements.specs.internal.Layouts.{componentsBy};
 ghost use Rattle.elements.specs.internal.Components.{Upto, fitsUnit};
 ghost use Rattle.elements.specs.internal.Verdicts.{elementBy};
 use crate::rules::Rule;
+use text::search;
 use types::kind::Kind;
 use types::values;
-
-// Whether no byte of the part is the separator.
-fn is_free(p: &[u8], separator: u8) -> bool
-    ensures { λ r. ⌜ r ≡ every (λ (b : ℕ). not (eqb b separator)) (now (p .entry)) ⌝ }
-{
-    let mut i = 0;
-    while i < p.len() {
-        if p[i] == separator {
-            return false;
-        }
-        i += 1;
-    }
-    true
-}
 
 // Where the component that starts at `from` ends.
 fn component_end(p: &[u8], from: usize, separator: u8) -> usize
@@ -115,7 +99,7 @@ fn suits_value(rule: Rule, single: bool, separator: u8, p: &[u8]) -> bool
     if single {
         return values::fits(kind, rule.least, rule.most, p);
     }
-    if !is_free(p, separator) {
+    if search::holds(p, separator) {
         return false;
     }
     values::fits(kind, rule.least, rule.most, p)

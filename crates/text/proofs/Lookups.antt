@@ -67,10 +67,11 @@ module _ (q : Separators) (g : Bytes) where
         (all-in-order (partIn q g n) 1 (elementOf (viewOf q g) n) (λ k. ap (partIn q g n) (omega arith) ∙ lies-part q g n (suc k) .holds))
         ∙ components-joined q g n ∙ sym (lies-part q g n 0 .holds)
 
-    -- the last of them is the first that ends where the element ends
+    -- as long as it
     long : length (joined (q .component) (elementOf (viewOf q g) n)) ≡ elementSpan (q .element) g n .len
     long = ap length (components-joined q g n) ∙ sym (element-long q g n)
 
+    -- the last of them is the first that ends where the element ends
     pub last-component-ends : (k : ℕ) → suc k ≡ length (elementOf (viewOf q g) n) → endOf (partSpan q g n (suc k)) ≡ endOf (partSpan q g n 0)
     unfolding partSpan
     last-component-ends k e =
@@ -123,10 +124,11 @@ module _ (q : Separators) (g : Bytes) where
       past-elements zero = past-whole
       past-elements (suc k) =
           let inside = component-within k in
-          let p = partSpan q g n (suc k) in
-          let from : p .start ≡ length g = omega (arith, ap (λ (p : Span). p .start) past-whole, ap (λ (p : Span). p .len) past-whole, inside .from, inside .to) in
-          let none : p .len ≡ 0 = omega (arith, ap (λ (p : Span). p .start) past-whole, ap (λ (p : Span). p .len) past-whole, inside .from, inside .to) in
-          (λ i. span (from i) (none i))
+          let at = ap (λ (p : Span). p .start) past-whole in
+          let none = ap (λ (p : Span). p .len) past-whole in
+          let start : partSpan q g n (suc k) .start ≡ length g = omega (arith, at, none, inside .from, inside .to) in
+          let len : partSpan q g n (suc k) .len ≡ 0 = omega (arith, at, none, inside .from, inside .to) in
+          (λ i. span (start i) (len i))
 
 -- the terminator has no say
 pub terminator-aside : (e c t u : ℕ) (g : Bytes) (n part : ℕ)

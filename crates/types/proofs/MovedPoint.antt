@@ -11,7 +11,7 @@ use Rattle.text.specs.Separators.{isDigit}
 use Rattle.text.proofs.Everys.{every-both}
 use Rattle.types.specs.Reals.{upto, after, isNegative, unsigned, digits, places}
 use Rattle.types.specs.Types.{isNumber}
-use Rattle.types.specs.Numbers.{signed, valueIn, exponentIn}
+use Rattle.types.specs.Numbers.{signed, valueIn, wholeIn, exponentIn}
 use Rattle.types.specs.Worth.{Alike, sign, MovesThePoint}
 use Rattle.types.proofs.Signs.{sign-is, unsigned-is}
 use Rattle.types.proofs.FirstDigits.{digits-positive}
@@ -38,12 +38,9 @@ no-sign : (w r : Bytes) → isNumber w ≡ true → isNegative (w ++ point ∷ r
 no-sign [] r e = refl
 no-sign (b ∷ w) r e = digits-positive (b ∷ w) e
 
--- the number that an exponent's text writes
-abbrev power : Bytes → ℤ
-power t = signed (isNegative t) (valueOf (unsigned t))
-
-power-digits : (x : Bytes) → isNumber x ≡ true → power x ≡ pos (valueOf x)
-power-digits x e = rw (digits-positive x e)
+-- digits without a sign write their value
+whole-digits : (x : Bytes) → isNumber x ≡ true → wholeIn x ≡ pos (valueOf x)
+whole-digits x e = rw (digits-positive x e)
 
 -- a text with digits w before the point and h behind it, and then y, which is nothing or begins with `E`
 module _ (negative : Bool) (w h y : Bytes) (ew : isNumber w ≡ true) (eh : isNumber h ≡ true) (stops : upto E y ≡ []) where
@@ -67,17 +64,17 @@ module _ (negative : Bool) (w h y : Bytes) (ew : isNumber w ≡ true) (eh : isNu
   places-of : places text ≡ length h
   places-of = ap placesIn bare ∙ places-front w (point ∷ (h ++ y)) ew ∙ ap length behind
 
-  exponent-of : exponentIn text ≡ power (after E y)
+  exponent-of : exponentIn text ≡ wholeIn (after E y)
   exponent-of =
-      ap power (ap (after E) bare ∙ after-digits E refl w (point ∷ (h ++ y)) ew ∙ after-digits E refl h y eh)
+      ap wholeIn (ap (after E) bare ∙ after-digits E refl w (point ∷ (h ++ y)) ew ∙ after-digits E refl h y eh)
 
-  scale-of : exponentIn text -ℤ pos (places text) ≡ power (after E y) -ℤ pos (length h)
+  scale-of : exponentIn text -ℤ pos (places text) ≡ wholeIn (after E y) -ℤ pos (length h)
   scale-of = λ i. exponent-of i -ℤ pos (places-of i)
 
 -- the same digits, and one scale
 alike : (negative : Bool) (w h y v k z : Bytes) (ew : isNumber w ≡ true) (eh : isNumber h ≡ true) (sy : upto E y ≡ [])
     (ev : isNumber v ≡ true) (ek : isNumber k ≡ true) (sz : upto E z ≡ []) → w ++ h ≡ v ++ k
-    → power (after E y) -ℤ pos (length h) ≡ power (after E z) -ℤ pos (length k)
+    → wholeIn (after E y) -ℤ pos (length h) ≡ wholeIn (after E z) -ℤ pos (length k)
     → Alike (sign negative ++ (w ++ point ∷ (h ++ y))) (sign negative ++ (v ++ point ∷ (k ++ z)))
 alike negative w h y v k z ew eh sy ev ek sz d e = record {
   value = value-of negative w h y ew eh sy ∙ ap (λ (l : Bytes). signed negative (valueOf l)) d ∙ sym (value-of negative v k z ev ek sz);
@@ -89,10 +86,10 @@ moves-the-point negative w f g x ew ef eg ex n =
     let front : isNumber (w ++ f) ≡ true = rw (every-both isDigit w f, ew, ef) in
     let back : isNumber (f ++ g) ≡ true = rw (every-both isDigit f g, ef, eg) in
     let same : w ++ (f ++ g) ≡ (w ++ f) ++ g = sym (append-assoc w f g) in
-    let right : power x -ℤ pos (length (f ++ g)) ≡ pos 0 -ℤ pos (length g) =
-    ap (λ (z : ℤ). z -ℤ pos (length (f ++ g))) (power-digits x ex ∙ ap pos n) ∙ ap (λ (k : ℕ). pos (length f) -ℤ pos k) (length-append f g)
+    let right : wholeIn x -ℤ pos (length (f ++ g)) ≡ pos 0 -ℤ pos (length g) =
+    ap (λ (z : ℤ). z -ℤ pos (length (f ++ g))) (whole-digits x ex ∙ ap pos n) ∙ ap (λ (k : ℕ). pos (length f) -ℤ pos k) (length-append f g)
     ∙ less-right (length f) (length g) in
-    let left : power (byte "-" ∷ x) -ℤ pos (length g) ≡ pos 0 -ℤ pos (length (f ++ g)) =
+    let left : wholeIn (byte "-" ∷ x) -ℤ pos (length g) ≡ pos 0 -ℤ pos (length (f ++ g)) =
     ap (λ (k : ℕ). negℤ (pos k) -ℤ pos (length g)) n ∙ less-left (length f) (length g) ∙ ap (λ (k : ℕ). pos 0 -ℤ pos k) (sym (length-append f g)) in (
       rw append-nil at (alike negative w (f ++ g) (E ∷ x) (w ++ f) g [] ew back refl front eg refl same right),
       rw append-nil at (alike negative (w ++ f) g (E ∷ (byte "-" ∷ x)) w (f ++ g) [] front eg refl ew back refl (sym same) left),

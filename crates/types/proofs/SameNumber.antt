@@ -11,7 +11,7 @@ use borrow.Author.Tests.{ne-eqb, eqb-false, le-leb, leb-true}
 use Rattle.text.specs.Bytes.{Bytes, byte, between, every, among, valueOf}
 use Rattle.text.specs.Separators.{isDigit}
 use Rattle.types.specs.Reals.{upto, after, isNegative, unsigned, mantissa, digits, places, isWritten, exponentText, isExponent, isReal}
-use Rattle.types.specs.Numbers.{signed, unfit, checked}
+use Rattle.types.specs.Numbers.{signed, wholeIn, unfit, checked}
 use Rattle.types.specs.Types.{isNumber, fits}
 use Rattle.text.proofs.Everys.{every-both}
 use Rattle.text.proofs.Tests.{and-first, and-second}
@@ -26,7 +26,7 @@ numberBy negative size behind written t = record {
   fit = true;
   value = signed negative size;
   places = behind;
-  exponent = signed (isNegative t) (valueOf (unsigned t));
+  exponent = wholeIn t;
   written = written;
 }
 

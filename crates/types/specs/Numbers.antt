@@ -17,9 +17,13 @@ signed negative size = cond negative (negℤ (pos size)) (pos size)
 abbrev pub valueIn : Bytes → ℤ
 valueIn s = signed (isNegative s) (valueOf (digits s))
 
+-- a whole number: a minus or none, and digits
+abbrev pub wholeIn : Bytes → ℤ
+wholeIn t = signed (isNegative t) (valueOf (unsigned t))
+
 -- the exponent as a number; 0 where none is written
 abbrev pub exponentIn : Bytes → ℤ
-exponentIn s = signed (isNegative (exponentText s)) (valueOf (unsigned (exponentText s)))
+exponentIn s = wholeIn (exponentText s)
 
 -- what a text that fits hands back
 abbrev pub numberIn : Bytes → Number

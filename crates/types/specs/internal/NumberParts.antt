@@ -9,8 +9,8 @@ use lib.IntN.{pos}
 use lib.ListN.{length}
 use Rattle.text.specs.Bytes.{Bytes, byte, valueOf}
 use Rattle.text.specs.Separators.{isDigit}
-use Rattle.types.specs.Reals.{isNegative, unsigned, isExponent}
-use Rattle.types.specs.Numbers.{signed}
+use Rattle.types.specs.Reals.{isExponent}
+use Rattle.types.specs.Numbers.{signed, wholeIn}
 use Rattle.types.specs.Types.{isNumber}
 use Rattle.types.specs.declared.numbers.Exponent.{Exponent}
 use Rattle.types.specs.declared.numbers.Number.{Number}
@@ -31,7 +31,7 @@ abbrev pub noExponent : Bool → Exponent
 noExponent fit = record { fit = fit; written = false; value = pos 0 }
 
 abbrev pub exponentBehind : Bytes → Exponent
-exponentBehind t = record { fit = true; written = true; value = signed (isNegative t) (valueOf (unsigned t)) }
+exponentBehind t = record { fit = true; written = true; value = wholeIn t }
 
 abbrev pub exponentOf : Bytes → Exponent
 exponentOf [] = noExponent true

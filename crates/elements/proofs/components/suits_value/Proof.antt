@@ -2,7 +2,6 @@
 -- Assumes nothing.
 use mathlib.Core.Path.{sym, _∙_}
 use denote.Ref.{now}
-use borrow.Author.Tests.{not-true, not-false}
 use Rattle.elements.specs.Data.{value}
 use Rattle.elements.proofs.ComponentPass.{simple-free, simple-cut}
 use borrow.Author.Needs.{needs}
@@ -15,15 +14,15 @@ fits-requires c κs = search needs
 returns : tie.Need-returns
 returns c = rw (c .before .if1 .taken) (c .fits2 .ensures)
 
-is-free-requires : tie.Need-is-free-requires
-is-free-requires c κs = search needs
+holds-requires : tie.Need-holds-requires
+holds-requires c κs = search needs
 
 returns-2 : tie.Need-returns-2
 returns-2 c = rw (c .before .before .if1 .left)
     (simple-cut (value (c .before .before .before .before .args .rule .kind) (c .before .before .before .before .args .rule .least)
     (c .before .before .before .before .args .rule .most)) (c .before .before .before .before .args .separator)
     (now (c .before .before .before .before .args .p))
-    (sym (c .before .is-free .ensures) ∙ not-true (c .before .is-free .result) (c .if2 .taken)))
+    (sym (c .before .holds .ensures) ∙ c .if2 .taken))
 
 fits-requires-2 : tie.Need-fits-requires-2
 fits-requires-2 c κs = search needs
@@ -34,8 +33,8 @@ returns-3 c = rw (c .before .before .before .if1 .left)
     ∙ simple-free (value (c .before .before .before .before .before .args .rule .kind) (c .before .before .before .before .before .args .rule .least)
     (c .before .before .before .before .before .args .rule .most)) (c .before .before .before .before .before .args .separator)
     (now (c .before .before .before .before .before .args .p))
-    (sym (c .before .before .is-free .ensures) ∙ not-false (c .before .before .is-free .result) (c .before .if2 .left)))
+    (sym (c .before .before .holds .ensures) ∙ c .before .if2 .left))
 
 pub suits-value-spec : {M : Type 1} → statement M
 suits-value-spec =
-    tie.close (tie.spec fits-requires returns is-free-requires returns-2 fits-requires-2 returns-3)
+    tie.close (tie.spec fits-requires returns holds-requires returns-2 fits-requires-2 returns-3)

@@ -14,7 +14,7 @@ use Rattle.text.proofs.Bools.{and-assoc}
 use Rattle.text.specs.Bytes.{valueOf}
 use Rattle.types.specs.Types.{isNumber}
 use Rattle.types.specs.Reals.{isNegative, unsigned, isExponent}
-use Rattle.types.specs.Numbers.{signed}
+use Rattle.types.specs.Numbers.{wholeIn}
 use Rattle.types.proofs.FirstDigits.{exponent-none, exponent-other, exponent-unfit, exponent-fit}
 use Rattle.types.proofs.Figures.{value-small}
 use Rattle.types.proofs.Signs.{signed-stays}
@@ -100,8 +100,8 @@ returns-4 c =
     let sign : c .before .before .begins .result ≡ isNegative (drop 1 rest) =
     c .before .before .begins .ensures ∙ ap isNegative (part-from 1 rest) in
     let small = value-small (exponent-valued (drop 1 rest) (fit read)) in
-    let value : c .signed .result ≡ signed (isNegative (drop 1 rest)) (valueOf (unsigned (drop 1 rest))) = c .signed .ensures ∙ rw (number, sign) in
-    let stays : toZ w64 (ofZ w64 (c .signed .result)) ≡ signed (isNegative (drop 1 rest)) (valueOf (unsigned (drop 1 rest))) =
+    let value : c .signed .result ≡ wholeIn (drop 1 rest) = c .signed .ensures ∙ rw (number, sign) in
+    let stays : toZ w64 (ofZ w64 (c .signed .result)) ≡ wholeIn (drop 1 rest) =
     ap (λ (z : ℤ). toZ w64 (ofZ w64 z)) value ∙ signed-stays (isNegative (drop 1 rest)) (valueOf (unsigned (drop 1 rest))) small in
     rw stays (exponent-fit rest (c .before .before .before .before .before .before .before .before .before .if1 .left)
     (c .before .before .before .before .before .before .before .if2 .left) (fit read))
