@@ -32,10 +32,15 @@ def numbers_of(name: str, value: Any) -> Tuple[int, int, int]:
     """The three separators as numbers. They are checked at each use: a frozen object can still be written to."""
     if not is_a(value, Separators):
         raise TypeError(f"{name}: Separators wanted, not {kind_of(value)}")
+    element, component, terminator = value.element, value.component, value.terminator
+    # Mostly each is plain bytes of length 1, which is seen in a third of the time.
+    if type(element) is type(component) is type(terminator) is bytes:
+        if len(element) == len(component) == len(terminator) == 1:
+            return element[0], component[0], terminator[0]
     return (
-        one_byte(value.element, name, ".element"),
-        one_byte(value.component, name, ".component"),
-        one_byte(value.terminator, name, ".terminator"),
+        one_byte(element, name, ".element"),
+        one_byte(component, name, ".component"),
+        one_byte(terminator, name, ".terminator"),
     )
 
 
