@@ -26,7 +26,7 @@ returns c terminator =
     ∙ ap spanNumbers
     (c .before .part-span .ensures
     ∙ ap (λ (q : Separators). partSpan q (now (a .segment)) (a .number) (a .part)) (c .before .before .separators-of .ensures)
-    ∙ terminator-aside (a .element) (a .component) 0 terminator (now (a .segment)) (a .number) (a .part))
+    ∙ terminator-aside (a .element) (a .component) _ terminator (now (a .segment)) (a .number) (a .part))
 
 pub stormhlaw-lookup-spec : {M : Type 1} → statement M
 stormhlaw-lookup-spec = tie.close (tie.spec separators-of-requires part-span-requires two-requires returns)
