@@ -3,7 +3,7 @@
 use Prim.Native.Nat.{ℕ, _+_, _-_, _≤_, _<_}
 use mathlib.Core.Path.{_≡_, refl, sym, ap, _∙_}
 use mathlib.Core.Logic.{_⊎_, inl, inr}
-use mathlib.Core.Bool.{Bool, true, false, cond}
+use mathlib.Core.Bool.{true, cond}
 use mathlib.Core.List.{[], _∷_, _++_, map, map-map, append-nil}
 use native.Mathlib.Omega.{arith}
 use lib.Dec.{T, eqb}
@@ -25,7 +25,7 @@ use Rattle.text.proofs.Lists.{map-append}
 use Rattle.text.proofs.Pieces.{rejoined, exchanged}
 use Rattle.text.proofs.Bins.{bin-parts}
 use Rattle.text.proofs.BinView.{view-bin, view-plain}
-use Rattle.text.proofs.BinSpans.{attached-bin, attached-plain, bin-long}
+use Rattle.text.proofs.BinSpans.{attached-bin, attached-plain}
 use Rattle.text.proofs.BinCut.{Plainly, cut-gives}
 use Rattle.text.proofs.Serving.{serves-apart, digit-id-byte}
 use Rattle.rewriting.specs.internal.Output.{putAt, stretch, byteAgain}
@@ -53,20 +53,6 @@ module _ (old new : Separators) where
   inner-again : (s : Bytes) → Free (old .terminator) s → map innerAgain s ≡ map (byteAgain old new) s
   inner-again [] f = refl
   inner-again (b ∷ s) f = rw (ne-eqb b (old .terminator) (f .0), inner-again s (f .1))
-
-  -- a segment written again is as long as it was
-  pub written-length : (segment : Bytes) → length (written new (viewOf old segment)) ≡ length segment
-  written-length segment = by (isBin (old .element) segment) refl
-    where
-      by : (b : Bool) → isBin (old .element) segment ≡ b → length (written new (viewOf old segment)) ≡ length segment
-      by true h =
-          let d = countIn (old .element) segment in
-          let p = attachedIn (old .element) segment in
-          ap (λ v. length (written new v)) (view-bin old segment h)
-          ∙ omega (arith, length-append d (new .element ∷ p), bin-long (old .element) segment h)
-      by false h =
-          ap (λ v. length (written new v)) (view-plain old segment h)
-          ∙ ap length (plain-inner segment) ∙ length-map segment innerAgain
 
   -- capitals and digits stay as they are
   ids-again : Fitted old → (s : Bytes) → T (every isIdByte s) → map (byteAgain old new) s ≡ s

@@ -11,7 +11,7 @@ use Rattle.text.specs.Pieces.{closed}
 use Rattle.text.specs.View.{View, viewOf, written, empty, inspected}
 use Rattle.text.specs.Cut.{Placed, Leads, Whole}
 use Rattle.text.specs.declared.separators.Separators.{Separators}
-use Rattle.text.proofs.SeenAlike.{part-alike, bytes-alike, elements-alike}
+use Rattle.text.proofs.SeenAlike.{written-length, part-alike, bytes-alike, elements-alike}
 use Rattle.text.proofs.Writable.{Writable, cut-writable, writable-cut, writable-seen, writable-again}
 use Rattle.text.specs.Separators.{Fitted}
 use Rattle.elements.specs.Checks.{firstBroken}
@@ -27,7 +27,6 @@ use Rattle.rewriting.specs.Rewrites.{strictly, rewritten, apartFrom, col
 use Rattle.rewriting.specs.declared.collisions.Clash.{Clash}
 use Rattle.rewriting.specs.declared.collisions.Clash.the-variants.{At, Nowhere}
 use Rattle.rewriting.proofs.SegmentBytes.{texts}
-use Rattle.rewriting.proofs.ByteByByte.{written-length}
 
 -- a clash is one
 clash-none : {segment byte element : ℕ} → At segment byte element ≡ Nowhere → ⊥

@@ -1,4 +1,4 @@
--- Two segments that are seen alike, each by its own separators: every lookup finds the same in both.
+-- A segment written with other separators is as long; and in two that are seen alike, each by its own, every lookup finds the same.
 -- Assumes nothing.
 use Prim.Native.Nat.{ℕ, zero, suc}
 use mathlib.Core.Path.{_≡_, refl, sym, ap, _∙_}
@@ -72,15 +72,17 @@ elements-seen q g = by (isBin (q .element) g) refl
     by false h =
         elements-plain (q .element) g h ∙ sym (joined-each q (pieces (q .element) g)) ∙ sym (ap (map (joined (q .component))) (view-plain q g h))
 
+-- a segment written with other separators is as long as it was
+pub written-length : (old new : Separators) (g : Bytes) → length (written new (viewOf old g)) ≡ length g
+written-length old new g =
+    joined-long (new .element) (old .element) (joined (new .component)) (joined (old .component)) (component-long (new .component) (old .component)) (viewOf old g)
+    ∙ ap length (written-view old g)
+
 -- two segments that are seen alike, each by its own separators
 module _ (p q : Separators) (f g : Bytes) (alike : viewOf p f ≡ viewOf q g) where
   -- they are of one length
   pub segment-long : length f ≡ length g
-  segment-long =
-      let view = viewOf q g in
-      ap length (sym (written-view p f)) ∙ ap (λ (v : View). length (written p v)) alike
-      ∙ joined-long (p .element) (q .element) (joined (p .component)) (joined (q .component)) (component-long (p .component) (q .component)) view
-      ∙ ap length (written-view q g)
+  segment-long = ap length (sym (written-view p f)) ∙ ap (λ (v : View). length (written p v)) alike ∙ written-length q p g
 
   -- every element stands in the one where it stands in the other,
   pub element-alike : (n : ℕ) → elementSpan (p .element) f n ≡ elementSpan (q .element) g n
