@@ -14,8 +14,9 @@ use Rattle.text.specs.Bytes.{every, among}
 use Rattle.text.specs.View.{Piece, View, empty}
 use Rattle.text.proofs.Tests.{and-first, and-second, allBelow, at-below}
 use Rattle.rows.specs.Tags.{tagNumber, tag}
-use Rattle.elements.specs.Data.{Shape, Simple, Composite, Element, Note, Paired, Required, Conditional, Rules, nonconformance}
-use Rattle.elements.specs.Rules.{ruleOf, fewComponents, checksBy, checksAmong, ruledChecks}
+use Rattle.rows.specs.declared.profile.ProfileName.{ProfileName}
+use Rattle.elements.specs.Data.{Shape, Simple, Composite, Element, Note, Paired, Required, Conditional, Rules, ruledSegments, elementProfile}
+use Rattle.elements.specs.Rules.{ruleOf, fewComponents, isUnused, checksBy, checksAmong, ruledChecks}
 use Rattle.elements.specs.internal.Verdicts.{rulesAmong, rulesOf, lastMust}
 use Rattle.elements.proofs.RuleNumbers.{rule-past}
 
@@ -47,7 +48,7 @@ small n rules = leb (length (rules .elements)) 31
 
 pub last-small : (tag : ℕ) → length (rulesOf tag .elements) ≤ 31
 unfolding rulesOf tagNumber
-last-small tag = leb-true (length (rulesOf tag .elements)) 31 (each-tag small tag refl (nonconformance .ruled) refl)
+last-small tag = leb-true (length (rulesOf tag .elements)) 31 (each-tag small tag refl ruledSegments refl)
 
 -- a tag with rules is one of the 34
 abbrev known : ℕ → Rules → Bool
@@ -55,7 +56,7 @@ known n rules = ltb n 34 || eqb (length (rules .elements)) 0
 
 pub ruled-known : (t : ℕ) → 1 ≤ length (rulesOf t .elements) → t < 34
 unfolding rulesOf tagNumber
-ruled-known t l = by-test (ltb t 34) refl (each-tag known t (last (ltb t 34)) (nonconformance .ruled) refl)
+ruled-known t l = by-test (ltb t 34) refl (each-tag known t (last (ltb t 34)) ruledSegments refl)
   where
     last : (a : Bool) → a || true ≡ true
     last true = refl
@@ -80,7 +81,7 @@ eager n rules =
 
 eager-all : (tag : ℕ) → eager tag (rulesOf tag) ≡ true
 unfolding rulesOf tagNumber
-eager-all tag = each-tag eager tag refl (nonconformance .ruled) refl
+eager-all tag = each-tag eager tag refl ruledSegments refl
 
 module _ (tag : ℕ) where
   abbrev rules : Rules
@@ -119,7 +120,7 @@ valued n rules = allBelow (suc (length (rules .elements))) (λ (k : ℕ). eqb k 
 
 valued-all : (tag : ℕ) → valued tag (rulesOf tag) ≡ true
 unfolding rulesOf tagNumber
-valued-all tag = each-tag valued tag refl (nonconformance .ruled) refl
+valued-all tag = each-tag valued tag refl ruledSegments refl
 
 pub few-but-five : (tag k : ℕ) (p : Piece) → (k ≡ 5 → ⊥) → fewComponents (ruleOf (rulesOf tag) k .shape) p ≡ true
 few-but-five tag k p n =
@@ -138,7 +139,7 @@ pub few-but-NCA : (t : ℕ) (p : Piece) → (t ≡ tag "NCA" → ⊥) → fewCom
 unfolding rulesOf tagNumber
 few-but-NCA t p n =
     single-few (ruleOf (rulesOf t) 5 .shape) p
-    (or-else (eqb t (tag "NCA")) (single (ruleOf (rulesOf t) 5 .shape)) (each-tag fifth t (last (eqb t (tag "NCA"))) (nonconformance .ruled) refl)
+    (or-else (eqb t (tag "NCA")) (single (ruleOf (rulesOf t) 5 .shape)) (each-tag fifth t (last (eqb t (tag "NCA"))) ruledSegments refl)
     (ne-eqb t (tag "NCA") n))
   where
     last : (t : Bool) → t || true ≡ true
@@ -151,7 +152,7 @@ roomy n rules = fewComponents (ruleOf rules 5 .shape) empty
 
 pub few-empty : (tag : ℕ) → fewComponents (ruleOf (rulesOf tag) 5 .shape) empty ≡ true
 unfolding rulesOf tagNumber
-few-empty tag = each-tag roomy tag refl (nonconformance .ruled) refl
+few-empty tag = each-tag roomy tag refl ruledSegments refl
 
 -- four tags have notes
 abbrev unnoted : List Note → Bool
@@ -170,7 +171,7 @@ unfolding rulesOf tagNumber
 no-notes t a b c d =
     unnoted-none (rulesOf t .notes)
     (rw (ne-eqb t (tag "N1") a, ne-eqb t (tag "DTM") b, ne-eqb t (tag "LIN") c, ne-eqb t (tag "NCA") d) at
-    (each-tag quiet t (last (among (tag "N1" ∷ tag "DTM" ∷ tag "LIN" ∷ tag "NCA" ∷ []) t)) (nonconformance .ruled) refl))
+    (each-tag quiet t (last (among (tag "N1" ∷ tag "DTM" ∷ tag "LIN" ∷ tag "NCA" ∷ []) t)) ruledSegments refl))
   where
     last : (t : Bool) → t || true ≡ true
     last true = refl
@@ -187,39 +188,41 @@ near n rules = every noteWithin (rules .notes)
 
 pub notes-small : (tag : ℕ) → every noteWithin (rulesOf tag .notes) ≡ true
 unfolding rulesOf tagNumber
-notes-small tag = each-tag near tag refl (nonconformance .ruled) refl
+notes-small tag = each-tag near tag refl ruledSegments refl
 
 -- the tests of a tag with rules are those of its rules; a tag without has none
-checks-by : (xs : List (ℕ × Rules)) (tag : ℕ) (v : View) → (length (rulesAmong xs tag .elements) ≡ 0 → ⊥)
-    → checksAmong xs tag v ≡ checksBy (rulesAmong xs tag) v
-checks-by [] tag v n = absurd (n refl)
-checks-by (x ∷ xs) tag v n = one (eqb (x .0) tag) n (checks-by xs tag v)
+checks-by : (xs : List (ℕ × Rules)) (unused : ℕ → Bool) (tag : ℕ) (v : View) → (length (rulesAmong xs tag .elements) ≡ 0 → ⊥)
+    → checksAmong xs unused tag v ≡ checksBy (rulesAmong xs tag) unused v
+checks-by [] unused tag v n = absurd (n refl)
+checks-by (x ∷ xs) unused tag v n = one (eqb (x .0) tag) n (checks-by xs unused tag v)
   where
     one : (t : Bool) → (length (cond t (x .1) (rulesAmong xs tag) .elements) ≡ 0 → ⊥)
-        → ((length (rulesAmong xs tag .elements) ≡ 0 → ⊥) → checksAmong xs tag v ≡ checksBy (rulesAmong xs tag) v)
-        → cond t (checksBy (x .1) v) (checksAmong xs tag v) ≡ checksBy (cond t (x .1) (rulesAmong xs tag)) v
+        → ((length (rulesAmong xs tag .elements) ≡ 0 → ⊥) → checksAmong xs unused tag v ≡ checksBy (rulesAmong xs tag) unused v)
+        → cond t (checksBy (x .1) unused v) (checksAmong xs unused tag v) ≡ checksBy (cond t (x .1) (rulesAmong xs tag)) unused v
     one true n later = refl
     one false n later = later n
 
-checks-none : (xs : List (ℕ × Rules)) (tag : ℕ) (v : View) → every (λ (x : ℕ × Rules). leb 1 (length (x .1 .elements))) xs ≡ true
-    → length (rulesAmong xs tag .elements) ≡ 0 → checksAmong xs tag v ≡ []
-checks-none [] tag v e l = refl
-checks-none (x ∷ xs) tag v e l =
+checks-none : (xs : List (ℕ × Rules)) (unused : ℕ → Bool) (tag : ℕ) (v : View) → every (λ (x : ℕ × Rules). leb 1 (length (x .1 .elements))) xs ≡ true
+    → length (rulesAmong xs tag .elements) ≡ 0 → checksAmong xs unused tag v ≡ []
+checks-none [] unused tag v e l = refl
+checks-none (x ∷ xs) unused tag v e l =
     one (eqb (x .0) tag) l
     (leb-true 1 (length (x .1 .elements))
     (and-first (leb 1 (length (x .1 .elements))) (every (λ (x : ℕ × Rules). leb 1 (length (x .1 .elements))) xs) e))
-    (checks-none xs tag v (and-second (leb 1 (length (x .1 .elements))) (every (λ (x : ℕ × Rules). leb 1 (length (x .1 .elements))) xs) e))
+    (checks-none xs unused tag v (and-second (leb 1 (length (x .1 .elements))) (every (λ (x : ℕ × Rules). leb 1 (length (x .1 .elements))) xs) e))
   where
     one : (t : Bool) → length (cond t (x .1) (rulesAmong xs tag) .elements) ≡ 0 → 1 ≤ length (x .1 .elements)
-        → (length (rulesAmong xs tag .elements) ≡ 0 → checksAmong xs tag v ≡ [])
-        → cond t (checksBy (x .1) v) (checksAmong xs tag v) ≡ []
+        → (length (rulesAmong xs tag .elements) ≡ 0 → checksAmong xs unused tag v ≡ [])
+        → cond t (checksBy (x .1) unused v) (checksAmong xs unused tag v) ≡ []
     one true l h later = absurd (omega arith)
     one false l h later = later l
 
-pub ruled-by : (tag : ℕ) (v : View) → (length (rulesOf tag .elements) ≡ 0 → ⊥) → ruledChecks nonconformance tag v ≡ checksBy (rulesOf tag) v
-unfolding ruledChecks rulesOf
-ruled-by tag v n = checks-by (nonconformance .ruled) tag v n
+module _ (profile : ProfileName) (tag : ℕ) (v : View) where
+  pub ruled-by : (length (rulesOf tag .elements) ≡ 0 → ⊥)
+      → ruledChecks (elementProfile profile) tag v ≡ checksBy (rulesOf tag) (isUnused (elementProfile profile) tag) v
+  unfolding ruledChecks rulesOf
+  ruled-by n = checks-by ruledSegments (isUnused (elementProfile profile) tag) tag v n
 
-pub ruled-none : (tag : ℕ) (v : View) → length (rulesOf tag .elements) ≡ 0 → ruledChecks nonconformance tag v ≡ []
-unfolding ruledChecks rulesOf
-ruled-none tag v l = checks-none (nonconformance .ruled) tag v refl l
+  pub ruled-none : length (rulesOf tag .elements) ≡ 0 → ruledChecks (elementProfile profile) tag v ≡ []
+  unfolding ruledChecks rulesOf
+  ruled-none l = checks-none ruledSegments (isUnused (elementProfile profile) tag) tag v refl l

@@ -3,14 +3,14 @@
 use Prim.Native.Nat.{ℕ, zero, suc, _+_, _≤_, _<_}
 use mathlib.Core.Path.{_≡_, refl, sym, ap, ap₂, _∙_}
 use mathlib.Core.Logic.{_↔_, by-cases}
-use mathlib.Core.Bool.{Bool, true, false}
+use mathlib.Core.Bool.{Bool, true, false, _&&_}
 use mathlib.Core.List.{List, [], _∷_, _++_}
 use native.Mathlib.Omega.{arith}
 use native.Mathlib.Decide.{decLt}
 use lib.Dec.{T}
 use lib.ListN.{length, getD}
 use Rattle.text.specs.Bytes.{every}
-use Rattle.text.proofs.Bools.{both}
+use Rattle.text.proofs.Bools.{both, and-true, and-false}
 use Rattle.elements.specs.Checks.{Check, check, each, Keeps, decide, firstBroken}
 use Rattle.elements.specs.declared.verdict.Verdict.{Verdict}
 use Rattle.elements.specs.declared.verdict.Verdict.the-variants.{Holds, Broken}
@@ -124,6 +124,38 @@ holds-each n a (suc m) f e k l u =
     truth : (t : Bool) → T t → t ≡ true
     truth true t = refl
     truth false t = absurd t
+
+-- the one that decides fails, and is none before the first
+pub each-decides : (n a m : ℕ) (f : ℕ → Bool) (x e : ℕ) → firstBroken (each n a m f) ≡ Broken x e → (a ≤ e) × (f e ≡ false)
+each-decides n a zero f x e d = let z : _≡_ {A = ℕ} 0 1 = cc in absurd (omega arith)
+each-decides n a (suc m) f x e d = by (f a) refl (each-decides n (suc a) m f x e) d
+  where
+    by : (t : Bool) → f a ≡ t → (firstBroken (each n (suc a) m f) ≡ Broken x e → (suc a ≤ e) × (f e ≡ false))
+        → decide (check n a (f a)) t (firstBroken (each n (suc a) m f)) ≡ Broken x e → (a ≤ e) × (f e ≡ false)
+    by true h later d = let i = later d in (omega (arith, i .0), i .1)
+    by false h later d = let z : a ≡ e = cc in (omega arith, rw z at h)
+
+-- of two tests together the second decides, where the first passes so far
+pub each-under : (n a m : ℕ) (f g : ℕ → Bool) (x e : ℕ) → firstBroken (each n a m g) ≡ Broken x e → ((j : ℕ) → a ≤ j → j ≤ e → f j ≡ true)
+    → firstBroken (each n a m (λ (k : ℕ). f k && g k)) ≡ Broken x e
+each-under n a zero f g x e d all = d
+each-under n a (suc m) f g x e d all = by (g a) refl (each-under n (suc a) m f g x e) d
+  where
+    by : (t : Bool) → g a ≡ t
+        → (firstBroken (each n (suc a) m g) ≡ Broken x e → ((j : ℕ) → suc a ≤ j → j ≤ e → f j ≡ true)
+        → firstBroken (each n (suc a) m (λ (k : ℕ). f k && g k)) ≡ Broken x e)
+        → decide (check n a (g a)) t (firstBroken (each n (suc a) m g)) ≡ Broken x e
+        → decide (check n a (f a && g a)) (f a && g a) (firstBroken (each n (suc a) m (λ (k : ℕ). f k && g k))) ≡ Broken x e
+    by true h later d =
+        let past = each-decides n (suc a) m g x e d .0 in
+        rw (h, all a (omega arith) (omega arith)) (later d (λ j p q. all j (omega arith) q))
+    by false h later d = rw (h, and-false (f a)) d
+
+-- and the first, where the second is silent
+pub each-silent : (n a m : ℕ) (f g : ℕ → Bool) → firstBroken (each n a m g) ≡ Holds
+    → firstBroken (each n a m (λ (k : ℕ). f k && g k)) ≡ firstBroken (each n a m f)
+each-silent n a m f g e =
+    ap firstBroken (each-same n a m (λ (k : ℕ). f k && g k) f (λ k l u. rw (holds-each n a m g e k l u) (and-true (f k))))
 
 -- one after another, in any grouping
 pub then-assoc : (u v w : Verdict) → andThen (andThen u v) w ≡ andThen u (andThen v w)

@@ -11,7 +11,7 @@ use borrow.Author.Tests.{eqb-true, eqb-false, eq-eqb, ne-eqb, ltb-true, ltb-fals
 use Rattle.rows.specs.Tags.{tagNumber, tag}
 use Rattle.types.specs.declared.kind.Kind.{Kind}
 use Rattle.types.specs.declared.kind.Kind.the-variants.{AN, ID}
-use Rattle.elements.specs.Data.{Value, Element, Rules, value, may, firstUnit, rulesLIN, nonconformance}
+use Rattle.elements.specs.Data.{Value, Element, Rules, value, may, firstUnit, rulesLIN, ruledSegments}
 use Rattle.elements.specs.Rules.{unruled, ruleOf}
 use Rattle.elements.specs.internal.Layouts.{upTo}
 use Rattle.elements.specs.internal.Verdicts.{elementBy, Renders, rulesOf}
@@ -82,7 +82,7 @@ first-among (x ∷ xs) t = by-test (eqb (x .0) t) (omega (arith, length-append (
 
 first-small : (t : ℕ) → extentOf t .first ≤ 27
 unfolding extentOf tagNumber
-first-small t = first-among (nonconformance .ruled) t
+first-small t = first-among ruledSegments t
 
 -- the rule of element k + 1 by the table, with the first component of a composite, and what the data say
 abbrev rendered : ℕ → ℕ → Element × Value

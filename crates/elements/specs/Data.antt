@@ -4,6 +4,8 @@ use Prim.Native.Nat.{ℕ, zero, suc, _+_}
 use mathlib.Core.Bool.{Bool, true, false}
 use mathlib.Core.List.{List, [], _∷_, _++_}
 use Rattle.rows.specs.Tags.{tag}
+use Rattle.rows.specs.declared.profile.ProfileName.{ProfileName}
+use Rattle.rows.specs.declared.profile.ProfileName.the-variants.{Report, Reply}
 use Rattle.types.specs.declared.kind.Kind.{Kind}
 use Rattle.types.specs.declared.kind.Kind.the-variants.{AN, ID, Set842, N0, R, DT, TM}
 
@@ -108,14 +110,24 @@ rulesNCA = record {
 abbrev pub rulesSE : Rules
 rulesSE = record { elements = must N0 1 10 ∷ must AN 4 9 ∷ []; notes = [] }
 
--- what a profile says of elements: the ruled segments by their tags; every other segment is plain
+-- what a profile says of elements
 pub record ElementProfile : Type 0 where
+  -- the ruled segments by their tags; every other segment is plain
   pub ruled : List (ℕ × Rules)
+  -- the elements of ruled segments that must be absent, each by its tag and its number
+  pub unused : List (ℕ × ℕ)
 
--- the one profile: nonconformance reports
-abbrev pub nonconformance : ElementProfile
-nonconformance = record {
-  ruled =
-      (tag "ST", rulesST) ∷ (tag "N1", rulesN1) ∷ (tag "DTM", rulesDTM) ∷ (tag "HL", rulesHL) ∷ (tag "LIN", rulesLIN)
-      ∷ (tag "NTE", rulesNTE) ∷ (tag "NCA", rulesNCA) ∷ (tag "SE", rulesSE) ∷ [];
-}
+-- both profiles rule the same segments,
+abbrev pub ruledSegments : List (ℕ × Rules)
+ruledSegments =
+    (tag "ST", rulesST) ∷ (tag "N1", rulesN1) ∷ (tag "DTM", rulesDTM) ∷ (tag "HL", rulesHL) ∷ (tag "LIN", rulesLIN)
+    ∷ (tag "NTE", rulesNTE) ∷ (tag "NCA", rulesNCA) ∷ (tag "SE", rulesSE) ∷ []
+
+-- and in a storage-quality reply HL02 and HL04 are absent
+abbrev pub unusedBy : ProfileName → List (ℕ × ℕ)
+unusedBy Report = []
+unusedBy Reply = (tag "HL", 2) ∷ (tag "HL", 4) ∷ []
+
+-- what the profile of that name says of elements
+abbrev pub elementProfile : ProfileName → ElementProfile
+elementProfile profile = record { ruled = ruledSegments; unused = unusedBy profile }

@@ -56,9 +56,17 @@ fewComponents (Composite xs) p = leb (length p) (length xs)
 abbrev pub fewBy : Rules → ℕ → Piece → Bool
 fewBy rules k p = leb k (length (rules .elements)) && fewComponents (ruleOf rules k .shape) p
 
--- 9: an element past the last ruled one, or a component too many
-abbrev pub tooManyChecks : Rules → View → List Check
-tooManyChecks rules v = each 9 1 (elementCount v) (λ (k : ℕ). fewBy rules k (elementOf v k))
+-- the profile wants the element absent
+abbrev pub isUnused : ElementProfile → (tag k : ℕ) → Bool
+isUnused profile tag k = any (λ (x : ℕ × ℕ). eqb (x .0) tag && eqb (x .1) k) (profile .unused)
+
+-- it is absent, where `unused` says that it must be
+abbrev pub absentIf : (unused : Bool) → Piece → Bool
+absentIf unused p = not (unused && present p)
+
+-- 9: an element past the last ruled one, or a component too many, or an element that must be absent
+abbrev pub tooManyChecks : Rules → (unused : ℕ → Bool) → View → List Check
+tooManyChecks rules unused v = each 9 1 (elementCount v) (λ (k : ℕ). fewBy rules k (elementOf v k) && absentIf (unused k) (elementOf v k))
 
 -- the first component has a byte
 abbrev pub firstFilled : Piece → Bool
@@ -124,13 +132,13 @@ abbrev pub presentAt : View → ℕ → Bool
 presentAt v k = present (elementOf v k)
 
 -- 9, 8, 10 and 11 of a ruled segment
-abbrev pub checksBy : Rules → View → List Check
-checksBy rules v = tooManyChecks rules v ++ missingChecks rules v ++ unfitChecks rules v ++ noteChecks (rules .notes) (presentAt v)
+abbrev pub checksBy : Rules → (unused : ℕ → Bool) → View → List Check
+checksBy rules unused v = tooManyChecks rules unused v ++ missingChecks rules v ++ unfitChecks rules v ++ noteChecks (rules .notes) (presentAt v)
 
 -- of a segment with that tag; a plain segment has none
-abbrev pub checksAmong : List (ℕ × Rules) → ℕ → View → List Check
-checksAmong [] tag v = []
-checksAmong (x ∷ xs) tag v = cond (eqb (x .0) tag) (checksBy (x .1) v) (checksAmong xs tag v)
+abbrev pub checksAmong : List (ℕ × Rules) → (unused : ℕ → Bool) → ℕ → View → List Check
+checksAmong [] unused tag v = []
+checksAmong (x ∷ xs) unused tag v = cond (eqb (x .0) tag) (checksBy (x .1) unused v) (checksAmong xs unused tag v)
 
 unfoldable pub ruledChecks : ElementProfile → ℕ → View → List Check
-ruledChecks profile tag v = checksAmong (profile .ruled) tag v
+ruledChecks profile tag v = checksAmong (profile .ruled) (isUnused profile tag) tag v

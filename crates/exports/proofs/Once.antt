@@ -5,8 +5,9 @@ use mathlib.Core.List.{List}
 use Prim.Native.Nat.{ℕ}
 use Rattle.text.specs.Bytes.{Bytes}
 use Rattle.text.specs.declared.separators.Separators.{Separators}
+use Rattle.rows.specs.declared.profile.ProfileName.{ProfileName}
 use Rattle.gate.specs.Answers.{numbersOf}
-use Rattle.gate.specs.Profile.{nonconformance}
+use Rattle.gate.specs.Profile.{profileOf}
 use Rattle.gate.specs.Records.{Tables}
 use Rattle.gate.specs.declared.how.How.{How}
 use Rattle.gate.proofs.reading.Once.{reads-once}
@@ -17,14 +18,14 @@ use Rattle.exports.specs.Promises.{Told, ToldAgain, ToldPart}
 pub told-once : {how : How} {s : Bytes} {before x x′ : Tables} {four four′ : List ℕ} → Told how s before x four → Told how s before x′ four′
     → (four ≡ four′) × (x ≡ x′)
 told-once {how} {s} {before} {x} {x′} a b =
-    let o = reads-once nonconformance how s before (a .answer) (b .answer) x x′ (a .reads) (b .reads) in
+    let o = reads-once (profileOf how) how s before (a .answer) (b .answer) x x′ (a .reads) (b .reads) in
     (a .numbers ∙ ap numbersOf (o .0) ∙ sym (b .numbers), o .1)
 
 -- the numbers of a rewriting, both tables and the output are one
-pub told-again-once : {old new : Separators} {s : Bytes} {before x x′ : Tables} {output w w′ : Bytes} {four four′ : List ℕ}
-    → ToldAgain old new s before output x w four → ToldAgain old new s before output x′ w′ four′ → (four ≡ four′) × (x ≡ x′) × (w ≡ w′)
-told-again-once {old} {new} {s} {before} {x} {x′} {output} {w} {w′} a b =
-    let o = rewrites-once old new s before output (a .answer) (b .answer) x x′ w w′ (a .rewrites) (b .rewrites) in
+pub told-again-once : {profile : ProfileName} {old new : Separators} {s : Bytes} {before x x′ : Tables} {output w w′ : Bytes} {four four′ : List ℕ}
+    → ToldAgain profile old new s before output x w four → ToldAgain profile old new s before output x′ w′ four′ → (four ≡ four′) × (x ≡ x′) × (w ≡ w′)
+told-again-once {profile} {old} {new} {s} {before} {x} {x′} {output} {w} {w′} a b =
+    let o = rewrites-once profile old new s before output (a .answer) (b .answer) x x′ w w′ (a .rewrites) (b .rewrites) in
     (a .numbers ∙ ap numbersOf (o .0) ∙ sym (b .numbers), o .1, o .2)
 
 -- the numbers of a part are one

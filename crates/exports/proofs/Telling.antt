@@ -9,6 +9,7 @@ use mir.Syntax.{w64}
 use mir.Val.{toZ, ofZ}
 use Rattle.text.specs.Bytes.{Bytes}
 use Rattle.text.specs.declared.separators.Separators.{Separators}
+use Rattle.rows.specs.declared.profile.ProfileName.{ProfileName}
 use Rattle.gate.specs.Answers.{numbersOf}
 use Rattle.gate.specs.Records.{Tables}
 use Rattle.gate.specs.Reads.{Reads}
@@ -21,9 +22,9 @@ module _ (s : Bytes) (before after : Tables) (r : Answer) (four : List ℕ) wher
   pub tell : (how how′ : How) → how′ ≡ how → Reads how′ s before r after → four ≡ numbersOf r → Told how s before after four
   tell how how′ e x n = record { answer = r; reads = rw e at x; numbers = n }
 
-  pub tell-again : (old old′ new new′ : Separators) (output written : Bytes) → old′ ≡ old → new′ ≡ new
-      → Rewrites old′ new′ s before output r after written → four ≡ numbersOf r → ToldAgain old new s before output after written four
-  tell-again old old′ new new′ output written e f x n = record { answer = r; rewrites = rw (e, f) at x; numbers = n }
+  pub tell-again : (profile profile′ : ProfileName) (old old′ new new′ : Separators) (output written : Bytes) → profile′ ≡ profile → old′ ≡ old → new′ ≡ new
+      → Rewrites profile′ old′ new′ s before output r after written → four ≡ numbersOf r → ToldAgain profile old new s before output after written four
+  tell-again profile profile′ old old′ new new′ output written d e f x n = record { answer = r; rewrites = rw (d, e, f) at x; numbers = n }
 
 -- 1 or 0 comes back out of its 64 bits
 pub bit-stays : {z : ℤ} (b : Bool) → z ≡ bitOf b → toZ w64 (ofZ w64 z) ≡ bitOf b

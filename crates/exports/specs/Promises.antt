@@ -1,6 +1,6 @@
 -- The promises of the functions that other languages call: what each writes into the numbers that the caller lends.
 -- Assumes nothing.
-use Prim.Native.Nat.{ℕ, _%_}
+use Prim.Native.Nat.{ℕ, _/_, _%_}
 use mathlib.Core.Path.{_≡_}
 use mathlib.Core.Bool.{Bool, cond}
 use mathlib.Core.List.{List, [], _∷_}
@@ -12,6 +12,8 @@ use Rattle.text.specs.declared.lines.LineEnds.{LineEnds}
 use Rattle.text.specs.declared.lines.LineEnds.the-variants.{Skipped, Strict}
 use Rattle.text.specs.declared.lookup.Span.{Span}
 use Rattle.text.specs.declared.separators.Separators.{Separators}
+use Rattle.rows.specs.declared.profile.ProfileName.{ProfileName}
+use Rattle.rows.specs.declared.profile.ProfileName.the-variants.{Report, Reply}
 use Rattle.types.specs.declared.numbers.Number.{Number}
 use Rattle.gate.specs.Answers.{numbersOf}
 use Rattle.gate.specs.Records.{Tables}
@@ -24,13 +26,18 @@ use Rattle.rewriting.specs.Rewrites.{Rewrites}
 abbrev pub separatorsOf : ℕ → ℕ → ℕ → Separators
 separatorsOf element component terminator = record { element = element; component = component; terminator = terminator }
 
--- what a sum of flags says of line ends: strict with the flag 1, the lowest bit, else they are skipped. No other bit is looked at
+-- what a sum of flags says of line ends: strict with the flag 1, the lowest bit, else they are skipped
 abbrev pub linesOf : ℕ → LineEnds
 linesOf how = cond (eqb (how % 2) 1) Strict Skipped
 
--- both together
+-- and of the profile: storage-quality replies with the flag 2, the next bit, else nonconformance reports. No other bit is looked at
+abbrev pub profileIn : ℕ → ProfileName
+profileIn how = cond (eqb (how / 2 % 2) 1) Reply Report
+
+-- all of it together
 abbrev pub howOf : ℕ → ℕ → ℕ → ℕ → How
-howOf element component terminator how = record { separators = separatorsOf element component terminator; lines = linesOf how }
+howOf element component terminator how =
+    record { separators = separatorsOf element component terminator; lines = linesOf how; profile = profileIn how }
 
 -- the two lent tables
 abbrev pub tablesOf : List ℕ → List ℕ → Tables
@@ -43,9 +50,9 @@ pub record Told (how : How) (s : Bytes) (before after : Tables) (four : List ℕ
   pub numbers : four ≡ numbersOf answer
 
 -- a rewriting, told by the four numbers of its answer
-pub record ToldAgain (old new : Separators) (s : Bytes) (before : Tables) (output : Bytes) (after : Tables) (written : Bytes) (four : List ℕ) : Type 0 where
+pub record ToldAgain (profile : ProfileName) (old new : Separators) (s : Bytes) (before : Tables) (output : Bytes) (after : Tables) (written : Bytes) (four : List ℕ) : Type 0 where
   pub answer : Answer
-  pub rewrites : Rewrites old new s before output answer after written
+  pub rewrites : Rewrites profile old new s before output answer after written
   pub numbers : four ≡ numbersOf answer
 
 -- the two numbers of a part: where it starts, and how long it is

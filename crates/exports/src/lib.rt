@@ -3,9 +3,10 @@
 ghost use mathlib.Core.Path.{_≡_};
 ghost use Rattle.types.specs.Numbers.{checked};
 ghost use Rattle.gate.specs.Answers.{numbersOf};
-ghost use Rattle.exports.specs.Promises.{separatorsOf, linesOf, howOf, tablesOf, Told, ToldAgain, spanNumbers, ToldPart, bitOf, numberNumbers};
+ghost use Rattle.exports.specs.Promises.{separatorsOf, linesOf, profileIn, howOf, tablesOf, Told, ToldAgain, spanNumbers, ToldPart, bitOf, numberNumbers};
 use gate::answer::Answer;
 use gate::how::How;
+use rows::profile::ProfileName;
 use text::lines::LineEnds;
 use text::lookup;
 use text::lookup::Span;
@@ -35,6 +36,17 @@ fn lines_of(how: u64) -> LineEnds
     }
 }
 
+// What the sum of flags says of the profile.
+fn profile_of(how: u64) -> ProfileName
+    ensures { λ r. ⌜ r ≡ profileIn how ⌝ }
+{
+    if how / 2 % 2 == 1 {
+        ProfileName::Reply
+    } else {
+        ProfileName::Report
+    }
+}
+
 // How to read, by these separators and this sum of flags.
 fn how_of(element: u8, component: u8, terminator: u8, how: u64) -> How
     ensures { λ r. ⌜ r ≡ howOf element component terminator how ⌝ }
@@ -42,6 +54,7 @@ fn how_of(element: u8, component: u8, terminator: u8, how: u64) -> How
     How {
         separators: separators_of(element, component, terminator),
         lines: lines_of(how),
+        profile: profile_of(how),
     }
 }
 
@@ -115,7 +128,7 @@ pub extern "C" fn stormhlaw_read(
 }
 
 // Reads one transaction and writes it to the output with the new separators, as `rewriting::rewrite` does: both tables, the output, and the
-// four numbers of the answer. It reads strictly, so that no flag of `how` changes anything.
+// four numbers of the answer. It reads strictly, and of the sum of flags `how` it heeds the profile alone.
 #[no_mangle]
 pub extern "C" fn stormhlaw_rewrite(
     input: &[u8],
@@ -131,13 +144,22 @@ pub extern "C" fn stormhlaw_rewrite(
     output: &mut [u8],
     answer: &mut [u64; 4],
 )
-    ensures { λ _. ⌜ ToldAgain (separatorsOf element component terminator) (separatorsOf «new_element» «new_component» «new_terminator») (now (input .entry))
+    ensures { λ _. ⌜ ToldAgain (profileIn how) (separatorsOf element component terminator) (separatorsOf «new_element» «new_component» «new_terminator») (now (input .entry))
         (tablesOf (now (segments .entry)) (now (levels .entry))) (now (output .entry))
         (tablesOf (now (segments .exit)) (now (levels .exit))) (now (output .exit)) (now (answer .exit)) ⌝ }
 {
+    let profile = profile_of(how);
     let old = separators_of(element, component, terminator);
     let new = separators_of(new_element, new_component, new_terminator);
-    *answer = four(rewriting::rewriting::rewrite(input, old, new, segments, levels, output));
+    *answer = four(rewriting::rewriting::rewrite(
+        input,
+        profile,
+        old,
+        new,
+        segments,
+        levels,
+        output,
+    ));
 }
 
 // Where a part of the segment stands, start and length: of the element with that number, 0 being the tag, the component with the number

@@ -1,4 +1,4 @@
--- The three conditions, the laws of attached bytes and of line ends, and the worked reports.
+-- The three conditions, the laws of attached bytes and of line ends, the worked reports, and replies.
 -- Assumes nothing.
 pub mod Accepting
 pub mod Finality
@@ -6,4 +6,7 @@ pub mod Conditions
 pub mod Attached
 pub mod LineEnds
 pub mod TakenOut
+pub mod Shown
 pub mod Worked
+pub mod Replies
+pub mod ReplyReports

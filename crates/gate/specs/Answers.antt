@@ -1,6 +1,8 @@
 -- The answers, as document 01 numbers them.
 -- Assumes nothing.
 use Prim.Native.Nat.{ℕ, _≤_}
+use mathlib.Core.Path.{_≡_}
+use mathlib.Core.Logic.{_⊎_}
 use mathlib.Core.List.{List, [], _∷_}
 use Rattle.gate.specs.declared.answer.Answer.{Answer}
 use Rattle.gate.specs.declared.answer.Answer.the-variants.{Accepted, Refused}
@@ -16,12 +18,12 @@ abbrev pub IsAccepted : Answer → Type 0
 IsAccepted (Accepted segments levels bytes) = Unit {0}
 IsAccepted (Refused number segment byte element) = ⊥
 
--- the answers that blame a segment for a broken rule
+-- the answers that blame a segment for a broken rule: 4 to 16, and 24
 pub record Fault (number : ℕ) : Type 0 where
   pub from : 4 ≤ number
-  pub upto : number ≤ 16
+  pub upto : (number ≤ 16) ⊎ (number ≡ 24)
 
--- the list of a reading's answers: acceptance, and refusals 1 to 17
+-- the list of a reading's answers: acceptance, and refusals 1 to 17 and 24
 abbrev pub Listed : Answer → Type 0
 Listed (Accepted segments levels bytes) = Unit {0}
-Listed (Refused number segment byte element) = (1 ≤ number) × (number ≤ 17)
+Listed (Refused number segment byte element) = (1 ≤ number) × ((number ≤ 17) ⊎ (number ≡ 24))

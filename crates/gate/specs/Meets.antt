@@ -1,5 +1,5 @@
 -- The whole of condition 2, said at once over all segments and a numbering of them, with no order of reading: the rows
--- form a word of the bracketed list, and every rule of bytes, elements, levels and closing holds.
+-- form a word of the bracketed list within the profile, and every rule of bytes, elements, levels and closing holds.
 -- Assumes nothing.
 use Prim.Native.Nat.{ℕ, _<_}
 use mathlib.Core.Path.{_≡_}
@@ -10,8 +10,8 @@ use lib.Dec.{T}
 use lib.ListN.{length, getD}
 use Rattle.text.specs.Bytes.{bytes, valueOf}
 use Rattle.text.specs.View.{View, elementOf}
-use Rattle.rows.specs.Rows.{Word, list842}
 use Rattle.rows.specs.RowList.{tagOf}
+use Rattle.rows.specs.RowSets.{WordOver}
 use Rattle.elements.specs.Checks.{Keeps}
 use Rattle.elements.specs.Rules.{byteChecks, endChecks, ruledChecks}
 use Rattle.levels.specs.Profile.{LevelProfile, codeOf, mayStandAlone, mayBeMarked, mayHang}
@@ -73,8 +73,8 @@ lastFrom u (v ∷ vs) = lastFrom v vs
 
 -- the segments, numbered by these rows, meet every rule
 pub record Meets (profile : Profile) (vs : List View) (rows : List ℕ) : Type 0 where
-  -- loop rules: the rows are a word of the bracketed list
-  pub word : Word list842 rows
+  -- loop rules: the rows are a word of the bracketed list, with rows of the profile alone
+  pub word : WordOver (profile .rows) rows
   -- the numbering: each row has its segment's tag
   pub tags : map tagOf rows ≡ map tagIn vs
   -- byte rules: every byte that is looked into is data or a separator; there is an element, and no last element or last component is empty

@@ -13,6 +13,7 @@ use Rattle.text.specs.View.{View, viewOf}
 use Rattle.text.specs.Cut.{Cut, Whole, Stop, cutOf, skipOf, Placed, Leads}
 use Rattle.rows.specs.Rows.{Viable, list842}
 use Rattle.rows.specs.RowList.{tagOf}
+use Rattle.rows.specs.RowSets.{Within}
 use Rattle.gate.specs.Profile.{Profile, profileOf}
 use Rattle.gate.specs.Segments.{tagIn, isSE, seen, onto, levelsIn}
 use Rattle.gate.specs.Answers.{numbersOf}
@@ -38,6 +39,7 @@ skipBy how s = skipOf (how .lines) (how .separators) s
 pub record Passed (profile : Profile) (how : How) (t : Tables) (s : Bytes) (gs : List Placed) (rows : List ℕ) (end : ℕ) (rest : Bytes) : Type 0 where
   pub leads : Leads (cutBy how) (skipBy how) 0 s gs end rest
   pub viable : Viable list842 rows
+  pub admitted : Within (profile .rows) rows
   pub tags : map tagOf rows ≡ map tagIn (seen how gs)
   pub kept : From (Kept profile) [] (seen how gs)
   pub ongoing : From (λ h v. T (not (isSE v))) [] (seen how gs)
@@ -59,7 +61,7 @@ module _ (profile : Profile) (how : How) (t : Tables) (gs : List Placed) (rows :
     pub more : Bytes
     pub stops : cutBy how rest ≡ Stop number element upto more
 
-  -- 4 to 16: the next segment breaks a rule, and this is the first
+  -- 4 to 16 and 24: the next segment breaks a rule, and this is the first
   pub record Breaks (number element : ℕ) : Type 0 where
     pub segment : Bytes
     pub more : Bytes

@@ -47,9 +47,16 @@ abbrev pub asRules : List Check → List Rule
 asRules [] = []
 asRules (c ∷ cs) = record { number = c .number; element = c .element; Holds = T (c .holds) } ∷ asRules cs
 
--- 7 asks that some row with this tag goes on from the rows so far
-abbrev pub rowRules : List ℕ → View → List Rule
-rowRules w v = record { number = 7; element = 0; Holds = (r : ℕ) × Fits w (tagIn v) r } ∷ []
+-- the profile admits the row
+abbrev pub Admitted : Profile → ℕ → Type 0
+Admitted profile row = T (profile .rows row)
+
+-- 7 asks that some row with this tag goes on from the rows so far, whatever the profile; 24, that the profile admits it
+abbrev pub rowRules : Profile → List ℕ → View → List Rule
+rowRules profile w v =
+    record { number = 7; element = 0; Holds = (r : ℕ) × Fits w (tagIn v) r }
+    ∷ record { number = 24; element = 0; Holds = (r : ℕ) × Fits w (tagIn v) r × Admitted profile r }
+    ∷ []
 
 -- 5, 4, 6 before a row is looked for
 abbrev pub early : View → List Check
@@ -61,7 +68,7 @@ late profile h v = ruledChecks (profile .elements) (tagIn v) v ++ hlChecks profi
 
 -- all rules of a segment, in order
 abbrev pub rules : Profile → List ℕ → List View → View → List Rule
-rules profile w h v = asRules (early v) ++ rowRules w v ++ asRules (late profile h v)
+rules profile w h v = asRules (early v) ++ rowRules profile w v ++ asRules (late profile h v)
 
 -- the first rule that does not hold has this number and element
 abbrev pub FirstBroken : List Rule → ℕ → ℕ → Type 0
@@ -81,6 +88,7 @@ pub record Kept (profile : Profile) (h : List View) (v : View) : Type 0 where
 pub record Sound (profile : Profile) (w : List ℕ) (h : List View) (v : View) (row : ℕ) : Type 0 where
   pub kept : Kept profile h v
   pub fits : Fits w (tagIn v) row
+  pub admitted : Admitted profile row
 
 -- each of the segments keeps P after those before it
 abbrev pub From : (List View → View → Type 0) → List View → List View → Type 0

@@ -10,7 +10,9 @@ use lib.ListN.{length}
 use Rattle.text.specs.Bytes.{any}
 use Rattle.text.proofs.Bools.{first-of, second-of}
 use Rattle.elements.specs.Checks.{Keeps}
-use Rattle.levels.specs.Profile.{LevelProfile, nonconformance, codeOf, mayHang}
+use Rattle.levels.specs.Profile.{LevelProfile, levelProfile, codeOf, mayHang}
+use Rattle.rows.specs.declared.profile.ProfileName.{ProfileName}
+use Rattle.rows.specs.declared.profile.ProfileName.the-variants.{Report, Reply}
 use Rattle.levels.specs.Levels.{Claim, Level, called, levelAt, levelOf, levelsOf}
 use Rattle.levels.specs.Rules.{levelChecks}
 use Rattle.levels.specs.internal.Everyone.{Everyone}
@@ -67,54 +69,63 @@ among-raising parent child (p ∷ ps) r t = by-value (eqb (p .0) parent && eqb (
         rw (← same-parent, ← same-child) (r .0)
     by-value false e u later = later u
 
--- a permitted pair raises the rank
-pair-raises : (parent child : ℕ) → T (mayHang nonconformance parent child) → rank parent < rank child
-unfolding mayHang
-pair-raises parent child t = among-raising parent child (nonconformance .pairs) (lit< tt, (lit< tt, (lit< tt, (lit< tt, (lit< tt, (lit< tt, tt)))))) t
+-- so does every permitted pair of either profile
+pairs-raise : (name : ProfileName) → Raising (levelProfile name .pairs)
+pairs-raise Report = (lit< tt, (lit< tt, (lit< tt, (lit< tt, (lit< tt, (lit< tt, tt))))))
+pairs-raise Reply = tt
 
 -- a level lies no deeper than its code's rank
 abbrev Shallow : Level → Type 0
 Shallow l = l .depth ≤ rank (l .code)
 
--- a level that keeps its tests is so, where those before it are
-new-shallow : (segment : ℕ) (c : Claim) (ls : List Level) → Keeps (levelChecks nonconformance ls c) → Everyone Shallow ls
-    → Shallow (levelOf nonconformance segment c ls)
-new-shallow segment c ls k a =
-    let p = keeps-passes nonconformance ls c k in
-    by-value (eqb (length (c .parent)) 0) (p .known) (p .pair)
-  where
-    own : ℕ
-    own = codeOf nonconformance (c .code)
+module _ (name : ProfileName) where
+  abbrev profile : LevelProfile
+  profile = levelProfile name
 
-    by-value : (absent : Bool) → 1 ≤ own
-        → ((T absent → ⊥) → T (mayHang nonconformance (levelAt (cond absent 0 (called (c .parent) ls)) ls .code) own))
-        → suc (levelAt (cond absent 0 (called (c .parent) ls)) ls .depth) ≤ rank own
-    by-value true known pair = rw (level-nobody ls) (rank-of-code own known)
-    by-value false known pair =
-        omega (
-          arith,
-          level-everyone Shallow (omega arith) (called (c .parent) ls) ls a,
-          pair-raises (levelAt (called (c .parent) ls) ls .code) own (pair (λ t. t)),
-        )
+  -- a permitted pair raises the rank
+  pair-raises : (parent child : ℕ) → T (mayHang profile parent child) → rank parent < rank child
+  unfolding mayHang
+  pair-raises parent child t = among-raising parent child (profile .pairs) (pairs-raise name) t
 
--- so are all levels that keep their tests
-all-shallow : (hs : List (ℕ × Claim)) → AllKept nonconformance hs → Everyone Shallow (levelsOf nonconformance hs)
-all-shallow [] e = tt
-all-shallow (h ∷ hs) e =
-    let below = all-shallow hs (e .1) in
-    (new-shallow (h .0) (h .1) (levelsOf nonconformance hs) (e .0) below, below)
+  -- a level that keeps its tests is so, where those before it are
+  new-shallow : (segment : ℕ) (c : Claim) (ls : List Level) → Keeps (levelChecks profile ls c) → Everyone Shallow ls
+      → Shallow (levelOf profile segment c ls)
+  new-shallow segment c ls k a =
+      let p = keeps-passes profile ls c k in
+      by-value (eqb (length (c .parent)) 0) (p .known) (p .pair)
+    where
+      own : ℕ
+      own = codeOf profile (c .code)
+
+      by-value : (absent : Bool) → 1 ≤ own
+          → ((T absent → ⊥) → T (mayHang profile (levelAt (cond absent 0 (called (c .parent) ls)) ls .code) own))
+          → suc (levelAt (cond absent 0 (called (c .parent) ls)) ls .depth) ≤ rank own
+      by-value true known pair = rw (level-nobody ls) (rank-of-code own known)
+      by-value false known pair =
+          omega (
+            arith,
+            level-everyone Shallow (omega arith) (called (c .parent) ls) ls a,
+            pair-raises (levelAt (called (c .parent) ls) ls .code) own (pair (λ t. t)),
+          )
+
+  -- so are all levels that keep their tests
+  all-shallow : (hs : List (ℕ × Claim)) → AllKept profile hs → Everyone Shallow (levelsOf profile hs)
+  all-shallow [] e = tt
+  all-shallow (h ∷ hs) e =
+      let below = all-shallow hs (e .1) in
+      (new-shallow (h .0) (h .1) (levelsOf profile hs) (e .0) below, below)
+
+  -- no level has the depth 0
+  all-deep : (hs : List (ℕ × Claim)) → Everyone (λ l. 1 ≤ l .depth) (levelsOf profile hs)
+  all-deep [] = tt
+  all-deep (h ∷ hs) = (omega arith, all-deep hs)
 
 -- every level has a depth of 1 to 4
 abbrev pub Within4 : Level → Type 0
 Within4 l = (1 ≤ l .depth) × (l .depth ≤ 4)
 
--- no level has the depth 0
-all-deep : (hs : List (ℕ × Claim)) → Everyone (λ l. 1 ≤ l .depth) (levelsOf nonconformance hs)
-all-deep [] = tt
-all-deep (h ∷ hs) = (omega arith, all-deep hs)
-
 -- where every HL keeps its tests
-pub depth-at-most-4 : (hs : List (ℕ × Claim)) → AllKept nonconformance hs → Everyone Within4 (levelsOf nonconformance hs)
-depth-at-most-4 hs e =
-    everyone-so (λ l. 1 ≤ l .depth) Shallow Within4 (λ l d h. (d, omega (arith, rank-at-most-4 (l .code)))) (levelsOf nonconformance hs) (all-deep hs)
-    (all-shallow hs e)
+pub depth-at-most-4 : (name : ProfileName) (hs : List (ℕ × Claim)) → AllKept (levelProfile name) hs → Everyone Within4 (levelsOf (levelProfile name) hs)
+depth-at-most-4 name hs e =
+    everyone-so (λ l. 1 ≤ l .depth) Shallow Within4 (λ l d h. (d, omega (arith, rank-at-most-4 (l .code)))) (levelsOf (levelProfile name) hs)
+    (all-deep name hs) (all-shallow name hs e)

@@ -10,7 +10,7 @@ use lib.ListN.{length, getD}
 use borrow.Author.Tests.{eq-eqb, ne-eqb}
 use Rattle.text.specs.Bytes.{Bytes, bytes, same}
 use Rattle.text.proofs.Bools.{and-true, and-false}
-use Rattle.levels.specs.Profile.{nonconformance, mayBeMarked}
+use Rattle.levels.specs.Profile.{LevelProfile, mayBeMarked}
 use Rattle.levels.specs.Rules.{markFits}
 
 -- a mark of one byte, and a mark of none or more
@@ -25,14 +25,14 @@ mark-other (a ∷ []) byte h = absurd (h refl)
 mark-other (a ∷ (b ∷ mark)) byte h = sym (and-false (eqb a byte))
 
 -- no mark fits; `0` fits; `1` fits where the code may be marked; no other does
-module _ (code : ℕ) (mark : Bytes) where
-  pub fits-absent : length mark ≡ 0 → true ≡ markFits nonconformance code mark
+module _ (profile : LevelProfile) (code : ℕ) (mark : Bytes) where
+  pub fits-absent : length mark ≡ 0 → true ≡ markFits profile code mark
   fits-absent e = rw (eq-eqb (length mark) 0 e)
 
   module _ (some : length mark ≡ 0 → ⊥) where
-    pub fits-zero : true ≡ same mark (bytes "0") → true ≡ markFits nonconformance code mark
+    pub fits-zero : true ≡ same mark (bytes "0") → true ≡ markFits profile code mark
     fits-zero e = rw (ne-eqb (length mark) 0 some, ← e)
 
-    pub fits-one : (one may : Bool) → false ≡ same mark (bytes "0") → one ≡ same mark (bytes "1") → may ≡ mayBeMarked nonconformance code
-        → one && may ≡ markFits nonconformance code mark
+    pub fits-one : (one may : Bool) → false ≡ same mark (bytes "0") → one ≡ same mark (bytes "1") → may ≡ mayBeMarked profile code
+        → one && may ≡ markFits profile code mark
     fits-one one may e f g = rw (ne-eqb (length mark) 0 some, ← e, f, g)

@@ -2,9 +2,10 @@
 use crate::codes;
 use crate::marks;
 use elements::verdict::Verdict;
+use rows::profile::ProfileName;
 ghost use mathlib.Core.Path.{_≡_};
 ghost use Rattle.elements.specs.Checks.{firstBroken};
-ghost use Rattle.levels.specs.Profile.{nonconformance};
+ghost use Rattle.levels.specs.Profile.{levelProfile};
 ghost use Rattle.levels.specs.Rules.{rootChecks, childChecks};
 ghost use Rattle.levels.specs.internal.Answers.{judgedBy, levelWith, judgedRoot, judgedChild};
 
@@ -25,32 +26,38 @@ pub struct Parent {
 }
 
 // Answers 14 and 15 of a level without a parent.
-fn root_verdict(code: usize, mark: &[u8]) -> Verdict
-    ensures { λ r. ⌜ r ≡ firstBroken (rootChecks nonconformance code (now (mark .entry))) ⌝ }
+fn root_verdict(profile: ProfileName, code: usize, mark: &[u8]) -> Verdict
+    ensures { λ r. ⌜ r ≡ firstBroken (rootChecks (levelProfile profile) code (now (mark .entry))) ⌝ }
 {
-    if !(codes::is_known(code) & codes::may_stand_alone(code)) {
+    if !(codes::is_known(code) & codes::may_stand_alone(profile, code)) {
         return Verdict::Broken(14, 3);
     }
-    if !marks::mark_fits(mark, code) {
+    if !marks::mark_fits(profile, mark, code) {
         return Verdict::Broken(15, 4);
     }
     Verdict::Holds
 }
 
 // Answers 14 and 15 of a level under a parent of that code, which is marked 0 or is not.
-fn child_verdict(parent: usize, shut: bool, code: usize, mark: &[u8]) -> Verdict
-    ensures { λ r. ⌜ r ≡ firstBroken (childChecks nonconformance parent shut code (now (mark .entry))) ⌝ }
+fn child_verdict(
+    profile: ProfileName,
+    parent: usize,
+    shut: bool,
+    code: usize,
+    mark: &[u8],
+) -> Verdict
+    ensures { λ r. ⌜ r ≡ firstBroken (childChecks (levelProfile profile) parent shut code (now (mark .entry))) ⌝ }
 {
     if !codes::is_known(code) {
         return Verdict::Broken(14, 3);
     }
-    if !codes::may_hang(parent, code) {
+    if !codes::may_hang(profile, parent, code) {
         return Verdict::Broken(14, 2);
     }
     if shut {
         return Verdict::Broken(15, 2);
     }
-    if !marks::mark_fits(mark, code) {
+    if !marks::mark_fits(profile, mark, code) {
         return Verdict::Broken(15, 4);
     }
     Verdict::Holds
@@ -67,18 +74,18 @@ fn answer(verdict: Verdict, parent: usize, depth: usize, code: usize) -> Judged
 }
 
 // The answer for an HL that names no parent, by its code and mark.
-pub fn judge_root(code: &[u8], mark: &[u8]) -> Judged
-    ensures { λ r. ⌜ r ≡ judgedRoot nonconformance (now (code .entry)) (now (mark .entry)) ⌝ }
+pub fn judge_root(profile: ProfileName, code: &[u8], mark: &[u8]) -> Judged
+    ensures { λ r. ⌜ r ≡ judgedRoot (levelProfile profile) (now (code .entry)) (now (mark .entry)) ⌝ }
 {
-    let own = codes::code_number(code);
-    answer(root_verdict(own, mark), 0, 1, own)
+    let own = codes::code_number(profile, code);
+    answer(root_verdict(profile, own, mark), 0, 1, own)
 }
 
 // The answer for an HL under this parent, by its code and mark.
-pub fn judge_child(parent: Parent, code: &[u8], mark: &[u8]) -> Judged
-    ensures { λ r. ⌜ r ≡ judgedChild nonconformance parent (now (code .entry)) (now (mark .entry)) ⌝ }
+pub fn judge_child(profile: ProfileName, parent: Parent, code: &[u8], mark: &[u8]) -> Judged
+    ensures { λ r. ⌜ r ≡ judgedChild (levelProfile profile) parent (now (code .entry)) (now (mark .entry)) ⌝ }
 {
-    let own = codes::code_number(code);
-    let verdict = child_verdict(parent.code, parent.shut, own, mark);
+    let own = codes::code_number(profile, code);
+    let verdict = child_verdict(profile, parent.code, parent.shut, own, mark);
     answer(verdict, parent.number, parent.below, own)
 }

@@ -21,6 +21,7 @@ use levels::judging::Judged;
 use levels::widths::SEGMENT_WIDTH;
 use numbering::next;
 use rows::list::ENTRIES;
+use rows::profile;
 use rows::tags;
 use ruling::ruled;
 use text::compare;
@@ -162,9 +163,11 @@ fn judge_late(
     if tag == tags::HL {
         let known = state.known;
         let after = known.after(layout::element(s, starts, layout, 1));
+        let chosen = how.profile;
         let judged = placing::judge_level(
             s,
             how.separators.element,
+            chosen,
             starts,
             layout,
             known,
@@ -203,7 +206,11 @@ fn judge_known(
     if row == 0 {
         return Judgement::Broken(7, 0);
     }
-    match ruled::ruled_verdict(s, starts, layout, how.separators.component, tag) {
+    let chosen = how.profile;
+    if !profile::admits(chosen, row) {
+        return Judgement::Broken(24, 0);
+    }
+    match ruled::ruled_verdict(s, starts, layout, how.separators.component, chosen, tag) {
         Verdict::Broken(number, element) => Judgement::Broken(number, element),
         Verdict::Holds => judge_late(s, how, starts, layout, state, segments, levels, tag, row),
     }

@@ -8,7 +8,7 @@ ghost use Rattle.rows.specs.NextTable.{NextTable};
 ghost use Rattle.elements.specs.Checks.{firstBroken};
 ghost use Rattle.elements.specs.Rules.{dataChecks};
 ghost use Rattle.reading.specs.internal.SpecialBytes.{SpecialTable};
-ghost use Rattle.gate.specs.Profile.{nonconformance};
+ghost use Rattle.gate.specs.Profile.{profileOf};
 ghost use Rattle.gate.specs.declared.answer.Answer.the-variants.{Refused};
 ghost use Rattle.gate.specs.Reads.{limit, Read, Reads};
 ghost use Rattle.reading.specs.internal.Cutting.{cutOut};
@@ -70,7 +70,7 @@ fn read_on(
     requires { ⌜ length (now s) ≤ limit ⌝ }
     requires { ⌜ SpecialTable (how .separators) (now specials) ⌝ }
     requires { ⌜ NextTable (now table) ⌝ }
-    ensures { λ r. ⌜ Read nonconformance how (now (s .entry)) (record { segments = now (segments .entry); levels = now (levels .entry) }) r
+    ensures { λ r. ⌜ Read (profileOf how) how (now (s .entry)) (record { segments = now (segments .entry); levels = now (levels .entry) }) r
         (record { segments = now (segments .exit); levels = now (levels .exit) }) ⌝ }
 {
     let mut queue: [usize; 72] = [0; 72];

@@ -4,6 +4,7 @@ use Prim.Native.Nat.{ℕ}
 use lib.ListN.{take}
 use Rattle.text.specs.Bytes.{Bytes}
 use Rattle.text.specs.declared.separators.Separators.{Separators}
+use Rattle.rows.specs.declared.profile.ProfileName.{ProfileName}
 use Rattle.gate.specs.Records.{Tables}
 use Rattle.gate.specs.declared.answer.Answer.the-variants.{Accepted}
 use Rattle.rewriting.specs.Rewrites.{Rewrites}
@@ -21,18 +22,18 @@ condition-1-rewriting = record { answered = rewriting-answered; listed = rewriti
 -- Condition 2
 pub condition-2-rewriting : Condition2Rewriting
 condition-2-rewriting = record {
-  same-elements = λ old new s before output a l b tables after x.
-      same-report old new s before output a l b tables after (succeeded old new s before output a l b tables after x);
-  reads-back = λ old new s before output a l b tables after x.
-      reads-back old new s before output a l b tables after (succeeded old new s before output a l b tables after x);
-  writes-exactly = λ old new s before output a l b tables after x.
-      writes-used old new s before output a l b tables after (succeeded old new s before output a l b tables after x);
-  same-bytes = λ old s before output a l b tables after x.
-      same-again old s before output a l b tables after (succeeded old old s before output a l b tables after x);
+  same-elements = λ profile old new s before output a l b tables after x.
+      same-report profile old new s before output a l b tables after (succeeded profile old new s before output a l b tables after x);
+  reads-back = λ profile old new s before output a l b tables after x.
+      reads-back profile old new s before output a l b tables after (succeeded profile old new s before output a l b tables after x);
+  writes-exactly = λ profile old new s before output a l b tables after x.
+      writes-used profile old new s before output a l b tables after (succeeded profile old new s before output a l b tables after x);
+  same-bytes = λ profile old s before output a l b tables after x.
+      same-again profile old s before output a l b tables after (succeeded profile old old s before output a l b tables after x);
 }
 
 -- Document 02, Item 8: a rewriting that succeeds gives bytes in which a lookup finds the same
-pub looked-up-alike : (old new : Separators) (s : Bytes) (before : Tables) (output : Bytes) (segments levels bytes : ℕ) (tables : Tables) (after : Bytes)
-    → Rewrites old new s before output (Accepted segments levels bytes) tables after → LookedUpAlike old s new (take bytes after)
-looked-up-alike old new s before output a l b tables after x =
-    looked-up old new s before output a l b tables after (succeeded old new s before output a l b tables after x)
+pub looked-up-alike : (profile : ProfileName) (old new : Separators) (s : Bytes) (before : Tables) (output : Bytes) (segments levels bytes : ℕ) (tables : Tables) (after : Bytes)
+    → Rewrites profile old new s before output (Accepted segments levels bytes) tables after → LookedUpAlike profile old s new (take bytes after)
+looked-up-alike profile old new s before output a l b tables after x =
+    looked-up profile old new s before output a l b tables after (succeeded profile old new s before output a l b tables after x)

@@ -13,7 +13,7 @@ use Rattle.text.specs.Separators.{isSeparator, Fitted}
 use Rattle.text.specs.Bin.{isBin}
 use Rattle.text.specs.Pieces.{closed}
 use Rattle.text.specs.View.{plainView, viewOf, empty, elementOf, inspected}
-use Rattle.text.specs.Cut.{Placed, Leads, Whole, cutOf}
+use Rattle.text.specs.Cut.{Placed, Whole, cutOf}
 use Rattle.text.specs.declared.separators.Separators.{Separators}
 use Rattle.text.proofs.Bools.{first-of, second-of, and-assoc, and-true, passes}
 use Rattle.text.proofs.Everys.{every-at, every-both}
@@ -24,11 +24,10 @@ use Rattle.elements.specs.Checks.{firstBroken}
 use Rattle.elements.specs.declared.verdict.Verdict.{Verdict}
 use Rattle.elements.specs.declared.verdict.Verdict.the-variants.{Holds, Broken}
 use Rattle.elements.proofs.FirstBroken.{each-holds}
-use Rattle.gate.specs.Reads.{cutBy, skipBy}
 use Rattle.gate.specs.Conditions.{usedBy}
-use Rattle.rewriting.specs.Rewrites.{strictly, apartFrom, apartChecks, collisionChecks, collision}
+use Rattle.rewriting.specs.Rewrites.{apartFrom, apartChecks, collisionChecks, collision}
 use Rattle.rewriting.specs.declared.collisions.Clash.the-variants.{Nowhere}
-use Rattle.rewriting.specs.internal.CutOff.{CutOff, AsCut}
+use Rattle.rewriting.specs.internal.CutOff.{LedStrictly, CutOff, AsCut}
 use Rattle.rewriting.specs.internal.QuickTest.{harmlessByte}
 use Rattle.rewriting.specs.internal.Output.{stretch}
 use Rattle.rewriting.proofs.Stretches.{stretch-next, stretch-none}
@@ -104,7 +103,7 @@ module _ (old new : Separators) where
             ∙ harmless-plain segment h (plain-unseparated old segment (p .free))
 
     -- and so it is of all segments that were read
-    pub harmless-nowhere : (n at : ℕ) (s : Bytes) (gs : List Placed) (end : ℕ) (rest : Bytes) → Leads (cutBy (strictly old)) (skipBy (strictly old)) at s gs end rest
+    pub harmless-nowhere : (n at : ℕ) (s : Bytes) (gs : List Placed) (end : ℕ) (rest : Bytes) → LedStrictly old at s gs end rest
         → T (every (harmlessByte old new) (closed (old .terminator) (texts gs))) → collision old new n gs ≡ Nowhere
     harmless-nowhere n at s [] end rest l h = refl
     harmless-nowhere n at s (g ∷ gs) end rest l h =
@@ -116,7 +115,7 @@ module _ (old new : Separators) where
         harmless-holds s (g .segment) (l .0) (l .1) (first-of (every f (g .segment)) (every f (t ∷ behind)) halves) in
         let later = second-of (f t) (every f behind) (second-of (every f (g .segment)) (every f (t ∷ behind)) halves) in
         rw here
-        (harmless-nowhere (suc n) (at + length (g .segment) + 1 + skipBy (strictly old) (l .0)) (l .0) gs end rest (l .3) later)
+        (harmless-nowhere (suc n) (at + length (g .segment) + 1 + 0) (l .0) gs end rest (l .3) later)
 
 -- what the quick test tells of the bytes that segments use
 pub harmless-used : (old new : Separators) (s : Bytes) (gs : List Placed) → CutOff old s gs → Fitted new → (bytes : ℕ) → bytes ≡ usedBy gs

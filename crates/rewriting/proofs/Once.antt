@@ -11,7 +11,8 @@ use Rattle.text.specs.Bytes.{Bytes}
 use Rattle.text.specs.Separators.{fitSeparators}
 use Rattle.text.specs.Cut.{Placed}
 use Rattle.text.specs.declared.separators.Separators.{Separators}
-use Rattle.gate.specs.Profile.{nonconformance}
+use Rattle.rows.specs.declared.profile.ProfileName.{ProfileName}
+use Rattle.gate.specs.Profile.{profileNamed}
 use Rattle.gate.specs.Records.{Tables}
 use Rattle.gate.specs.declared.answer.Answer.{Answer}
 use Rattle.gate.specs.declared.answer.Answer.the-variants.{Accepted, Refused}
@@ -30,12 +31,12 @@ outcome-once (At k b e) room accepted new output r r′ after after′ x y =
 outcome-once Nowhere false accepted new output r r′ after after′ x y = (refusal-once r r′ 19 0 0 0 (omega arith) (x .0) (y .0), x .1 ∙ sym (y .1))
 outcome-once Nowhere true accepted new output r r′ after after′ x y = (x .0 ∙ sym (y .0), x .1 ∙ sym (y .1))
 
-module _ (old new : Separators) (s : Bytes) (before : Tables) (output : Bytes) where
+module _ (profile : ProfileName) (old new : Separators) (s : Bytes) (before : Tables) (output : Bytes) where
   -- an accepted reading has one numbering, and the rest follows from its segments
-  reading-once : (answer : Answer) (r r′ : Answer) (after after′ : Bytes) → AfterReading old new s answer output r after
-      → AfterReading old new s answer output r′ after′ → (r ≡ r′) × (after ≡ after′)
+  reading-once : (answer : Answer) (r r′ : Answer) (after after′ : Bytes) → AfterReading profile old new s answer output r after
+      → AfterReading profile old new s answer output r′ after′ → (r ≡ r′) × (after ≡ after′)
   reading-once (Accepted a l b) r r′ after after′ x y =
-      let gs = numbering-once (strictly old) s (x .gs) (y .gs) (x .rows) (y .rows) (x .numbering) (y .numbering) .0 in
+      let gs = numbering-once (strictly profile old) s (x .gs) (y .gs) (x .rows) (y .rows) (x .numbering) (y .numbering) .0 in
       outcome-once (collision old new 1 (y .gs)) (leb b (length output)) (Accepted a l b) (rewritten old new (y .gs)) output r r′ after after′
       (subst (λ (gs : List Placed). OutcomeOf old new gs (Accepted a l b) b output r after) gs
       (x .outcome))
@@ -43,25 +44,25 @@ module _ (old new : Separators) (s : Bytes) (before : Tables) (output : Bytes) w
   reading-once (Refused n k b e) r r′ after after′ x y = (x .0 ∙ sym (y .0), x .1 ∙ sym (y .1))
 
   -- the answer, the tables and the output of a rewriting are one
-  pub rewrites-once : (r r′ : Answer) (tables tables′ : Tables) (after after′ : Bytes) → Rewrites old new s before output r tables after
-      → Rewrites old new s before output r′ tables′ after′ → (r ≡ r′) × (tables ≡ tables′) × (after ≡ after′)
+  pub rewrites-once : (r r′ : Answer) (tables tables′ : Tables) (after after′ : Bytes) → Rewrites profile old new s before output r tables after
+      → Rewrites profile old new s before output r′ tables′ after′ → (r ≡ r′) × (tables ≡ tables′) × (after ≡ after′)
   unfolding Rewrites
   rewrites-once r r′ tables tables′ after after′ x y = fit (fitSeparators old) (fitSeparators new) x y
     where
       unfit : (e : ℕ) → Unfit e before output r tables after → Unfit e before output r′ tables′ after′ → (r ≡ r′) × (tables ≡ tables′) × (after ≡ after′)
       unfit e x y = (refusal-once r r′ 1 0 0 e (omega arith) (x .answer) (y .answer), x .tables-kept ∙ sym (y .tables-kept), x .output-kept ∙ sym (y .output-kept))
 
-      read : Rewriting old new s before output r tables after → Rewriting old new s before output r′ tables′ after′
+      read : Rewriting profile old new s before output r tables after → Rewriting profile old new s before output r′ tables′ after′
           → (r ≡ r′) × (tables ≡ tables′) × (after ≡ after′)
       read x y =
-          let first = reads-once nonconformance (strictly old) s before (x .answer) (y .answer) tables tables′ (x .reads) (y .reads) in
+          let first = reads-once (profileNamed profile) (strictly profile old) s before (x .answer) (y .answer) tables tables′ (x .reads) (y .reads) in
           let then =
-          reading-once (y .answer) r r′ after after′ (subst (λ (a : Answer). AfterReading old new s a output r after) (first .0) (x .follows))
+          reading-once (y .answer) r r′ after after′ (subst (λ (a : Answer). AfterReading profile old new s a output r after) (first .0) (x .follows))
           (y .follows) in
           (then .0, first .1, then .1)
 
-      fit : (old-fit new-fit : Bool) → RewritesFit old-fit new-fit old new s before output r tables after
-          → RewritesFit old-fit new-fit old new s before output r′ tables′ after′ → (r ≡ r′) × (tables ≡ tables′) × (after ≡ after′)
+      fit : (old-fit new-fit : Bool) → RewritesFit old-fit new-fit profile old new s before output r tables after
+          → RewritesFit old-fit new-fit profile old new s before output r′ tables′ after′ → (r ≡ r′) × (tables ≡ tables′) × (after ≡ after′)
       fit false new-fit x y = unfit 0 x y
       fit true false x y = unfit 1 x y
       fit true true x y = read x y

@@ -10,6 +10,7 @@ use borrow.Author.Tests.{le-leb, lt-leb}
 use Rattle.text.specs.Bytes.{Bytes}
 use Rattle.text.specs.Separators.{fitSeparators}
 use Rattle.text.specs.declared.separators.Separators.{Separators}
+use Rattle.rows.specs.declared.profile.ProfileName.{ProfileName}
 use Rattle.gate.specs.Records.{Tables}
 use Rattle.gate.specs.Reads.{Reads}
 use Rattle.gate.specs.declared.answer.Answer.{Answer}
@@ -47,27 +48,27 @@ module _ (old new : Separators) (s : Bytes) (table : List ℕ) (count levels byt
       rw (← e, le-leb bytes (length output) l) (refl, w ∙ ap (λ (k : ℕ). again ++ drop k output) same)
 
 -- the two sets are tested, and the transaction is read
-module _ (old new : Separators) (s : Bytes) (before : Tables) (output : Bytes) where
-  pub old-unfit : fitSeparators old ≡ false → Rewrites old new s before output (Refused 1 0 0 0) before output
+module _ (profile : ProfileName) (old new : Separators) (s : Bytes) (before : Tables) (output : Bytes) where
+  pub old-unfit : fitSeparators old ≡ false → Rewrites profile old new s before output (Refused 1 0 0 0) before output
   unfolding Rewrites
   old-unfit e = rw e (record { answer = refl; tables-kept = refl; output-kept = refl })
 
   module _ (old-fits : fitSeparators old ≡ true) where
-    pub new-unfit : fitSeparators new ≡ false → Rewrites old new s before output (Refused 1 0 0 1) before output
+    pub new-unfit : fitSeparators new ≡ false → Rewrites profile old new s before output (Refused 1 0 0 1) before output
     unfolding Rewrites
     new-unfit e = rw (old-fits, e) (record { answer = refl; tables-kept = refl; output-kept = refl })
 
     module _ (new-fits : fitSeparators new ≡ true) (tables : Tables) where
-      pub reading-refused : (number segment byte element : ℕ) → Reads (strictly old) s before (Refused number segment byte element) tables
-          → Rewrites old new s before output (Refused number segment byte element) tables output
+      pub reading-refused : (number segment byte element : ℕ) → Reads (strictly profile old) s before (Refused number segment byte element) tables
+          → Rewrites profile old new s before output (Refused number segment byte element) tables output
       unfolding Rewrites
       reading-refused number segment byte element x =
           rw (old-fits, new-fits) (record { answer = Refused number segment byte element; reads = x; follows = (refl, refl) })
 
-      pub reading-accepted : (a l b : ℕ) → Reads (strictly old) s before (Accepted a l b) tables → (r : Answer) (after : Bytes)
+      pub reading-accepted : (a l b : ℕ) → Reads (strictly profile old) s before (Accepted a l b) tables → (r : Answer) (after : Bytes)
           → OutcomeOf old new (segmentsFrom s (tables .segments) 0 a) (Accepted a l b) b output r after
-          → Rewrites old new s before output r tables after
+          → Rewrites profile old new s before output r tables after
       unfolding Rewrites
       reading-accepted a l b x r after y =
           rw (old-fits, new-fits)
-          (record { answer = Accepted a l b; reads = x; follows = accepting old s before a l b tables x new output r after y })
+          (record { answer = Accepted a l b; reads = x; follows = accepting profile old s before a l b tables x new output r after y })

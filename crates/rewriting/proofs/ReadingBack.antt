@@ -9,19 +9,21 @@ use lib.ListN.{length, take, drop, length-map, length-append}
 use lib.Seq.{take-at, drop-at}
 use Rattle.text.specs.Bytes.{Bytes}
 use Rattle.text.specs.Pieces.{closed}
-use Rattle.text.specs.Cut.{Placed, Leads}
+use Rattle.text.specs.Cut.{Placed}
 use Rattle.text.specs.declared.separators.Separators.{Separators}
 use Rattle.text.proofs.View.{fitted}
 use Rattle.text.proofs.BinView.{written-view}
 use Rattle.text.specs.Separators.{Fitted}
-use Rattle.gate.specs.Profile.{nonconformance}
+use Rattle.rows.specs.declared.profile.ProfileName.{ProfileName}
+use Rattle.gate.specs.Profile.{profileNamed}
 use Rattle.gate.specs.Segments.{seen, onto, levelsIn}
 use Rattle.gate.specs.Records.{Tables, recorded}
-use Rattle.gate.specs.Reads.{limit, cutBy, skipBy, Reads}
+use Rattle.gate.specs.Reads.{limit, Reads}
 use Rattle.gate.specs.Conditions.{Numbering, usedBy, Shows, HasRoom}
 use Rattle.gate.specs.declared.answer.Answer.the-variants.{Accepted}
 use Rattle.gate.proofs.conditions.Conditions.{accepted-numbered, accepted-proper, meets-accepted, numbering-once}
 use Rattle.rewriting.specs.Rewrites.{strictly, rewritten}
+use Rattle.rewriting.specs.internal.CutOff.{LedStrictly}
 use Rattle.rewriting.specs.Conditions.{SameReport, ReadsTo, WritesExactly}
 use Rattle.rewriting.specs.Lookups.{LookedUpAlike}
 use Rattle.rewriting.proofs.SegmentBytes.{texts, spelt, used-length, used-taken}
@@ -29,15 +31,15 @@ use Rattle.rewriting.proofs.WrittenSegments.{rewritten-length, again, A
 use Rattle.rewriting.proofs.AcceptedTable.{bytesOf}
 use Rattle.rewriting.proofs.SuccessFacts.{Success}
 
-module _ (old new : Separators) (s : Bytes) (before : Tables) (output : Bytes) (a l b : ℕ) (tables : Tables) (after : Bytes)
-    (x : Success old new s before output a l b tables after) where
+module _ (profile : ProfileName) (old new : Separators) (s : Bytes) (before : Tables) (output : Bytes) (a l b : ℕ) (tables : Tables) (after : Bytes)
+    (x : Success profile old new s before output a l b tables after) where
   abbrev old-fitted : Fitted old
   old-fitted = fitted old (x .old-fit)
 
   abbrev new-fitted : Fitted new
   new-fitted = fitted new (x .new-fit)
 
-  abbrev n : Numbering (strictly old) s (x .gs) (x .rows)
+  abbrev n : Numbering (strictly profile old) s (x .gs) (x .rows)
   n = x .numbering
 
   -- the segments as they stand in the output, and its bytes
@@ -52,15 +54,15 @@ module _ (old new : Separators) (s : Bytes) (before : Tables) (output : Bytes) (
 
   -- the reading of the old bytes
   abbrev short : length s ≤ limit
-  short = accepted-proper (strictly old) s before a l b tables (x .reads) .short
+  short = accepted-proper (strictly profile old) s before a l b tables (x .reads) .short
 
-  room : HasRoom (strictly old) before (x .gs)
+  room : HasRoom (strictly profile old) before (x .gs)
   room =
-      let m = accepted-numbered (strictly old) s before a l b tables (x .reads) in
-      rw (numbering-once (strictly old) s (x .gs) (m .gs) (x .rows) (m .rows) n (m .numbering) .0) (m .room)
+      let m = accepted-numbered (strictly profile old) s before a l b tables (x .reads) in
+      rw (numbering-once (strictly profile old) s (x .gs) (m .gs) (x .rows) (m .rows) n (m .numbering) .0) (m .room)
 
-  shows : Shows (strictly old) before (x .gs) (x .rows) (Accepted a l b) tables
-  shows = meets-accepted (strictly old) s before (x .gs) (x .rows) (x .old-fit) short n room (Accepted a l b) tables (x .reads)
+  shows : Shows (strictly profile old) before (x .gs) (x .rows) (Accepted a l b) tables
+  shows = meets-accepted (strictly profile old) s before (x .gs) (x .rows) (x .old-fit) short n room (Accepted a l b) tables (x .reads)
 
   pub used : b ≡ usedBy (x .gs)
   used = ap bytesOf (shows .answer)
@@ -80,16 +82,16 @@ module _ (old new : Separators) (s : Bytes) (before : Tables) (output : Bytes) (
   }
 
   -- the same report
-  views : seen (strictly new) renewed ≡ seen (strictly old) (x .gs)
+  views : seen (strictly profile new) renewed ≡ seen (strictly profile old) (x .gs)
   views = same-views old new old-fitted new-fitted (x .gs) keep
 
-  leads-again : Leads (cutBy (strictly new)) (skipBy (strictly new)) 0 out renewed (n .end) []
+  leads-again : LedStrictly new 0 out renewed (n .end) []
   leads-again = same-places old new old-fitted new-fitted 0 s (x .gs) (n .end) (n .rest) keep (n .leads)
 
-  numbering-again : Numbering (strictly new) out renewed (x .rows)
+  numbering-again : Numbering (strictly profile new) out renewed (x .rows)
   numbering-again = record { end = n .end; rest = []; leads = leads-again; meets = rw views (n .meets) }
 
-  pub same-report : SameReport old s new (take b after)
+  pub same-report : SameReport profile old s new (take b after)
   same-report = record {
     rows = x .rows;
     old-segments = x .gs;
@@ -100,19 +102,19 @@ module _ (old new : Separators) (s : Bytes) (before : Tables) (output : Bytes) (
   }
 
   -- in which a lookup finds the same
-  pub looked-up : LookedUpAlike old s new (take b after)
+  pub looked-up : LookedUpAlike profile old s new (take b after)
   unfolding same-report
   looked-up = record { report = same-report; alike = same-lookups old new old-fitted new-fitted (x .gs) keep }
 
   -- read to the same answer and tables
-  room-again : HasRoom (strictly new) before renewed
+  room-again : HasRoom (strictly profile new) before renewed
   room-again = rw views room
 
-  answer-again : Accepted a l b ≡ Accepted (length renewed) (length (levelsIn nonconformance (onto [] (seen (strictly new) renewed)))) (usedBy renewed)
+  answer-again : Accepted a l b ≡ Accepted (length renewed) (length (levelsIn (profileNamed profile) (onto [] (seen (strictly profile new) renewed)))) (usedBy renewed)
   answer-again = shows .answer ∙ rw (views, same-used old new old-fitted new-fitted (x .gs) keep, length-map)
 
-  tables-again : recorded nonconformance (strictly new) before renewed (x .rows) ≡ tables
-  tables-again = rw (views, same-records old new old-fitted new-fitted [] (x .gs) (x .rows) keep) (sym (shows .tables))
+  tables-again : recorded (profileNamed profile) (strictly profile new) before renewed (x .rows) ≡ tables
+  tables-again = rw (views, same-records old new old-fitted new-fitted profile [] (x .gs) (x .rows) keep) (sym (shows .tables))
 
   short-again : length out ≤ limit
   short-again = omega (
@@ -124,15 +126,15 @@ module _ (old new : Separators) (s : Bytes) (before : Tables) (output : Bytes) (
     short,
   )
 
-  pub reads-back : ReadsTo (strictly new) (take b after) before (Accepted a l b) tables
+  pub reads-back : ReadsTo (strictly profile new) (take b after) before (Accepted a l b) tables
   reads-back r t y =
-      let z : Reads (strictly new) out before r t = rw taken-again at y in
-      let w = meets-accepted (strictly new) out before renewed (x .rows) (x .new-fit) short-again numbering-again room-again r t z in
+      let z : Reads (strictly profile new) out before r t = rw taken-again at y in
+      let w = meets-accepted (strictly profile new) out before renewed (x .rows) (x .new-fit) short-again numbering-again room-again r t z in
       (w .answer ∙ sym answer-again, w .tables ∙ tables-again)
 
 -- with the old separators
-module _ (old : Separators) (s : Bytes) (before : Tables) (output : Bytes) (a l b : ℕ) (tables : Tables) (after : Bytes)
-    (x : Success old old s before output a l b tables after) where
+module _ (profile : ProfileName) (old : Separators) (s : Bytes) (before : Tables) (output : Bytes) (a l b : ℕ) (tables : Tables) (after : Bytes)
+    (x : Success profile old old s before output a l b tables after) where
   written-same : (gs : List Placed) → rewritten old old gs ≡ closed (old .terminator) (texts gs)
   written-same [] = refl
   written-same (g ∷ gs) = rw (written-view old (g .segment), written-same gs)
@@ -140,7 +142,7 @@ module _ (old : Separators) (s : Bytes) (before : Tables) (output : Bytes) (a l 
   pub same-again : take b after ≡ take b s
   same-again =
       let n = x .numbering in
-      taken-again old old s before output a l b tables after x
+      taken-again profile old old s before output a l b tables after x
       ∙ written-same (x .gs)
       ∙ sym (used-taken old s (x .gs) (n .end) (n .rest) (n .leads))
-      ∙ ap (λ (k : ℕ). take k s) (sym (used old old s before output a l b tables after x))
+      ∙ ap (λ (k : ℕ). take k s) (sym (used profile old old s before output a l b tables after x))

@@ -8,17 +8,16 @@ use native.Mathlib.Numerals.{add-one}
 use lib.ListN.{length}
 use Rattle.text.specs.Bytes.{Bytes}
 use Rattle.text.specs.View.{viewOf}
-use Rattle.text.specs.Cut.{Placed, Leads, Whole, cutOf}
+use Rattle.text.specs.Cut.{Placed, Whole, cutOf}
 use Rattle.text.specs.declared.separators.Separators.{Separators}
 use Rattle.elements.specs.Checks.{firstBroken}
 use Rattle.elements.specs.declared.verdict.Verdict.{Verdict}
 use Rattle.elements.specs.declared.verdict.Verdict.the-variants.{Holds, Broken}
-use Rattle.gate.specs.Reads.{cutBy, skipBy}
 use Rattle.gate.specs.Conditions.{usedBy}
-use Rattle.rewriting.specs.Rewrites.{strictly, collisionChecks, orLater, collision}
+use Rattle.rewriting.specs.Rewrites.{collisionChecks, orLater, collision}
 use Rattle.rewriting.specs.declared.collisions.Clash.the-variants.{At, Nowhere}
 use Rattle.rewriting.specs.internal.SegmentTable.{startIn, segmentIn, placedIn, segmentsFrom, Names, NamesFrom}
-use Rattle.rewriting.specs.internal.CutOff.{CutOff}
+use Rattle.rewriting.specs.internal.CutOff.{LedStrictly, CutOff}
 use Rattle.rewriting.proofs.SegmentBytes.{ends, used-length}
 
 module _ (s : Bytes) (table : List ℕ) (count : ℕ) where
@@ -53,7 +52,7 @@ module _ (s : Bytes) (table : List ℕ) (count : ℕ) where
     pub record Ahead (k at : ℕ) (tail : Bytes) : Type 0 where
       pub names : NamesLeft k
       pub rest : Bytes
-      pub leads : Leads (cutBy (strictly old)) (skipBy (strictly old)) at tail (segmentsLeft k) (usedBy all) rest
+      pub leads : LedStrictly old at tail (segmentsLeft k) (usedBy all) rest
 
     pub ahead-start : NamesFrom s table 0 count → CutOff old s all → Ahead 0 0 s
     ahead-start n c =

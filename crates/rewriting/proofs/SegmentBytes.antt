@@ -8,13 +8,11 @@ use lib.ListN.{length, take, length-append}
 use lib.Seq.{take-at}
 use Rattle.text.specs.Bytes.{Bytes}
 use Rattle.text.specs.Pieces.{closed}
-use Rattle.text.specs.Cut.{Placed, Leads, Whole}
+use Rattle.text.specs.Cut.{Placed, Whole}
 use Rattle.text.specs.declared.separators.Separators.{Separators}
 use Rattle.text.proofs.DocumentCut.{Splits, cut-splits}
-use Rattle.gate.specs.Reads.{cutBy, skipBy}
 use Rattle.gate.specs.Conditions.{usedBy}
-use Rattle.rewriting.specs.Rewrites.{strictly}
-use Rattle.rewriting.specs.internal.CutOff.{CutOff}
+use Rattle.rewriting.specs.internal.CutOff.{LedStrictly, CutOff}
 
 -- the bytes of each segment
 abbrev pub texts : List Placed → List Bytes
@@ -25,35 +23,35 @@ module _ (old : Separators) where
   t = old .terminator
 
   -- the segments with their terminators, and the rest
-  pub spelt : (at : ℕ) (s : Bytes) (gs : List Placed) (end : ℕ) (rest : Bytes) → Leads (cutBy (strictly old)) (skipBy (strictly old)) at s gs end rest
+  pub spelt : (at : ℕ) (s : Bytes) (gs : List Placed) (end : ℕ) (rest : Bytes) → LedStrictly old at s gs end rest
       → s ≡ closed t (texts gs) ++ rest
   spelt at s [] end rest l = l .1
   spelt at s (g ∷ gs) end rest l =
       let here : Splits old s (Whole (g .segment) (l .0)) = rw (l .1) at (cut-splits old s) in
-      here ∙ rw (append-assoc, spelt (at + length (g .segment) + 1 + skipBy (strictly old) (l .0)) (l .0) gs end rest (l .3))
+      here ∙ rw (append-assoc, spelt (at + length (g .segment) + 1 + 0) (l .0) gs end rest (l .3))
 
   -- where they end
-  pub ends : (at : ℕ) (s : Bytes) (gs : List Placed) (end : ℕ) (rest : Bytes) → Leads (cutBy (strictly old)) (skipBy (strictly old)) at s gs end rest
+  pub ends : (at : ℕ) (s : Bytes) (gs : List Placed) (end : ℕ) (rest : Bytes) → LedStrictly old at s gs end rest
       → end ≡ at + length (closed t (texts gs))
   ends at s [] end rest l = omega (arith, l .0)
   ends at s (g ∷ gs) end rest l =
-      ends (at + length (g .segment) + 1 + skipBy (strictly old) (l .0)) (l .0) gs end rest (l .3)
+      ends (at + length (g .segment) + 1 + 0) (l .0) gs end rest (l .3)
       ∙ rw (length-append (g .segment) (t ∷ closed t (texts gs))) (omega arith)
 
   -- the used bytes are those of the segments
-  used-from : (at : ℕ) (s : Bytes) (g : Placed) (gs : List Placed) (end : ℕ) (rest : Bytes) → Leads (cutBy (strictly old)) (skipBy (strictly old)) at s (g ∷ gs) end rest
+  used-from : (at : ℕ) (s : Bytes) (g : Placed) (gs : List Placed) (end : ℕ) (rest : Bytes) → LedStrictly old at s (g ∷ gs) end rest
       → usedBy (g ∷ gs) ≡ at + length (closed t (texts (g ∷ gs)))
   used-from at s g [] end rest l = rw (l .2, length-append (g .segment) (t ∷ [])) (omega arith)
   used-from at s g (h ∷ gs) end rest l =
-      used-from (at + length (g .segment) + 1 + skipBy (strictly old) (l .0)) (l .0) h gs end rest (l .3)
+      used-from (at + length (g .segment) + 1 + 0) (l .0) h gs end rest (l .3)
       ∙ rw (length-append (g .segment) (t ∷ closed t (texts (h ∷ gs)))) (omega arith)
 
-  pub used-length : (s : Bytes) (gs : List Placed) (end : ℕ) (rest : Bytes) → Leads (cutBy (strictly old)) (skipBy (strictly old)) 0 s gs end rest
+  pub used-length : (s : Bytes) (gs : List Placed) (end : ℕ) (rest : Bytes) → LedStrictly old 0 s gs end rest
       → usedBy gs ≡ length (closed t (texts gs))
   used-length s [] end rest l = refl
   used-length s (g ∷ gs) end rest l = used-from 0 s g gs end rest l ∙ omega arith
 
-  pub used-taken : (s : Bytes) (gs : List Placed) (end : ℕ) (rest : Bytes) → Leads (cutBy (strictly old)) (skipBy (strictly old)) 0 s gs end rest
+  pub used-taken : (s : Bytes) (gs : List Placed) (end : ℕ) (rest : Bytes) → LedStrictly old 0 s gs end rest
       → take (usedBy gs) s ≡ closed t (texts gs)
   used-taken s gs end rest l =
       ap (take (usedBy gs)) (spelt 0 s gs end rest l) ∙ take-at (closed t (texts gs)) rest (usedBy gs) (sym (used-length s gs end rest l))

@@ -12,6 +12,7 @@ use Rattle.text.specs.Bytes.{Bytes}
 use Rattle.text.specs.Separators.{fitSeparators}
 use Rattle.text.specs.Cut.{Placed}
 use Rattle.text.specs.declared.separators.Separators.{Separators}
+use Rattle.rows.specs.declared.profile.ProfileName.{ProfileName}
 use Rattle.gate.specs.Records.{Tables}
 use Rattle.gate.specs.Reads.{Reads}
 use Rattle.gate.specs.Conditions.{Numbering}
@@ -30,13 +31,13 @@ accepted-refused p = let z : _≡_ {A = ℕ} 1 0 = ap isAccepted p in omega arit
     isAccepted (Accepted a l b) = 1
     isAccepted (Refused n k y e) = 0
 
-pub record Success (old new : Separators) (s : Bytes) (before : Tables) (output : Bytes) (a l b : ℕ) (tables : Tables) (after : Bytes) : Type 0 where
+pub record Success (profile : ProfileName) (old new : Separators) (s : Bytes) (before : Tables) (output : Bytes) (a l b : ℕ) (tables : Tables) (after : Bytes) : Type 0 where
   pub old-fit : T (fitSeparators old)
   pub new-fit : T (fitSeparators new)
-  pub reads : Reads (strictly old) s before (Accepted a l b) tables
+  pub reads : Reads (strictly profile old) s before (Accepted a l b) tables
   pub gs : List Placed
   pub rows : List ℕ
-  pub numbering : Numbering (strictly old) s gs rows
+  pub numbering : Numbering (strictly profile old) s gs rows
   pub apart : collision old new 1 gs ≡ Nowhere
   pub room : b ≤ length output
   pub output-is : after ≡ rewritten old new gs ++ drop (length (rewritten old new gs)) output
@@ -55,10 +56,10 @@ outcome-written (At k y e) room accepted new output a l b after x = absurd (omeg
 outcome-written Nowhere false accepted new output a l b after x = absurd (omega (arith, head-eq-of-cons-eq (x .0)))
 outcome-written Nowhere true accepted new output a l b after x = record { none = refl; fits = refl; same = x .0; output-is = x .1 }
 
-module _ (old new : Separators) (s : Bytes) (before : Tables) (output : Bytes) (a l b : ℕ) (tables : Tables) (after : Bytes) where
+module _ (profile : ProfileName) (old new : Separators) (s : Bytes) (before : Tables) (output : Bytes) (a l b : ℕ) (tables : Tables) (after : Bytes) where
   -- and the reading's refusals
-  reading-success : T (fitSeparators old) → T (fitSeparators new) → (answer : Answer) → Reads (strictly old) s before answer tables
-      → AfterReading old new s answer output (Accepted a l b) after → Success old new s before output a l b tables after
+  reading-success : T (fitSeparators old) → T (fitSeparators new) → (answer : Answer) → Reads (strictly profile old) s before answer tables
+      → AfterReading profile old new s answer output (Accepted a l b) after → Success profile old new s before output a l b tables after
   reading-success old-fit new-fit (Refused n k y e) reads x = absurd (accepted-refused (x .0))
   reading-success old-fit new-fit (Accepted a′ l′ b′) reads x =
       let w =
@@ -76,12 +77,12 @@ module _ (old new : Separators) (s : Bytes) (before : Tables) (output : Bytes) (
         output-is = w .output-is;
       }
 
-  pub succeeded : Rewrites old new s before output (Accepted a l b) tables after → Success old new s before output a l b tables after
+  pub succeeded : Rewrites profile old new s before output (Accepted a l b) tables after → Success profile old new s before output a l b tables after
   unfolding Rewrites
   succeeded x = fit (fitSeparators old) (fitSeparators new) refl refl x
     where
       fit : (old-fit new-fit : Bool) → fitSeparators old ≡ old-fit → fitSeparators new ≡ new-fit
-          → RewritesFit old-fit new-fit old new s before output (Accepted a l b) tables after → Success old new s before output a l b tables after
+          → RewritesFit old-fit new-fit profile old new s before output (Accepted a l b) tables after → Success profile old new s before output a l b tables after
       fit false new-fit p q x = absurd (omega (arith, head-eq-of-cons-eq (x .answer)))
       fit true false p q x = absurd (omega (arith, head-eq-of-cons-eq (x .answer)))
       fit true true p q x = reading-success (rw p tt) (rw q tt) (x .answer) (x .reads) (x .follows)

@@ -8,12 +8,13 @@ use lib.ListN.{length, take, drop, getD, length-append, length-drop}
 use lib.Seq.{take-at, drop-at, getD-drop, drop-drop, drop-append-add}
 use Rattle.text.specs.Bytes.{Bytes}
 use Rattle.text.specs.View.{View, viewOf}
-use Rattle.text.specs.Cut.{Placed, Leads, Whole}
+use Rattle.text.specs.Cut.{Placed, Whole}
 use Rattle.text.specs.declared.separators.Separators.{Separators}
 use Rattle.text.proofs.DocumentCut.{Splits, cut-splits}
 use Rattle.levels.specs.Widths.{segmentWidth}
+use Rattle.rows.specs.declared.profile.ProfileName.{ProfileName}
 use Rattle.gate.specs.Records.{segmentRecord, segmentRecords}
-use Rattle.gate.specs.Reads.{cutBy, skipBy}
+use Rattle.rewriting.specs.internal.CutOff.{LedStrictly}
 use Rattle.rewriting.specs.Rewrites.{strictly}
 use Rattle.rewriting.specs.internal.SegmentTable.{startIn, lengthIn, placedIn, segmentsFrom, Names, NamesFrom}
 
@@ -44,9 +45,9 @@ module _ (s segment : Bytes) (q : Separators) (more : Bytes) (at : ℕ) (here : 
   segment-bytes : take (length segment) (drop at s) ≡ segment
   segment-bytes = ap (take (length segment)) here ∙ take-at segment (q .terminator ∷ more) (length segment) refl
 
-  bytes-behind : drop (at + length segment + 1 + skipBy (strictly q) more) s ≡ more
+  bytes-behind : drop (at + length segment + 1 + 0) s ≡ more
   bytes-behind =
-      let same : at + length segment + 1 + skipBy (strictly q) more ≡ at + (length segment + 1) = omega arith in
+      let same : at + length segment + 1 + 0 ≡ at + (length segment + 1) = omega arith in
       ap (λ (n : ℕ). drop n s) same
       ∙ sym (drop-drop (length segment + 1) at s)
       ∙ ap (drop (length segment + 1)) here
@@ -68,10 +69,10 @@ names s table k numbers more wide here segment q behind at is long bytes =
     )
 
 -- the records of segments that were read, from record k on
-module _ (old : Separators) (s : Bytes) (table : List ℕ) where
+module _ (profile : ProfileName) (old : Separators) (s : Bytes) (table : List ℕ) where
   pub stored : (k at : ℕ) (h : List View) (gs : List Placed) (rows : List ℕ) (left : Bytes) (end : ℕ) (rest : Bytes) (more : List ℕ)
-      → length rows ≡ length gs → drop (k * segmentWidth) table ≡ segmentRecords (strictly old) h gs rows ++ more → drop at s ≡ left
-      → Leads (cutBy (strictly old)) (skipBy (strictly old)) at left gs end rest
+      → length rows ≡ length gs → drop (k * segmentWidth) table ≡ segmentRecords (strictly profile old) h gs rows ++ more → drop at s ≡ left
+      → LedStrictly old at left gs end rest
       → (segmentsFrom s table k (length gs) ≡ gs) × NamesFrom s table k (length gs)
   stored k at h [] rows left end rest more n t b l = (refl, tt)
   stored k at h (g ∷ gs) [] left end rest more n t b l = absurd (omega arith)
@@ -80,9 +81,9 @@ module _ (old : Separators) (s : Bytes) (table : List ℕ) where
       let splits : Splits old left (Whole (g .segment) (l .0)) = rw (l .1) at (cut-splits old left) in
       let here = b ∙ splits in
       let numbers = segmentRecord h v g r in
-      let behind = segmentRecords (strictly old) (v ∷ h) gs rows ++ more in
+      let behind = segmentRecords (strictly profile old) (v ∷ h) gs rows ++ more in
       let named = names s table k numbers behind refl t (g .segment) old (l .0) (g .at) refl refl (rw (l .2) here) in
       let later =
-      stored (suc k) (at + length (g .segment) + 1 + skipBy (strictly old) (l .0)) (v ∷ h) gs rows (l .0) end rest more (omega (arith, n))
+      stored (suc k) (at + length (g .segment) + 1 + 0) (v ∷ h) gs rows (l .0) end rest more (omega (arith, n))
       (record-behind table k numbers behind refl t) (bytes-behind s (g .segment) old (l .0) at here) (l .3) in
       (ap₂ (λ (x : Placed) (xs : List Placed). x ∷ xs) (named .0) (later .0), (named .1, later .1))

@@ -9,7 +9,7 @@ use lib.ListN.{length, length-append}
 use Rattle.text.specs.Bytes.{Bytes, every}
 use Rattle.text.specs.Pieces.{closed}
 use Rattle.text.specs.View.{View, viewOf, written, empty, inspected}
-use Rattle.text.specs.Cut.{Placed, Leads, Whole}
+use Rattle.text.specs.Cut.{cutOf, Placed, Whole}
 use Rattle.text.specs.declared.separators.Separators.{Separators}
 use Rattle.text.proofs.SeenAlike.{written-length, part-alike, bytes-alike, elements-alike}
 use Rattle.text.proofs.Writable.{Writable, cut-writable, writable-cut, writable-seen, writable-again}
@@ -17,13 +17,13 @@ use Rattle.text.specs.Separators.{Fitted}
 use Rattle.elements.specs.Checks.{firstBroken}
 use Rattle.elements.specs.declared.verdict.Verdict.{Verdict}
 use Rattle.elements.specs.declared.verdict.Verdict.the-variants.{Holds, Broken}
-use Rattle.gate.specs.Segments.{seen}
+use Rattle.rows.specs.declared.profile.ProfileName.{ProfileName}
 use Rattle.gate.specs.Records.{segmentRecords}
-use Rattle.gate.specs.Reads.{cutBy, skipBy}
 use Rattle.gate.specs.Conditions.{usedBy}
 use Rattle.elements.proofs.FirstBroken.{each-every}
+use Rattle.rewriting.specs.internal.CutOff.{LedStrictly}
 use Rattle.rewriting.specs.Lookups.{FoundAlike, AllFoundAlike}
-use Rattle.rewriting.specs.Rewrites.{strictly, rewritten, apartFrom, collisionChecks, orLater, collision}
+use Rattle.rewriting.specs.Rewrites.{strictly, viewsBy, rewritten, apartFrom, collisionChecks, orLater, collision}
 use Rattle.rewriting.specs.declared.collisions.Clash.{Clash}
 use Rattle.rewriting.specs.declared.collisions.Clash.the-variants.{At, Nowhere}
 use Rattle.rewriting.proofs.SegmentBytes.{texts}
@@ -62,7 +62,7 @@ module _ (old new : Separators) (old-fit : Fitted old) (new-fit : Fitted new) wh
   -- what the segments have where they do not collide
   pub record StaysSame (g : Placed) : Type 0 where
     pub view : viewOf new (written new (viewOf old (g .segment))) ≡ viewOf old (g .segment)
-    pub cut : (rest : Bytes) → cutBy (strictly new) (written new (viewOf old (g .segment)) ++ new .terminator ∷ rest)
+    pub cut : (rest : Bytes) → cutOf new (written new (viewOf old (g .segment)) ++ new .terminator ∷ rest)
         ≡ Whole (written new (viewOf old (g .segment))) rest
     pub long : length (written new (viewOf old (g .segment))) ≡ length (g .segment)
 
@@ -71,7 +71,7 @@ module _ (old new : Separators) (old-fit : Fitted old) (new-fit : Fitted new) wh
   AllKeep (g ∷ gs) = StaysSame g × AllKeep gs
 
   pub all-keep : (n at : ℕ) (s : Bytes) (gs : List Placed) (end : ℕ) (rest : Bytes)
-      → Leads (cutBy (strictly old)) (skipBy (strictly old)) at s gs end rest → collision old new n gs ≡ Nowhere → AllKeep gs
+      → LedStrictly old at s gs end rest → collision old new n gs ≡ Nowhere → AllKeep gs
   all-keep n at s [] end rest l e = tt
   all-keep n at s (g ∷ gs) end rest l e =
       let v = viewOf old (g .segment) in
@@ -83,23 +83,23 @@ module _ (old new : Separators) (old-fit : Fitted old) (new-fit : Fitted new) wh
           cut = writable-cut new new-fit v w;
           long = written-length old new (g .segment);
         },
-        all-keep (suc n) (at + length (g .segment) + 1 + skipBy (strictly old) (l .0)) (l .0) gs end rest (l .3) (i .1),
+        all-keep (suc n) (at + length (g .segment) + 1 + 0) (l .0) gs end rest (l .3) (i .1),
       )
 
   -- the same views
-  pub same-views : (gs : List Placed) → AllKeep gs → seen (strictly new) (again gs) ≡ seen (strictly old) gs
+  pub same-views : (gs : List Placed) → AllKeep gs → viewsBy new (again gs) ≡ viewsBy old gs
   same-views [] k = refl
   same-views (g ∷ gs) k = rw (k .0 .view, same-views gs (k .1))
 
   -- the same places, and nothing behind them
-  pub same-places : (at : ℕ) (s : Bytes) (gs : List Placed) (end : ℕ) (rest : Bytes) → AllKeep gs → Leads (cutBy (strictly old)) (skipBy (strictly old)) at s gs end rest
-      → Leads (cutBy (strictly new)) (skipBy (strictly new)) at (rewritten old new gs) (again gs) end []
+  pub same-places : (at : ℕ) (s : Bytes) (gs : List Placed) (end : ℕ) (rest : Bytes) → AllKeep gs → LedStrictly old at s gs end rest
+      → LedStrictly new at (rewritten old new gs) (again gs) end []
   same-places at s [] end rest k l = (l .0, refl)
   same-places at s (g ∷ gs) end rest k l = (
     rewritten old new gs,
     k .0 .cut (rewritten old new gs),
     l .2,
-    rw (k .0 .long) (same-places (at + length (g .segment) + 1 + skipBy (strictly old) (l .0)) (l .0) gs end rest (k .1) (l .3)),
+    rw (k .0 .long) (same-places (at + length (g .segment) + 1 + 0) (l .0) gs end rest (k .1) (l .3)),
   )
 
   pub same-used : (gs : List Placed) → AllKeep gs → usedBy (again gs) ≡ usedBy gs
@@ -108,11 +108,11 @@ module _ (old new : Separators) (old-fit : Fitted old) (new-fit : Fitted new) wh
   same-used (g ∷ (h ∷ gs)) k = same-used (h ∷ gs) (k .1)
 
   -- the same records
-  pub same-records : (h : List View) (gs : List Placed) (rows : List ℕ) → AllKeep gs
-      → segmentRecords (strictly new) h (again gs) rows ≡ segmentRecords (strictly old) h gs rows
-  same-records h [] rows k = refl
-  same-records h (g ∷ gs) [] k = refl
-  same-records h (g ∷ gs) (r ∷ rows) k = rw (k .0 .view, k .0 .long, same-records (viewOf old (g .segment) ∷ h) gs rows (k .1))
+  pub same-records : (profile : ProfileName) (h : List View) (gs : List Placed) (rows : List ℕ) → AllKeep gs
+      → segmentRecords (strictly profile new) h (again gs) rows ≡ segmentRecords (strictly profile old) h gs rows
+  same-records profile h [] rows k = refl
+  same-records profile h (g ∷ gs) [] k = refl
+  same-records profile h (g ∷ gs) (r ∷ rows) k = rw (k .0 .view, k .0 .long, same-records profile (viewOf old (g .segment) ∷ h) gs rows (k .1))
 
   -- and every lookup finds the same
   found-alike : (g : Placed) → StaysSame g → FoundAlike old (g .segment) new (written new (viewOf old (g .segment)))

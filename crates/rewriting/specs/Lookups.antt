@@ -9,6 +9,7 @@ use Rattle.text.specs.View.{viewOf, elementOf}
 use Rattle.text.specs.Cut.{Placed}
 use Rattle.text.specs.Lookup.{partSpan, partIn}
 use Rattle.text.specs.declared.separators.Separators.{Separators}
+use Rattle.rows.specs.declared.profile.ProfileName.{ProfileName}
 use Rattle.rewriting.specs.Conditions.{SameReport}
 
 -- a segment g and a segment h, each with its own separators, in which every lookup finds the same part
@@ -28,6 +29,6 @@ AllFoundAlike old (g ∷ gs) new [] = ⊥
 AllFoundAlike old (g ∷ gs) new (h ∷ hs) = (h .at ≡ g .at) × FoundAlike old (g .segment) new (h .segment) × AllFoundAlike old gs new hs
 
 -- the bytes t hold, with the new separators, the report that the bytes s hold with the old ones, and a lookup in either finds the same
-pub record LookedUpAlike (old : Separators) (s : Bytes) (new : Separators) (t : Bytes) : Type 0 where
-  pub report : SameReport old s new t
+pub record LookedUpAlike (profile : ProfileName) (old : Separators) (s : Bytes) (new : Separators) (t : Bytes) : Type 0 where
+  pub report : SameReport profile old s new t
   pub alike : AllFoundAlike old (report .old-segments) new (report .new-segments)

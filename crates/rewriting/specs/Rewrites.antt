@@ -1,5 +1,5 @@
--- The promise of rewriting: which answer, and what tables and output hold afterwards, for every input, both sets of separators, every table
--- and every output. Document 01, the text behind the table of answers.
+-- The promise of rewriting: which answer, and what tables and output hold afterwards, for every input, either profile, both sets of
+-- separators, every table and every output. Document 01, the text behind the table of answers.
 -- Assumes nothing.
 use Prim.Native.Nat.{ℕ, suc}
 use mathlib.Core.Path.{_≡_}
@@ -14,10 +14,10 @@ use Rattle.text.specs.View.{Piece, View, viewOf, written, elementOf, inspected}
 use Rattle.text.specs.Cut.{Placed}
 use Rattle.text.specs.declared.separators.Separators.{Separators}
 use Rattle.text.specs.declared.lines.LineEnds.the-variants.{Strict}
+use Rattle.rows.specs.declared.profile.ProfileName.{ProfileName}
 use Rattle.elements.specs.Checks.{Check, each, firstBroken}
 use Rattle.elements.specs.declared.verdict.Verdict.{Verdict}
 use Rattle.elements.specs.declared.verdict.Verdict.the-variants.{Holds, Broken}
-use Rattle.gate.specs.Segments.{seen}
 use Rattle.gate.specs.Answers.{numbersOf}
 use Rattle.gate.specs.Records.{Tables}
 use Rattle.gate.specs.Reads.{Reads}
@@ -28,13 +28,17 @@ use Rattle.gate.specs.declared.how.How.{How}
 use Rattle.rewriting.specs.declared.collisions.Clash.{Clash}
 use Rattle.rewriting.specs.declared.collisions.Clash.the-variants.{At, Nowhere}
 
--- strict reading by these separators; rewriting reads so, whatever its caller's way of reading is
-abbrev pub strictly : Separators → How
-strictly old = record { separators = old; lines = Strict }
+-- strict reading by this profile and these separators; rewriting reads so, whatever its caller's way with line ends is
+abbrev pub strictly : ProfileName → Separators → How
+strictly profile old = record { separators = old; lines = Strict; profile = profile }
+
+-- the segments as views, by these separators
+abbrev pub viewsBy : Separators → List Placed → List View
+viewsBy q gs = map (λ (g : Placed). viewOf q (g .segment)) gs
 
 -- the segments as they are written with the new separators: every view again, and a terminator after each
 abbrev pub rewritten : Separators → Separators → List Placed → Bytes
-rewritten old new gs = closed (new .terminator) (map (written new) (seen (strictly old) gs))
+rewritten old new gs = closed (new .terminator) (map (written new) (viewsBy old gs))
 
 -- no data byte of the piece equals a new separator
 abbrev pub apartFrom : Separators → Piece → Bool
@@ -73,23 +77,23 @@ OutcomeOf old new gs accepted bytes output r after =
     Outcome (collision old new 1 gs) (leb bytes (length output)) accepted (rewritten old new gs) output r after
 
 -- an accepted reading has the segments of the one numbering that meets every rule
-pub record AfterAcceptance (old new : Separators) (s : Bytes) (accepted : Answer) (bytes : ℕ) (output : Bytes) (r : Answer) (after : Bytes) : Type 0 where
+pub record AfterAcceptance (profile : ProfileName) (old new : Separators) (s : Bytes) (accepted : Answer) (bytes : ℕ) (output : Bytes) (r : Answer) (after : Bytes) : Type 0 where
   pub gs : List Placed
   pub rows : List ℕ
-  pub numbering : Numbering (strictly old) s gs rows
+  pub numbering : Numbering (strictly profile old) s gs rows
   pub outcome : OutcomeOf old new gs accepted bytes output r after
 
 -- what follows the reading's answer; a refusal is returned as it is
-abbrev pub AfterReading : Separators → Separators → Bytes → Answer → Bytes → Answer → Bytes → Type 0
-AfterReading old new s (Accepted segments levels bytes) output r after =
-    AfterAcceptance old new s (Accepted segments levels bytes) bytes output r after
-AfterReading old new s (Refused number segment byte element) output r after = (r ≡ Refused number segment byte element) × (after ≡ output)
+abbrev pub AfterReading : ProfileName → Separators → Separators → Bytes → Answer → Bytes → Answer → Bytes → Type 0
+AfterReading profile old new s (Accepted segments levels bytes) output r after =
+    AfterAcceptance profile old new s (Accepted segments levels bytes) bytes output r after
+AfterReading profile old new s (Refused number segment byte element) output r after = (r ≡ Refused number segment byte element) × (after ≡ output)
 
 -- with both sets fit: the reading, which leaves the tables, and what follows it
-pub record Rewriting (old new : Separators) (s : Bytes) (before : Tables) (output : Bytes) (r : Answer) (tables : Tables) (after : Bytes) : Type 0 where
+pub record Rewriting (profile : ProfileName) (old new : Separators) (s : Bytes) (before : Tables) (output : Bytes) (r : Answer) (tables : Tables) (after : Bytes) : Type 0 where
   pub answer : Answer
-  pub reads : Reads (strictly old) s before answer tables
-  pub follows : AfterReading old new s answer output r after
+  pub reads : Reads (strictly profile old) s before answer tables
+  pub follows : AfterReading profile old new s answer output r after
 
 -- 1 with this element: nothing is written
 pub record Unfit (element : ℕ) (before : Tables) (output : Bytes) (r : Answer) (tables : Tables) (after : Bytes) : Type 0 where
@@ -98,12 +102,12 @@ pub record Unfit (element : ℕ) (before : Tables) (output : Bytes) (r : Answer)
   pub output-kept : after ≡ output
 
 -- both sets are tested first, the old one with element 0, the new one with element 1
-abbrev pub RewritesFit : (old-fit new-fit : Bool) → Separators → Separators → Bytes → Tables → Bytes → Answer → Tables → Bytes → Type 0
-RewritesFit false new-fit old new s before output r tables after = Unfit 0 before output r tables after
-RewritesFit true false old new s before output r tables after = Unfit 1 before output r tables after
-RewritesFit true true old new s before output r tables after = Rewriting old new s before output r tables after
+abbrev pub RewritesFit : (old-fit new-fit : Bool) → ProfileName → Separators → Separators → Bytes → Tables → Bytes → Answer → Tables → Bytes → Type 0
+RewritesFit false new-fit profile old new s before output r tables after = Unfit 0 before output r tables after
+RewritesFit true false profile old new s before output r tables after = Unfit 1 before output r tables after
+RewritesFit true true profile old new s before output r tables after = Rewriting profile old new s before output r tables after
 
 -- the promise of rewriting
-unfoldable pub Rewrites : Separators → Separators → Bytes → Tables → Bytes → Answer → Tables → Bytes → Type 0
-Rewrites old new s before output r tables after =
-    RewritesFit (fitSeparators old) (fitSeparators new) old new s before output r tables after
+unfoldable pub Rewrites : ProfileName → Separators → Separators → Bytes → Tables → Bytes → Answer → Tables → Bytes → Type 0
+Rewrites profile old new s before output r tables after =
+    RewritesFit (fitSeparators old) (fitSeparators new) profile old new s before output r tables after

@@ -12,6 +12,7 @@ use crate::collisions::Clash;
 use crate::writing;
 use gate::answer::Answer;
 use gate::how::How;
+use rows::profile::ProfileName;
 use text::lines::LineEnds;
 use text::separators::Separators;
 
@@ -69,17 +70,18 @@ fn write_accepted(
     }
 }
 
-// Reads one transaction and writes it to the output with the new separators. Where it is refused the output keeps its bytes; the tables are
+// Reads one transaction by the profile and writes it to the output with the new separators. Where it is refused the output keeps its bytes; the tables are
 // left as reading alone leaves them.
 pub fn rewrite(
     s: &[u8],
+    profile: ProfileName,
     old: Separators,
     new: Separators,
     segments: &mut [u64],
     levels: &mut [u64],
     output: &mut [u8],
 ) -> Answer
-    ensures { λ r. ⌜ Rewrites old new (now (s .entry)) (record { segments = now (segments .entry); levels = now (levels .entry) }) (now (output .entry)) r
+    ensures { λ r. ⌜ Rewrites profile old new (now (s .entry)) (record { segments = now (segments .entry); levels = now (levels .entry) }) (now (output .entry)) r
         (record { segments = now (segments .exit); levels = now (levels .exit) }) (now (output .exit)) ⌝ }
 {
     if !old.fit() {
@@ -91,6 +93,7 @@ pub fn rewrite(
     let strictly = How {
         separators: old,
         lines: LineEnds::Strict,
+        profile,
     };
     match reading::reading::read(s, strictly, segments, levels) {
         Answer::Accepted {

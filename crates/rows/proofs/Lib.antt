@@ -10,4 +10,6 @@ pub mod TagsDecideRows
 pub mod ListedRows
 pub mod TagList
 pub mod Packing
+pub mod RowSets
+pub mod Continuable
 pub mod Cases

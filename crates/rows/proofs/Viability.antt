@@ -76,7 +76,8 @@ row-reached r lo hi =
     let g : reached r ≡ true = ap reached (sym b) ∙ h in
     rw g tt
 
-last-snoc : (w : List ℕ) (s r : ℕ) → lastOf s (w ++ (r ∷ [])) ≡ r
+-- the last row of a list that ends so
+pub last-snoc : (w : List ℕ) (s r : ℕ) → lastOf s (w ++ (r ∷ [])) ≡ r
 last-snoc [] s r = refl
 last-snoc (x ∷ w) s r = last-snoc w x r
 

@@ -1,3 +1,4 @@
-// The 34 tags, and what a row of the list is.
+// The 34 tags, what a row of the list is, and the rows of each profile.
 pub mod list;
+pub mod profile;
 pub mod tags;

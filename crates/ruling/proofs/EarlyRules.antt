@@ -2,15 +2,19 @@
 -- Assumes nothing.
 use Prim.Native.Nat.{ℕ, _≤_}
 use mathlib.Core.Path.{_≡_, sym, ap, ap₂, _∙_}
+use mathlib.Core.Bool.{Bool, not, _&&_}
 use mathlib.Core.List.{List, _++_}
+use native.Mathlib.Omega.{arith}
 use lib.ListN.{length}
 use Rattle.text.specs.Bytes.{Bytes}
 use Rattle.text.specs.View.{Piece}
+use Rattle.rows.specs.declared.profile.ProfileName.{ProfileName}
+use Rattle.elements.specs.Data.{elementProfile}
 use Rattle.elements.specs.Checks.{each}
-use Rattle.elements.specs.Rules.{fewBy}
+use Rattle.elements.specs.Rules.{fewBy, isUnused}
 use Rattle.elements.specs.internal.Layouts.{componentsIn}
 use Rattle.elements.specs.internal.Verdicts.{rulesOf, lastMust, completeAt, suitsAt, elementsVerdict}
-use Rattle.ruling.specs.internal.Early.{manyVerdict, earlyVerdict}
+use Rattle.ruling.specs.internal.Early.{unusedVerdict, manyVerdict, earlyChecks, earlyVerdict, earlyBy}
 use Rattle.elements.specs.declared.verdict.Verdict.{Verdict}
 use Rattle.elements.specs.declared.verdict.Verdict.the-variants.{Holds, Broken}
 use Rattle.elements.specs.declared.layout.Layout.{Layout}
@@ -55,3 +59,27 @@ module _ (s : Bytes) (starts : List ℕ) (layout : Layout) (component tag : ℕ)
   -- where they are silent, there are no more elements than rules
   pub early-few : Holds ≡ early → layout .count ≤ length (rulesOf tag .elements)
   early-few q = few-count tag (layout .count) at (first-holds nine eightTen (sym early-is ∙ sym q))
+
+  -- by the profile: an element that must be absent decides, or they are silent and leave it to the others
+  module _ (profile : ProfileName) (there : ℕ → Bool) where
+    abbrev unwanted : Verdict
+    unwanted = unusedVerdict (isUnused (elementProfile profile) tag) there (layout .count)
+
+    pub by-profile : earlyBy profile tag there at (layout .count) ≡ andThen unwanted early
+    unfolding earlyBy earlyVerdict
+    by-profile =
+        broken-append (each 9 1 (layout .count) (λ (k : ℕ). not (isUnused (elementProfile profile) tag k && there k))) (earlyChecks (rulesOf tag) at (layout .count))
+
+    pub unwanted-decides : (n e : ℕ) → Broken n e ≡ unwanted → Broken n e ≡ earlyBy profile tag there at (layout .count)
+    unwanted-decides n e q = sym (by-profile ∙ ap (λ (v : Verdict). andThen v early) (sym q))
+
+    pub others-decide : Holds ≡ unwanted → early ≡ earlyBy profile tag there at (layout .count)
+    others-decide q = sym (by-profile ∙ ap (λ (v : Verdict). andThen v early) (sym q))
+
+    -- silent by the profile, they are silent
+    pub silent-others : Holds ≡ earlyBy profile tag there at (layout .count) → Holds ≡ early
+    silent-others q = sym (second-holds unwanted early (sym by-profile ∙ sym q))
+      where
+        second-holds : (v w : Verdict) → andThen v w ≡ Holds → w ≡ Holds
+        second-holds Holds w e = e
+        second-holds (Broken n k) w e = absurd (let z : _≡_ {A = ℕ} 0 1 = cc in omega arith)

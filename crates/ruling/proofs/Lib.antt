@@ -1,6 +1,7 @@
 pub mod Counts
 pub mod Pairings
 pub mod TooMany
+pub mod UnusedElements
 pub mod EarlyRules
 pub mod RuleOrder
 pub mod UsualSegments

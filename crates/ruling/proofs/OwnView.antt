@@ -27,7 +27,8 @@ use Rattle.text.proofs.BinView.{view-plain, elements-plain}
 use Rattle.text.proofs.BinSpans.{elements-joined, lies-element}
 use Rattle.text.proofs.View.{free-pieces}
 use Rattle.elements.specs.Checks.{firstBroken}
-use Rattle.elements.specs.Data.{nonconformance}
+use Rattle.rows.specs.declared.profile.ProfileName.{ProfileName}
+use Rattle.elements.specs.Data.{elementProfile}
 use Rattle.elements.specs.Rules.{ruledChecks}
 use Rattle.elements.specs.internal.Layouts.{elementIn, partBetween, pieceIn, componentsBy, layoutView}
 use Rattle.elements.specs.declared.layout.Layout.{Layout}
@@ -135,5 +136,6 @@ module _ {q : Separators} {s segment : Bytes} {starts : List ℕ} {layout : Layo
         ∙ rw (view-plain q segment plain) (omega (arith, laid .counted, ap length pieces-are, length-map (pieces (q .element) segment) (pieces (q .component))))
 
     -- so the verdict by the layout is that over the segment
-    pub ruled-own : (tag : ℕ) → firstBroken (ruledChecks nonconformance tag view) ≡ firstBroken (ruledChecks nonconformance tag (viewOf q segment))
-    ruled-own tag = ruled-agree view (viewOf q segment) count-own view-own tag
+    pub ruled-own : (profile : ProfileName) (tag : ℕ)
+        → firstBroken (ruledChecks (elementProfile profile) tag view) ≡ firstBroken (ruledChecks (elementProfile profile) tag (viewOf q segment))
+    ruled-own profile tag = ruled-agree view (viewOf q segment) count-own view-own profile tag

@@ -11,11 +11,12 @@ use lib.Dec.{leb}
 use lib.ListN.{length}
 use borrow.Author.Tests.{leb-true, lt-leb}
 use Rattle.text.specs.Bytes.{every, any}
-use Rattle.text.specs.View.{View, present, elementOf, elementCount}
+use Rattle.text.specs.View.{Piece, View, present, elementOf, elementCount}
 use Rattle.text.proofs.Tests.{and-first, and-second}
 use Rattle.elements.specs.Checks.{Check, check, each, firstBroken}
-use Rattle.elements.specs.Data.{Note, Paired, Required, Conditional, Rules, nonconformance}
-use Rattle.elements.specs.Rules.{ruleOf, noteHolds, namedFirst, tooManyChecks, missingChecks, unfitChecks, noteChecks, checksBy, ruledChecks, fewBy, completeBy, suitsBy, presentAt}
+use Rattle.elements.specs.Data.{Note, Paired, Required, Conditional, Rules, elementProfile}
+use Rattle.rows.specs.declared.profile.ProfileName.{ProfileName}
+use Rattle.elements.specs.Rules.{isUnused, absentIf, ruleOf, noteHolds, namedFirst, tooManyChecks, missingChecks, unfitChecks, noteChecks, checksBy, ruledChecks, fewBy, completeBy, suitsBy, presentAt}
 use Rattle.elements.specs.internal.Verdicts.{rulesOf}
 use Rattle.elements.proofs.FirstBroken.{each-same}
 use Rattle.elements.proofs.EveryTag.{last-small, noteWithin, notes-small, ruled-by, ruled-none}
@@ -50,15 +51,19 @@ module _ (v w : View) (count : elementCount v ≡ elementCount w) (same : (k : �
       (and-first (noteWithin n) (every noteWithin ns) e))
       (notes-same ns (and-second (noteWithin n) (every noteWithin ns) e))
 
-  module _ (rules : Rules) (few : length (rules .elements) ≤ 31) where
-    few-same : (k : ℕ) → fewBy rules k (elementOf v k) ≡ fewBy rules k (elementOf w k)
-    few-same k =
-        by-cases (decLt 31 k) (λ l. rw (lt-leb k (length (rules .elements)) (omega arith))) (λ l. ap (fewBy rules k) (same k (omega arith)))
+  module _ (rules : Rules) (unused : ℕ → Bool) (few : length (rules .elements) ≤ 31) where
+    abbrev fewAt : View → ℕ → Bool
+    fewAt x k = fewBy rules k (elementOf x k) && absentIf (unused k) (elementOf x k)
 
-    many-same : tooManyChecks rules v ≡ tooManyChecks rules w
+    few-same : (k : ℕ) → fewAt v k ≡ fewAt w k
+    few-same k =
+        by-cases (decLt 31 k) (λ l. rw (lt-leb k (length (rules .elements)) (omega arith)))
+        (λ l. ap (λ (p : Piece). fewBy rules k p && absentIf (unused k) p) (same k (omega arith)))
+
+    many-same : tooManyChecks rules unused v ≡ tooManyChecks rules unused w
     many-same =
-        ap (λ (n : ℕ). each 9 1 n (λ (k : ℕ). fewBy rules k (elementOf v k))) count
-        ∙ each-same 9 1 (elementCount w) (λ (k : ℕ). fewBy rules k (elementOf v k)) (λ (k : ℕ). fewBy rules k (elementOf w k)) (λ k l u. few-same k)
+        ap (λ (n : ℕ). each 9 1 n (fewAt v)) count
+        ∙ each-same 9 1 (elementCount w) (fewAt v) (fewAt w) (λ k l u. few-same k)
 
     missing-same : missingChecks rules v ≡ missingChecks rules w
     missing-same =
@@ -70,17 +75,19 @@ module _ (v w : View) (count : elementCount v ≡ elementCount w) (same : (k : �
         each-same 10 1 (length (rules .elements)) (λ (k : ℕ). suitsBy (ruleOf rules k) (elementOf v k))
         (λ (k : ℕ). suitsBy (ruleOf rules k) (elementOf w k)) (λ k l u. ap (suitsBy (ruleOf rules k)) (same k (omega arith)))
 
-    checks-same : every noteWithin (rules .notes) ≡ true → checksBy rules v ≡ checksBy rules w
+    checks-same : every noteWithin (rules .notes) ≡ true → checksBy rules unused v ≡ checksBy rules unused w
     checks-same e =
         ap₂ _++_ (ap₂ _++_ (ap₂ _++_ many-same missing-same) unfit-same) (notes-same (rules .notes) e)
 
   -- the same tests, and so the same verdict
-  pub checks-agree : (tag : ℕ) → ruledChecks nonconformance tag v ≡ ruledChecks nonconformance tag w
-  checks-agree tag =
+  pub checks-agree : (profile : ProfileName) (tag : ℕ) → ruledChecks (elementProfile profile) tag v ≡ ruledChecks (elementProfile profile) tag w
+  checks-agree profile tag =
       by-cases (decLt 0 (length (rulesOf tag .elements)))
-      (λ l. ruled-by tag v (λ z. omega arith) ∙ checks-same (rulesOf tag) (last-small tag) (notes-small tag) ∙ sym
-      (ruled-by tag w (λ z. omega arith)))
-      (λ l. let none : length (rulesOf tag .elements) ≡ 0 = omega arith in ruled-none tag v none ∙ sym (ruled-none tag w none))
+      (λ l. ruled-by profile tag v (λ z. omega arith)
+      ∙ checks-same (rulesOf tag) (isUnused (elementProfile profile) tag) (last-small tag) (notes-small tag)
+      ∙ sym (ruled-by profile tag w (λ z. omega arith)))
+      (λ l. let none : length (rulesOf tag .elements) ≡ 0 = omega arith in ruled-none profile tag v none ∙ sym (ruled-none profile tag w none))
 
-  pub ruled-agree : (tag : ℕ) → firstBroken (ruledChecks nonconformance tag v) ≡ firstBroken (ruledChecks nonconformance tag w)
-  ruled-agree tag = ap firstBroken (checks-agree tag)
+  pub ruled-agree : (profile : ProfileName) (tag : ℕ)
+      → firstBroken (ruledChecks (elementProfile profile) tag v) ≡ firstBroken (ruledChecks (elementProfile profile) tag w)
+  ruled-agree profile tag = ap firstBroken (checks-agree profile tag)

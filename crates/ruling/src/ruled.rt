@@ -3,11 +3,11 @@ ghost use mathlib.Core.Path.{_≡_};
 ghost use Prim.Native.Nat.{_+_, _<_};
 ghost use mathlib.Core.List.{[], _∷_};
 ghost use Rattle.elements.specs.Checks.{firstBroken};
-ghost use Rattle.elements.specs.Data.{Paired, Required, pairsFrom, rulesDTM, nonconformance};
-ghost use Rattle.elements.specs.Rules.{ruleOf, fewComponents, noteHolds, noteChecks, ruledChecks};
+ghost use Rattle.elements.specs.Data.{Paired, Required, pairsFrom, rulesDTM, elementProfile};
+ghost use Rattle.elements.specs.Rules.{ruleOf, fewComponents, isUnused, noteHolds, noteChecks, ruledChecks};
 ghost use Rattle.elements.specs.internal.Layouts.{thereIn, componentsIn, layoutView};
 ghost use Rattle.elements.specs.internal.Verdicts.{rulesOf};
-ghost use Rattle.ruling.specs.internal.Early.{manyVerdict, earlyVerdict};
+ghost use Rattle.ruling.specs.internal.Early.{unusedVerdict, manyVerdict, earlyBy};
 use crate::units;
 use crate::usual;
 use elements::fitting;
@@ -15,6 +15,7 @@ use elements::layout;
 use elements::layout::Layout;
 use elements::rules;
 use elements::verdict::Verdict;
+use rows::profile::ProfileName;
 use rows::tags;
 
 // Whether element k is present.
@@ -135,15 +136,54 @@ fn too_many(s: &[u8], starts: &[usize; 33], layout: Layout, component: u8, tag: 
     Verdict::Holds
 }
 
-// Answers 9, 8 and 10 of a segment with that tag. Of a usual segment all three are silent.
-fn early_verdict(s: &[u8], starts: &[usize; 33], layout: Layout, component: u8, tag: u8) -> Verdict
+// Answer 9 of an element that the profile wants absent: HL02 and HL04 of a reply.
+fn unused_verdict(
+    s: &[u8],
+    starts: &[usize; 33],
+    layout: Layout,
+    profile: ProfileName,
+    tag: u8,
+) -> Verdict
     ensures { λ r. ⌜
-        r ≡ earlyVerdict (rulesOf tag)
+        r ≡ unusedVerdict (isUnused (elementProfile profile) tag) (thereIn (now (s .entry)) (now (starts .entry)) layout) (layout .count)
+        ⌝ }
+{
+    match profile {
+        ProfileName::Report => Verdict::Holds,
+        ProfileName::Reply => {
+            if tag != tags::HL {
+                return Verdict::Holds;
+            }
+            if is_there(s, starts, layout, 2) {
+                return Verdict::Broken(9, 2);
+            }
+            if is_there(s, starts, layout, 4) {
+                return Verdict::Broken(9, 4);
+            }
+            Verdict::Holds
+        }
+    }
+}
+
+// Answers 9, 8 and 10 of a segment with that tag, by the profile. Of a usual segment all three are silent.
+fn early_verdict(
+    s: &[u8],
+    starts: &[usize; 33],
+    layout: Layout,
+    component: u8,
+    profile: ProfileName,
+    tag: u8,
+) -> Verdict
+    ensures { λ r. ⌜
+        r ≡ earlyBy profile tag (thereIn (now (s .entry)) (now (starts .entry)) layout)
         (componentsIn (now (s .entry)) (now (starts .entry)) layout component) (layout .count)
         ⌝ }
 {
-    if layout.single & usual::usual(s, starts, layout, tag) {
+    if layout.single & usual::usual(s, starts, layout, profile, tag) {
         return Verdict::Holds;
+    }
+    if let Verdict::Broken(n, e) = unused_verdict(s, starts, layout, profile, tag) {
+        return Verdict::Broken(n, e);
     }
     if let Verdict::Broken(n, e) = too_many(s, starts, layout, component, tag) {
         return Verdict::Broken(n, e);
@@ -151,23 +191,24 @@ fn early_verdict(s: &[u8], starts: &[usize; 33], layout: Layout, component: u8, 
     fitting::fitting_verdict(s, starts, layout, component, tag)
 }
 
-// Answers 9, 8, 10 and 11 of a segment with that tag.
+// Answers 9, 8, 10 and 11 of a segment with that tag, by the profile.
 pub fn ruled_verdict(
     s: &[u8],
     starts: &[usize; 33],
     layout: Layout,
     component: u8,
+    profile: ProfileName,
     tag: u8,
 ) -> Verdict
     ensures { λ r. ⌜
-        r ≡ firstBroken (ruledChecks nonconformance tag
+        r ≡ firstBroken (ruledChecks (elementProfile profile) tag
         (layoutView (now (s .entry)) (now (starts .entry)) layout component))
         ⌝ }
 {
     if rules::last_ruled(tag) == 0 {
         return Verdict::Holds;
     }
-    if let Verdict::Broken(n, e) = early_verdict(s, starts, layout, component, tag) {
+    if let Verdict::Broken(n, e) = early_verdict(s, starts, layout, component, profile, tag) {
         return Verdict::Broken(n, e);
     }
     notes_verdict(s, starts, layout, tag)

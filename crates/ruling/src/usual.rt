@@ -5,11 +5,13 @@ ghost use mathlib.Core.Path.{_≡_};
 ghost use mathlib.Core.Bool.{true};
 ghost use Rattle.text.specs.Bytes.{bytes};
 ghost use Rattle.rows.specs.Tags.{tagNumber};
+ghost use Rattle.rows.specs.declared.profile.ProfileName.the-variants.{Report};
 ghost use Rattle.types.specs.declared.kind.Kind.the-variants.{AN, ID, R, DT, TM};
 ghost use Rattle.elements.specs.Data.{units};
-ghost use Rattle.ruling.specs.internal.Usual.{simple, Suits, SuitsAt, FromOne, Suiting};
+ghost use Rattle.ruling.specs.internal.Usual.{simple, Suits, SuitsAt, FromOne, Suiting, AllUsed};
 use elements::layout;
 use elements::layout::Layout;
+use rows::profile::ProfileName;
 use rows::tags;
 use types::kind::Kind;
 use types::quick;
@@ -169,15 +171,32 @@ fn usual_se(s: &[u8], starts: &[usize; 33], layout: Layout) -> bool
     value_suits(Kind::N0, 1, 10, total) & text_suits(control, true, 4, 9)
 }
 
-// Whether all elements of a segment with that tag do, where it has no more than the first few.
-pub(crate) fn usual(s: &[u8], starts: &[usize; 33], layout: Layout, tag: u8) -> bool
-    ensures { λ r. ⌜ (r ≡ true → Suiting (now (s .entry)) (now (starts .entry)) layout tag) ⌝ }
+// Whether the profile wants no element of an HL absent.
+fn wants_none_absent(profile: ProfileName) -> bool
+    ensures { λ r. ⌜ (r ≡ true → profile ≡ Report) ⌝ }
+{
+    match profile {
+        ProfileName::Report => true,
+        ProfileName::Reply => false,
+    }
+}
+
+// Whether all elements of a segment with that tag do, where it has no more than the first few. The HL of a reply is left to the rules.
+pub(crate) fn usual(
+    s: &[u8],
+    starts: &[usize; 33],
+    layout: Layout,
+    profile: ProfileName,
+    tag: u8,
+) -> bool
+    ensures { λ r. ⌜ (r ≡ true → Suiting (now (s .entry)) (now (starts .entry)) layout tag × AllUsed profile tag) ⌝ }
 {
     match tag {
         tags::ST => (layout.count <= 2) & usual_st(s, starts, layout),
         tags::N1 => (layout.count <= 4) & usual_n1(s, starts, layout),
         tags::DTM => (layout.count <= 3) & usual_dtm(s, starts, layout),
-        tags::HL => (layout.count <= 4) & usual_hl(s, starts, layout),
+        tags::HL => wants_none_absent(profile)
+            & ((layout.count <= 4) & usual_hl(s, starts, layout)),
         tags::NTE => (layout.count <= 2) & usual_nte(s, starts, layout),
         tags::NCA => (layout.count <= 5) & usual_nca(s, starts, layout),
         tags::SE => (layout.count <= 2) & usual_se(s, starts, layout),

@@ -1,5 +1,5 @@
 // The gate as a program: reads one report, from the file that the first argument names or from standard input, with the standard
-// separators and past line ends between segments, and lists its segments and levels on standard output, or says there in one line why it is
+// separators, by the profile of nonconformance reports and past line ends between segments, and lists its segments and levels on standard output, or says there in one line why it is
 // refused. Standard error gets a hint where the bytes show what was sent instead, and why an input could not be read; then nothing is on
 // standard output.
 // What decides is `reading::read`; this crate only prints. The script `stormhlaw` runs it, once for each report.
@@ -10,6 +10,7 @@ mod printing;
 
 use gate::answer::Answer;
 use gate::how::How;
+use rows::profile::ProfileName;
 use text::compare;
 use text::lines::LineEnds;
 use text::separators::Separators;
@@ -21,6 +22,7 @@ fn judge(report: &[u8], name: &[u8]) {
     let how = How {
         separators: Separators::standard(),
         lines: LineEnds::Skipped,
+        profile: ProfileName::Report,
     };
     match reading::reading::read(report, how, &mut segments, &mut levels) {
         Answer::Accepted {

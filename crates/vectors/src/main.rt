@@ -1,16 +1,18 @@
 // Runs the cases of each file that the arguments name, and prints what comes of each. A case is a header of sixteen bytes and its input:
-//   0        1 a reading, 2 a rewriting, 3 a lookup, 4 a reading of a long input, 5 a number check
+//   0        1 a reading, 2 a rewriting, 3 a lookup, 4 a reading of a long input, 5 a number check, 6 a rewriting of a reply
 //   1 to 3   element, component, terminator; a lookup has no terminator
 //   4 to 6   the new set of a rewriting; how long a long input is, which goes on with bytes `~` behind its own
 //   7, 9     how many numbers the segment table and the level table have, two bytes each, the lower first; of a lookup the numbers of the
 //            element and of the component; of a number check the least and the most digits
-//   11       how many bytes the output of a rewriting has, two bytes; of a reading one byte, odd where it is strict with line ends
+//   11       how many bytes the output of a rewriting has, two bytes; of a reading one byte, a sum: 1 where it is strict with line ends, 2 by the
+//            profile of replies
 //   13       how long the input is, three bytes
 ghost use mathlib.Core.Path.{_≡_};
 ghost use Prim.Native.Nat.{_<_, _≤_};
 ghost use lib.ListN.{length};
 use gate::answer::Answer;
 use gate::how::How;
+use rows::profile::ProfileName;
 use text::lines::LineEnds;
 use text::lookup;
 use text::lookup::Span;
@@ -176,6 +178,15 @@ fn lines_at(header: &[u8], at: usize) -> LineEnds {
     }
 }
 
+// The profile: that of replies where the next bit is set.
+fn profile_at(header: &[u8], at: usize) -> ProfileName {
+    if byte_at(header, at) / 2 % 2 == 1 {
+        ProfileName::Reply
+    } else {
+        ProfileName::Report
+    }
+}
+
 // The answer of a reading, and the tables afterwards.
 fn read_lent(input: &[u8], how: How, segments: &mut [u64], levels: &mut [u64]) {
     print_answer(reading::reading::read(input, how, segments, levels));
@@ -188,6 +199,7 @@ fn read_case(header: &[u8], input: &[u8]) {
     let how = How {
         separators: separators_at(header, 1),
         lines: lines_at(header, 11),
+        profile: profile_at(header, 11),
     };
     let segment_numbers = least(two_at(header, 7), 120);
     let level_numbers = least(two_at(header, 9), 120);
@@ -238,20 +250,21 @@ fn long_case(header: &[u8], input: &[u8]) {
 // The answer of a rewriting, and the tables and the output afterwards.
 fn rewrite_lent(
     input: &[u8],
+    profile: ProfileName,
     old: Separators,
     new: Separators,
     segments: &mut [u64],
     levels: &mut [u64],
     output: &mut [u8],
 ) {
-    print_answer(rewriting::rewriting::rewrite(input, old, new, segments, levels, output));
+    print_answer(rewriting::rewriting::rewrite(input, profile, old, new, segments, levels, output));
     list(b"segments", segments);
     list(b"levels", levels);
     list_output(output);
 }
 
-// A rewriting, with tables and an output of the sizes that the header has.
-fn rewrite_case(header: &[u8], input: &[u8]) {
+// A rewriting by the profile, with tables and an output of the sizes that the header has.
+fn rewrite_case(header: &[u8], input: &[u8], profile: ProfileName) {
     let old = separators_at(header, 1);
     let new = separators_at(header, 4);
     let segment_numbers = least(two_at(header, 7), 120);
@@ -265,6 +278,7 @@ fn rewrite_case(header: &[u8], input: &[u8]) {
     lend_output(&mut output);
     rewrite_lent(
         input,
+        profile,
         old,
         new,
         &mut segments[..segment_numbers],
@@ -309,10 +323,11 @@ fn lookup_case(header: &[u8], segment: &[u8]) {
 fn run_case(header: &[u8], input: &[u8]) {
     match byte_at(header, 0) {
         1 => read_case(header, input),
-        2 => rewrite_case(header, input),
+        2 => rewrite_case(header, input, ProfileName::Report),
         3 => lookup_case(header, input),
         4 => long_case(header, input),
         5 => number_case(header, input),
+        6 => rewrite_case(header, input, ProfileName::Reply),
         _ => word(b"no such kind\n"),
     }
 }

@@ -7,7 +7,7 @@ use lib.Dec.{eqb}
 use lib.ListN.{length}
 use Rattle.rows.specs.Tags.{tag}
 use Rattle.types.specs.declared.kind.Kind.the-variants.{AN}
-use Rattle.elements.specs.Data.{Shape, Simple, Composite, Element, Rules, nonconformance}
+use Rattle.elements.specs.Data.{Shape, Simple, Composite, Element, Rules, ruledSegments}
 use Rattle.elements.specs.internal.Verdicts.{rulesOf, lastMust}
 use Rattle.elements.specs.declared.rules.Rule.{Rule}
 use Rattle.elements.specs.declared.rules.Entry.{Entry}
@@ -38,7 +38,7 @@ tableAmong [] = []
 tableAmong (x ∷ xs) = tabled x ++ tableAmong xs
 
 unfoldable pub ruleTable : List Entry
-ruleTable = map entryOf (tableAmong (nonconformance .ruled))
+ruleTable = map entryOf (tableAmong ruledSegments)
 
 -- where the rules of a tag start in it
 abbrev pub firstAmong : List (ℕ × Rules) → ℕ → ℕ
@@ -48,7 +48,7 @@ firstAmong (x ∷ xs) t = cond (eqb (x .0) t) 0 (length (tabled x) + firstAmong 
 -- the rules of a tag: where they start, how many elements have one, and the last that is mandatory
 unfoldable pub extentOf : ℕ → Extent
 extentOf t = record {
-  first = firstAmong (nonconformance .ruled) t;
+  first = firstAmong ruledSegments t;
   last = length (rulesOf t .elements);
   needed = lastMust (rulesOf t .elements);
 }

@@ -6,7 +6,7 @@ use mathlib.Core.Bool.{Bool, true, cond}
 use mathlib.Core.List.{List, [], _∷_, _++_}
 use lib.Dec.{eqb}
 use Rattle.text.specs.View.{Piece}
-use Rattle.elements.specs.Data.{Simple, Composite, Element, Rules, value, firstUnit, unitValues, nonconformance}
+use Rattle.elements.specs.Data.{Simple, Composite, Element, Rules, value, firstUnit, unitValues, ruledSegments}
 use Rattle.elements.specs.Checks.{each, firstBroken}
 use Rattle.elements.specs.Rules.{ruleOf, completeBy, suitsBy}
 use Rattle.elements.specs.declared.verdict.Verdict.{Verdict}
@@ -27,7 +27,7 @@ rulesAmong [] tag = record { elements = []; notes = [] }
 rulesAmong (x ∷ xs) tag = cond (eqb (x .0) tag) (x .1) (rulesAmong xs tag)
 
 unfoldable pub rulesOf : ℕ → Rules
-rulesOf tag = rulesAmong (nonconformance .ruled) tag
+rulesOf tag = rulesAmong ruledSegments tag
 
 -- the last mandatory element, from 1; 0 where none is
 abbrev pub lastMust : List Element → ℕ

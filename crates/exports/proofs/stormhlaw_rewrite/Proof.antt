@@ -5,6 +5,9 @@ use Rattle.exports.proofs.Telling.{tell-again}
 use Rattle.exports.proofs.stormhlaw_rewrite.Statement.{statement}
 use Rattle.exports.proofs.stormhlaw_rewrite.Tie as tie
 
+profile-of-requires : tie.Need-profile-of-requires
+profile-of-requires c κs = search needs
+
 separators-of-requires : tie.Need-separators-of-requires
 separators-of-requires c κs = search needs
 
@@ -30,13 +33,15 @@ returns : tie.Need-returns
 returns c =
     let call = c .before .before .before .before .before .before .before in
     let sets = call .before .before .before .before in
-    tell-again _ _ _ _ _ _ (sets .before .separators-of .result) _ (sets .separators-of2 .result) _ _ (sets .before .separators-of .ensures)
-    (sets .separators-of2 .ensures) (call .rewrite .ensures) (c .four .ensures)
+    let chosen = sets .before .before .profile-of in
+    tell-again _ _ _ _ _ _ (chosen .result) _ (sets .before .separators-of .result) _ (sets .separators-of2 .result) _ _ (chosen .ensures)
+    (sets .before .separators-of .ensures) (sets .separators-of2 .ensures) (call .rewrite .ensures) (c .four .ensures)
 
 pub stormhlaw-rewrite-spec : {M : Type 1} → statement M
 stormhlaw-rewrite-spec =
     tie.close
     (tie.spec
+    profile-of-requires
     separators-of-requires
     separators-of-requires-2
     rewrite-requires

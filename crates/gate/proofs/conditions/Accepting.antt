@@ -10,6 +10,7 @@ use lib.ListN.{length, drop, length-append}
 use Rattle.text.specs.Bytes.{Bytes}
 use Rattle.text.specs.View.{viewOf}
 use Rattle.text.specs.Cut.{Whole, Placed, Leads}
+use Rattle.text.proofs.Everys.{every-middle}
 use Rattle.text.proofs.Lists.{map-append, HasLast, has-last}
 use Rattle.rows.specs.Tags.{tag}
 use Rattle.rows.specs.Following.{Fits}
@@ -79,7 +80,7 @@ module _ (profile : Profile) (how : How) (t : Tables) (s : Bytes) where
         leads = rw (x .kept-is)
             (led-snoc 0 s (r .gs) (r .end) (r .rest) (x .segment) (x .keeping .more) (r .passed .leads) (x .keeping .next));
         meets = rw (vs, x .numbers-is)
-            (passed-closed profile (seen how (r .gs)) (r .rows) v (x .row) (numbers (r .passed)) (x .keeping .sound .kept) (x .keeping .sound .fits) (x .last));
+            (passed-closed profile (seen how (r .gs)) (r .rows) v (x .row) (numbers (r .passed)) (x .keeping .sound .kept) (x .keeping .sound .fits) (x .keeping .sound .admitted) (x .last));
         room = rw (vs, onto-append) (x .room);
       }
 
@@ -105,6 +106,7 @@ module _ (profile : Profile) (how : How) (t : Tables) (s : Bytes) where
         passed = record {
           leads = l .leads;
           viable = n .viable;
+          admitted = n .admitted;
           tags = n .tags;
           kept = n .kept;
           ongoing = n .ongoing;
@@ -116,7 +118,11 @@ module _ (profile : Profile) (how : How) (t : Tables) (s : Bytes) where
           keeping = record {
             more = l .more;
             next = l .next;
-            sound = record { kept = from-at (Kept profile) [] vs v [] (m .kept); fits = f };
+            sound = record {
+              kept = from-at (Kept profile) [] vs v [] (m .kept);
+              fits = f;
+              admitted = every-middle (profile .rows) w 79 [] (m .admitted);
+            };
           };
           last = rw (se .1) (eqb-refl (tag "SE"));
           room = r;

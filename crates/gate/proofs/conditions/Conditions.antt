@@ -149,7 +149,7 @@ roomy-room : (how : How) (gs : List Placed) (n : ℕ) → length gs ≤ n → Ha
 unfolding roomy
 roomy-room how gs n l = record {
   segments-fit = simp length-replicate (omega (arith, history-length how gs, l));
-  levels-fit = simp length-replicate (omega (arith, history-length how gs, levels-few (history how gs), l));
+  levels-fit = simp length-replicate (omega (arith, history-length how gs, levels-few (how .profile) (history how gs), l));
 }
 
 -- the numbering is the only one

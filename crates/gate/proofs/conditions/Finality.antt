@@ -23,6 +23,7 @@ use Rattle.gate.specs.Reads.{cutBy, skipBy, Passed, Run}
 use Rattle.gate.specs.Conditions.{Larger, lookedAt, upToSegment, BeginsWith}
 use Rattle.gate.specs.declared.answer.Answer.the-variants.{Accepted, Refused}
 use Rattle.gate.specs.declared.how.How.{How}
+use Rattle.gate.proofs.reading.Numbers.{fault-room}
 use Rattle.gate.proofs.reading.Once.{Fails, refused-fails, refused-byte}
 
 -- room in a table is room in a larger one
@@ -37,6 +38,7 @@ module _ (profile : Profile) (how : How) (fit : Fitted (how .separators)) (t u :
   passed-again s gs rows end b y z p f = record {
     leads = f .still b z (inl refl);
     viable = p .viable;
+    admitted = p .admitted;
     tags = p .tags;
     kept = p .kept;
     ongoing = p .ongoing;
@@ -113,7 +115,7 @@ module _ (profile : Profile) (how : How) (fit : Fitted (how .separators)) (t u :
         looked-is = ap (lookedAt how) (cut (x .more));
         still = λ more. inr (inl (record { segment = g; more = more; next = cut more; first = x .first }));
       }
-  rests gs rows end rest n e fault (inr (inr x)) = absurd (omega (arith, x .number-is, fault .upto))
+  rests gs rows end rest n e fault (inr (inr x)) = absurd (fault-room n fault (x .number-is))
 
   -- a fault, in the bytes
   module _ (s : Bytes) (n k b e : ℕ) (kept : List Placed) (w : List ℕ) (fault : Fault n) (r : Run profile how t s (Refused n k b e) kept w) where

@@ -11,17 +11,18 @@ use borrow.Author.Tests.{le-leb}
 use Rattle.text.specs.Bytes.{Bytes}
 use Rattle.text.specs.Separators.{Fitted, fitSeparators}
 use Rattle.text.specs.Pieces.{closed}
-use Rattle.text.specs.Cut.{Cut, Whole, Placed, lineEnd}
+use Rattle.text.specs.Cut.{Cut, Whole, cutOf, Placed, lineEnd}
 use Rattle.text.specs.declared.lines.LineEnds.the-variants.{Skipped, Strict}
 use Rattle.text.specs.declared.separators.Separators.{Separators}
 use Rattle.text.proofs.Bools.{passes}
 use Rattle.text.proofs.View.{fitted}
 use Rattle.text.proofs.CutLaws.{CutLaw}
 use Rattle.text.proofs.DocumentCut.{cut-law}
+use Rattle.rows.specs.declared.profile.ProfileName.{ProfileName}
 use Rattle.gate.specs.Profile.{Profile, profileOf}
 use Rattle.gate.specs.Segments.{seen, onto, levelsIn}
 use Rattle.gate.specs.Records.{Tables, recorded}
-use Rattle.gate.specs.Reads.{limit, cutBy, Ends, Read, ReadsBy, Reads}
+use Rattle.gate.specs.Reads.{limit, Ends, Read, ReadsBy, Reads}
 use Rattle.gate.specs.declared.answer.Answer.{Answer}
 use Rattle.gate.specs.declared.answer.Answer.the-variants.{Accepted, Refused}
 use Rattle.gate.proofs.reading.Moved.{reading, passed-moved, room-moved, keeping-moved, fails-moved}
@@ -46,7 +47,7 @@ SameVerdict (Refused number segment byte element) (Refused number′ segment′ 
     (number ≡ number′) × (segment ≡ segment′) × (element ≡ element′)
 
 -- what the strict reading says of bytes whose line ends are taken out
-pub record TakenOut (q : Separators) (s : Bytes) (before : Tables) (r : Answer) (after : Tables) : Type 0 where
+pub record TakenOut (name : ProfileName) (q : Separators) (s : Bytes) (before : Tables) (r : Answer) (after : Tables) : Type 0 where
   -- the segments before the last one that was looked at, past line ends, and the bytes from that one on
   pub gs : List Placed
   pub end : ℕ
@@ -55,19 +56,19 @@ pub record TakenOut (q : Separators) (s : Bytes) (before : Tables) (r : Answer) 
   -- the bytes without those line ends, read strictly, get the same verdict,
   pub answer : Answer
   pub tables : Tables
-  pub reads : Reads (reading q Strict) (bare q gs ++ rest) before answer tables
+  pub reads : Reads (reading name q Strict) (bare q gs ++ rest) before answer tables
   pub verdict : SameVerdict r answer
   -- and the tables show the same segments by the same rows, with the same elements, where they stand now; and the same levels
   pub kept : List Placed
   pub rows : List ℕ
-  pub shown : after ≡ recorded (profileOf (reading q Skipped)) (reading q Skipped) before kept rows
-  pub shown-strictly : tables ≡ recorded (profileOf (reading q Strict)) (reading q Strict) before (closedUp 0 kept) rows
-  pub elements : seen (reading q Strict) (closedUp 0 kept) ≡ seen (reading q Skipped) kept
+  pub shown : after ≡ recorded (profileOf (reading name q Skipped)) (reading name q Skipped) before kept rows
+  pub shown-strictly : tables ≡ recorded (profileOf (reading name q Strict)) (reading name q Strict) before (closedUp 0 kept) rows
+  pub elements : seen (reading name q Strict) (closedUp 0 kept) ≡ seen (reading name q Skipped) kept
   pub levels : tables .levels ≡ after .levels
 
-seen-closed : (q : Separators) (at : ℕ) (gs : List Placed) → seen (reading q Strict) (closedUp at gs) ≡ seen (reading q Skipped) gs
-seen-closed q at [] = refl
-seen-closed q at (g ∷ gs) = rw (seen-closed q (at + length (g .segment) + 1) gs)
+seen-closed : (name : ProfileName) (q : Separators) (at : ℕ) (gs : List Placed) → seen (reading name q Strict) (closedUp at gs) ≡ seen (reading name q Skipped) gs
+seen-closed name q at [] = refl
+seen-closed name q at (g ∷ gs) = rw (seen-closed name q (at + length (g .segment) + 1) gs)
 
 length-closed : (at : ℕ) (gs : List Placed) → length (closedUp at gs) ≡ length gs
 length-closed at [] = refl
@@ -102,11 +103,11 @@ module _ (q : Separators) where
   bare-led fit at from s [] end to rest l is = (omega (arith, is), refl)
   bare-led fit at from s (g ∷ gs) end to rest l is =
       let more = l .0 in
-      let law : (s ≡ g .segment ++ q .terminator ∷ more) × ((x : Bytes) → cutBy (reading q Strict) (g .segment ++ q .terminator ∷ x) ≡ Whole (g .segment) x) =
-      subst (λ (c : Cut). CutLaw (q .terminator) (cutBy (reading q Strict)) s c) (l .1) (cut-law q fit s) in
+      let law : (s ≡ g .segment ++ q .terminator ∷ more) × ((x : Bytes) → cutOf q (g .segment ++ q .terminator ∷ x) ≡ Whole (g .segment) x) =
+      subst (λ (c : Cut). CutLaw (q .terminator) (cutOf q) s c) (l .1) (cut-law q fit s) in
       let next : at + length (g .segment) + 1 ≡ at + length (g .segment) + 1 + 0 = omega arith in (
         bare q gs ++ rest,
-        ap (cutBy (reading q Strict)) (append-assoc (g .segment) (q .terminator ∷ bare q gs) rest) ∙ law .1 (bare q gs ++ rest),
+        ap (cutOf q) (append-assoc (g .segment) (q .terminator ∷ bare q gs) rest) ∙ law .1 (bare q gs ++ rest),
         refl,
         rw (← next)
             (bare-led fit (at + length (g .segment) + 1) (from + length (g .segment) + 1 + lineEnd q more) (drop (lineEnd q more) more) gs end to rest (l .3)
@@ -114,32 +115,32 @@ module _ (q : Separators) where
       )
 
 -- how the reading of the bytes without line ends ends
-module _ (profile : Profile) (q : Separators) (before : Tables) (gs : List Placed) (rows : List ℕ) (end : ℕ) (rest : Bytes) where
+module _ (profile : Profile) (name : ProfileName) (q : Separators) (before : Tables) (gs : List Placed) (rows : List ℕ) (end : ℕ) (rest : Bytes) where
   abbrev to : ℕ
   to = length (bare q gs)
 
   record EndsStrictly (r : Answer) (kept : List Placed) (numbers : List ℕ) : Type 0 where
     answer : Answer
-    ends : Ends profile (reading q Strict) before (closedUp 0 gs) rows to rest answer (closedUp 0 kept) numbers
+    ends : Ends profile (reading name q Strict) before (closedUp 0 gs) rows to rest answer (closedUp 0 kept) numbers
     verdict : SameVerdict r answer
 
-  ends-strictly : (r : Answer) (kept : List Placed) (numbers : List ℕ) → Ends profile (reading q Skipped) before gs rows end rest r kept numbers
+  ends-strictly : (r : Answer) (kept : List Placed) (numbers : List ℕ) → Ends profile (reading name q Skipped) before gs rows end rest r kept numbers
       → EndsStrictly r kept numbers
   ends-strictly (Accepted segments levels bytes) kept numbers x = record {
     answer = Accepted segments levels (to + length (x .segment) + 1);
     ends = record {
       segment = x .segment;
       row = x .row;
-      keeping = keeping-moved profile q Skipped Strict before gs (closedUp 0 gs) rows end to rest (seen-closed q 0 gs) (x .segment) (x .row) (x .keeping);
+      keeping = keeping-moved profile name q Skipped Strict before gs (closedUp 0 gs) rows end to rest (seen-closed name q 0 gs) (x .segment) (x .row) (x .keeping);
       last = x .last;
-      room = room-moved profile q Skipped Strict before gs (closedUp 0 gs) rows end to rest (seen-closed q 0 gs) (x .segment) (x .room);
+      room = room-moved profile name q Skipped Strict before gs (closedUp 0 gs) rows end to rest (seen-closed name q 0 gs) (x .segment) (x .room);
       kept-is = ap (closedUp 0) (x .kept-is) ∙ closed-more q 0 end gs (x .segment) to (omega arith);
       numbers-is = x .numbers-is;
       counts =
           let c = x .counts in
           let n : segments ≡ length kept = cc in
-          let l : levels ≡ length (levelsIn profile (onto [] (seen (reading q Skipped) kept))) = cc in
-          rw (length-closed 0 kept, seen-closed q 0 kept, n, l);
+          let l : levels ≡ length (levelsIn profile (onto [] (seen (reading name q Skipped) kept))) = cc in
+          rw (length-closed 0 kept, seen-closed name q 0 kept, n, l);
     };
     verdict = (refl, refl);
   }
@@ -148,7 +149,7 @@ module _ (profile : Profile) (q : Separators) (before : Tables) (gs : List Place
     ends = record {
       number = x .number;
       element = x .element;
-      cause = fails-moved profile q Skipped Strict before gs (closedUp 0 gs) rows end to rest (seen-closed q 0 gs) (x .number) (x .element) (x .cause);
+      cause = fails-moved profile name q Skipped Strict before gs (closedUp 0 gs) rows end to rest (seen-closed name q 0 gs) (x .number) (x .element) (x .cause);
       kept-is = ap (closedUp 0) (x .kept-is);
       numbers-is = x .numbers-is;
       place =
@@ -162,23 +163,23 @@ module _ (profile : Profile) (q : Separators) (before : Tables) (gs : List Place
   }
 
 -- it leaves the same levels
-levels-closed : (profile : Profile) (q : Separators) (before : Tables) (gs : List Placed) (rows : List ℕ)
-    → recorded profile (reading q Strict) before (closedUp 0 gs) rows .levels ≡ recorded profile (reading q Skipped) before gs rows .levels
-levels-closed profile q before gs rows = rw (seen-closed q 0 gs)
+levels-closed : (profile : Profile) (name : ProfileName) (q : Separators) (before : Tables) (gs : List Placed) (rows : List ℕ)
+    → recorded profile (reading name q Strict) before (closedUp 0 gs) rows .levels ≡ recorded profile (reading name q Skipped) before gs rows .levels
+levels-closed profile name q before gs rows = rw (seen-closed name q 0 gs)
 
 -- a report read past its line ends, and the same bytes without them, read strictly
-pub line-ends-taken-out : (q : Separators) (s : Bytes) → T (fitSeparators q) → length s ≤ limit → (before : Tables) (r : Answer) (after : Tables)
-    → Reads (reading q Skipped) s before r after → TakenOut q s before r after
+pub line-ends-taken-out : (name : ProfileName) (q : Separators) (s : Bytes) → T (fitSeparators q) → length s ≤ limit → (before : Tables) (r : Answer) (after : Tables)
+    → Reads (reading name q Skipped) s before r after → TakenOut name q s before r after
 unfolding ReadsBy
-line-ends-taken-out q s fit short before r after y =
-    let profile = profileOf (reading q Strict) in
-    let read = reads-read (reading q Skipped) s fit short before r after y in
+line-ends-taken-out name q s fit short before r after y =
+    let profile = profileOf (reading name q Strict) in
+    let read = reads-read (reading name q Skipped) s fit short before r after y in
     let x = read .run in
     let t = bare q (x .gs) ++ x .rest in
     let led = bare-led q (fitted q fit) 0 0 s (x .gs) (x .end) (length (bare q (x .gs))) (x .rest) (x .passed .leads) (omega arith) in
-    let last = ends-strictly profile q before (x .gs) (x .rows) (x .end) (x .rest) r (read .kept) (read .numbers) (x .ends) in
-    let tables = recorded profile (reading q Strict) before (closedUp 0 (read .kept)) (read .numbers) in
-    let strict : Read profile (reading q Strict) t before (last .answer) tables =
+    let last = ends-strictly profile name q before (x .gs) (x .rows) (x .end) (x .rest) r (read .kept) (read .numbers) (x .ends) in
+    let tables = recorded profile (reading name q Strict) before (closedUp 0 (read .kept)) (read .numbers) in
+    let strict : Read profile (reading name q Strict) t before (last .answer) tables =
     record {
       kept = closedUp 0 (read .kept);
       numbers = read .numbers;
@@ -187,8 +188,8 @@ line-ends-taken-out q s fit short before r after y =
         rows = x .rows;
         end = length (bare q (x .gs));
         rest = x .rest;
-        passed = passed-moved profile q Skipped Strict before (x .gs) (closedUp 0 (x .gs)) (x .rows) (x .end) (length (bare q (x .gs))) (x .rest)
-            (seen-closed q 0 (x .gs)) s t led (x .passed);
+        passed = passed-moved profile name q Skipped Strict before (x .gs) (closedUp 0 (x .gs)) (x .rows) (x .end) (length (bare q (x .gs))) (x .rest)
+            (seen-closed name q 0 (x .gs)) s t led (x .passed);
         ends = last .ends;
       };
       tables = refl;
@@ -207,6 +208,6 @@ line-ends-taken-out q s fit short before r after y =
       rows = read .numbers;
       shown = read .tables;
       shown-strictly = refl;
-      elements = seen-closed q 0 (read .kept);
-      levels = levels-closed profile q before (read .kept) (read .numbers) ∙ sym (ap (λ (t : Tables). t .levels) (read .tables));
+      elements = seen-closed name q 0 (read .kept);
+      levels = levels-closed profile name q before (read .kept) (read .numbers) ∙ sym (ap (λ (t : Tables). t .levels) (read .tables));
     }

@@ -3,18 +3,15 @@
 -- not, as it says. With a CR LF behind each segment W1 is accepted by the default and refused strictly.
 -- Assumes nothing.
 use Prim.Native.Nat.{ℕ}
-use Prim.Native.String.{String}
-use mathlib.Core.Path.{_≡_, refl, ap, _∙_}
-use mathlib.Core.Bool.{Bool, true, not}
-use mathlib.Core.List.{List, [], _∷_, map}
-use lib.Dec.{T, leb}
-use lib.ListN.{length}
-use borrow.Author.Tests.{leb-true}
+use mathlib.Core.Path.{refl}
+use mathlib.Core.Bool.{not}
+use mathlib.Core.List.{List, [], _∷_}
+use lib.Dec.{T}
 use Rattle.text.specs.Bytes.{bytes}
-use Rattle.text.specs.Separators.{standard, fitSeparators, mayServe}
 use Rattle.rows.specs.Tags.{tagNumber}
 use Rattle.rows.specs.Rows.{list842}
 use Rattle.rows.specs.RowList.{rowAt, maxOf}
+use Rattle.rows.specs.declared.profile.ProfileName.the-variants.{Report}
 use Rattle.rows.proofs.NextRows.{nextOf, after, edges842}
 use Rattle.rows.proofs.RowStep.{stepOf}
 use Rattle.types.specs.Reals.{isReal}
@@ -27,30 +24,11 @@ use Rattle.text.specs.declared.lines.LineEnds.the-variants.{Skipped, Strict}
 use Rattle.elements.specs.Rules.{dataChecks, byteChecks, endChecks, ruledChecks}
 use Rattle.levels.specs.Profile.{codeOf, mayStandAlone, mayBeMarked, mayHang}
 use Rattle.levels.specs.Rules.{filled}
-use Rattle.gate.specs.Profile.{nonconformance}
 use Rattle.gate.specs.Segments.{tagIn, levelsIn}
 use Rattle.gate.specs.Rules.{tagChecks, hlChecks, seChecks}
-use Rattle.gate.specs.Records.{Tables, segmentRecords, levelRecords, segmentRoom, levelRoom, over}
-use Rattle.gate.specs.Reads.{limit, Read, Reads}
-use Rattle.gate.specs.declared.answer.Answer.{Answer}
 use Rattle.gate.specs.declared.answer.Answer.the-variants.{Accepted, Refused}
-use Rattle.gate.specs.declared.how.How.{How}
-use Rattle.gate.proofs.conditions.Conditions.{reads-read}
-use Rattle.gate.proofs.reading.Once.{run-once}
-use Rattle.gate.proofs.reading.Reference.{compute, says, computes}
-
--- a report, the room there is, the answer, and the records
-pub record Case : Type 0 where
-  pub report : String
-  pub segment-room : ℕ
-  pub level-room : ℕ
-  pub answer : Answer
-  pub segments : List ℕ
-  pub levels : List ℕ
-
--- the standard separators, by this choice of line ends
-abbrev pub usual : LineEnds → How
-usual lines = record { separators = standard; lines = lines }
+use Rattle.gate.proofs.reading.Reference.{compute, says}
+use Rattle.gate.proofs.conditions.Shown.{Case, Shown, AllShown, AllComputed, all-shown}
 
 abbrev of-choice : {A : Type 0} → LineEnds → A → A → A
 of-choice Skipped by-default strictly = by-default
@@ -153,69 +131,15 @@ with-line-ends lines = record {
   levels = of-choice lines (3 ∷ 0 ∷ 1 ∷ 1 ∷ 4 ∷ 1 ∷ 2 ∷ 2 ∷ []) [];
 }
 
--- what a case says of the promise of reading
-abbrev pub Shown : LineEnds → Case → Type 0
-Shown lines c = (before after : Tables) (r : Answer) → segmentRoom before ≡ c .segment-room → levelRoom before ≡ c .level-room
-    → Reads (usual lines) (bytes (c .report)) before r after
-    → (r ≡ c .answer) × (after ≡ record { segments = over (before .segments) (c .segments); levels = over (before .levels) (c .levels) })
-
-abbrev pub AllShown : LineEnds → List Case → Type 0
-AllShown lines [] = Unit {0}
-AllShown lines (c ∷ cs) = Shown lines c × AllShown lines cs
-
--- What the computed reading gives of a report that is not too long, and what the case says of it
-abbrev Outcome : Type 0
-Outcome = Answer × List ℕ × List ℕ × Bool
-
-abbrev outcome : LineEnds → Case → Outcome
-outcome lines c =
-    let o = compute nonconformance (usual lines) (c .segment-room) (c .level-room) (bytes (c .report)) in
-    (o .0, segmentRecords (usual lines) [] (o .1) (o .2), levelRecords nonconformance (usual lines) (o .1), leb (length (bytes (c .report))) limit)
-
-abbrev told : Case → Outcome
-told c = (c .answer, c .segments, c .levels, true)
-
--- are the same of all cases
-abbrev AllComputed : LineEnds → List Case → Type 0
-AllComputed lines cs = map (outcome lines) cs ≡ map told cs
-
-computed : (lines : LineEnds) → AllComputed lines (with-line-ends lines ∷ cases)
+computed : (lines : LineEnds) → AllComputed Report lines (with-line-ends lines ∷ cases)
 unfolding compute says stepOf tagIn tagNumber nextOf after edges842 list842 maxOf rowAt beginsBin isBin viewOf inspected cutAttached cutOf byteChecks dataChecks endChecks tagChecks ruledChecks hlChecks seChecks levelsIn fits isReal isDate isTime daysIn codeOf mayStandAlone mayBeMarked mayHang filled
 computed Skipped = refl
 computed Strict = refl
 
-read-shown : (lines : LineEnds) (c : Case) → outcome lines c ≡ told c → (before after : Tables) (r : Answer)
-    → segmentRoom before ≡ c .segment-room → levelRoom before ≡ c .level-room
-    → Read nonconformance (usual lines) (bytes (c .report)) before r after
-    → (r ≡ c .answer) × (after ≡ record { segments = over (before .segments) (c .segments); levels = over (before .levels) (c .levels) })
-read-shown lines c k before after r p q x =
-    let u = run-once (x .run) (rw (p, q) at (computes nonconformance (usual lines) before (bytes (c .report)))) in
-    let a : segmentRecords (usual lines) [] (x .kept) (x .numbers) ≡ c .segments =
-    (λ i. segmentRecords (usual lines) [] (u .1 i) (u .2 i)) ∙ ap (λ (o : Outcome). o .1) k in
-    let b : levelRecords nonconformance (usual lines) (x .kept) ≡ c .levels =
-    (λ i. levelRecords nonconformance (usual lines) (u .1 i)) ∙ ap (λ (o : Outcome). o .2) k in
-    (u .0 ∙ ap (λ (o : Outcome). o .0) k, x .tables ∙ (λ i. record { segments = over (before .segments) (a i); levels = over (before .levels) (b i) }))
-
--- the standard separators are fit
-pub standard-fit : T (fitSeparators standard)
-unfolding mayServe
-standard-fit = tt
-
-all-shown : (lines : LineEnds) (cs : List Case) → AllComputed lines cs → AllShown lines cs
-all-shown lines [] k = tt
-all-shown lines (c ∷ cs) k =
-    let first : outcome lines c ≡ told c = cc in
-    let short : leb (length (bytes (c .report))) limit ≡ true = ap (λ (o : Outcome). o .3) first in (
-      λ before after r p q x.
-          read-shown lines c first before after r p q
-          (reads-read (usual lines) (bytes (c .report)) standard-fit (leb-true (length (bytes (c .report))) limit short) before r after x),
-      all-shown lines cs (cc),
-    )
-
 -- W1 to W12
 pub record Worked : Type 0 where
-  pub reports : (lines : LineEnds) → AllShown lines cases
-  pub line-ends : (lines : LineEnds) → Shown lines (with-line-ends lines)
+  pub reports : (lines : LineEnds) → AllShown Report lines cases
+  pub line-ends : (lines : LineEnds) → Shown Report lines (with-line-ends lines)
   -- W11: a leap day in a leap year and in another
   pub real-date : T (isDate (bytes "20240229"))
   pub unreal-date : T (not (isDate (bytes "20230229")))
@@ -223,8 +147,8 @@ pub record Worked : Type 0 where
   pub fit-time : T (isTime (bytes "2359"))
   pub unfit-time : T (not (isTime (bytes "23595")))
 
-shown : (lines : LineEnds) → AllShown lines (with-line-ends lines ∷ cases)
-shown lines = all-shown lines (with-line-ends lines ∷ cases) (computed lines)
+shown : (lines : LineEnds) → AllShown Report lines (with-line-ends lines ∷ cases)
+shown lines = all-shown Report lines (with-line-ends lines ∷ cases) (computed lines)
 
 pub worked : Worked
 unfolding isDate isTime daysIn

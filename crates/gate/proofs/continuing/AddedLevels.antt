@@ -19,23 +19,25 @@ use Rattle.text.proofs.Everys.{every-weaker}
 use Rattle.rows.specs.Tags.{tagNumber}
 use Rattle.types.specs.Types.{isId}
 use Rattle.elements.specs.Checks.{Keeps}
-use Rattle.levels.specs.Profile.{codeOf, mayStandAlone, mayBeMarked, mayHang}
+use Rattle.rows.specs.declared.profile.ProfileName.{ProfileName}
+use Rattle.rows.specs.declared.profile.ProfileName.the-variants.{Report, Reply}
+use Rattle.levels.specs.Profile.{levelProfile, codeOf, mayStandAlone, mayBeMarked, mayHang}
 use Rattle.levels.specs.Levels.{claimOf, Level, called, levelAt, levelOf}
 use Rattle.levels.specs.Rules.{levelChecks}
 use Rattle.gate.specs.Segments.{tagIn, isHL, levelsIn}
 use Rattle.gate.proofs.continuing.FreshNames.{Differs, fresh}
-use Rattle.gate.proofs.continuing.AddedSegments.{levels, ruling, Text, id-bytes-text, hlView}
+use Rattle.gate.proofs.continuing.AddedSegments.{levels, Text, id-bytes-text, hlView, FewOf, report-few}
 use Rattle.gate.proofs.continuing.LevelNames.{levels-hl, levels-other, level-earlier, level-latest, served}
 
 -- there are no more levels than segments
-pub levels-few : (h : List View) → length (levels h) ≤ length h
+pub levels-few : (name : ProfileName) (h : List View) → length (levels name h) ≤ length h
 unfolding levelsIn
-levels-few [] = omega arith
-levels-few (v ∷ h) = go (isHL v) refl (levels-few h)
+levels-few name [] = omega arith
+levels-few name (v ∷ h) = go (isHL v) refl (levels-few name h)
   where
-    go : (b : Bool) → isHL v ≡ b → length (levels h) ≤ length h → length (levels (v ∷ h)) ≤ suc (length h)
-    go true e i = rw (levels-hl h v e) (omega arith)
-    go false e i = rw (levels-other h v e) (omega arith)
+    go : (b : Bool) → isHL v ≡ b → length (levels name h) ≤ length h → length (levels name (v ∷ h)) ≤ suc (length h)
+    go true e i = rw (levels-hl name h v e) (omega arith)
+    go false e i = rw (levels-other name h v e) (omega arith)
 
 -- a name that no level has
 pub record Newcomer (q : Separators) (ls : List Level) : Type 0 where
@@ -67,50 +69,79 @@ module _ (q : Separators) (fit : Fitted q) where
         new = differs-called (f .name) ls (f .differs);
       }
 
-  -- a code that may hang under a code that may be marked 1
-  pub record ChildCode (c : ℕ) : Type 0 where
+  -- a code that may hang under a code that may be marked 1, in an HL with a parent
+  pub record ChildCode (profile : ProfileName) (c : ℕ) : Type 0 where
     pub text : Bytes
     pub sized : Text q 1 2 text
     pub spelled : T (isId text)
-    pub known : T (leb 1 (codeOf ruling text))
-    pub hangs : T (mayHang ruling c (codeOf ruling text))
+    pub few : (id parent : Bytes) → FewOf profile id parent text
+    pub known : T (leb 1 (codeOf (levelProfile profile) text))
+    pub hangs : T (mayHang (levelProfile profile) c (codeOf (levelProfile profile) text))
+
+  abbrev capitals : (text : Bytes) → T (every isIdByte text) → 1 ≤ length text → length text ≤ 2 → Text q 1 2 text
+  capitals text = id-bytes-text q fit 1 2 text
 
   -- I under RP
-  code-under-rp : ChildCode 1
+  code-under-rp : ChildCode Report 1
   unfolding codeOf mayHang
-  code-under-rp = record { text = bytes "I"; sized = id-bytes-text q fit 1 2 (bytes "I") tt (omega arith) (omega arith); spelled = tt; known = tt; hangs = tt }
+  code-under-rp = record {
+    text = bytes "I";
+    sized = capitals (bytes "I") tt (omega arith) (omega arith);
+    spelled = tt;
+    few = λ id parent. report-few id parent (bytes "I");
+    known = tt;
+    hangs = tt;
+  }
 
   -- F under I
-  code-under-i : ChildCode 2
+  code-under-i : ChildCode Report 2
   unfolding codeOf mayHang
-  code-under-i = record { text = bytes "F"; sized = id-bytes-text q fit 1 2 (bytes "F") tt (omega arith) (omega arith); spelled = tt; known = tt; hangs = tt }
+  code-under-i = record {
+    text = bytes "F";
+    sized = capitals (bytes "F") tt (omega arith) (omega arith);
+    spelled = tt;
+    few = λ id parent. report-few id parent (bytes "F");
+    known = tt;
+    hangs = tt;
+  }
 
   -- PC under F
-  code-under-f : ChildCode 3
+  code-under-f : ChildCode Report 3
   unfolding codeOf mayHang
-  code-under-f = record { text = bytes "PC"; sized = id-bytes-text q fit 1 2 (bytes "PC") tt (omega arith) (omega arith); spelled = tt; known = tt; hangs = tt }
+  code-under-f = record {
+    text = bytes "PC";
+    sized = capitals (bytes "PC") tt (omega arith) (omega arith);
+    spelled = tt;
+    few = λ id parent. report-few id parent (bytes "PC");
+    known = tt;
+    hangs = tt;
+  }
 
-  -- every code that may be marked 1 has one
-  pub child-code : (c : ℕ) → T (mayBeMarked ruling c) → ChildCode c
+  -- every code that may be marked 1 has one; in a reply none may
+  pub child-code : (profile : ProfileName) (c : ℕ) → T (mayBeMarked (levelProfile profile) c) → ChildCode profile c
   unfolding mayBeMarked
-  child-code c =
+  child-code Report c m =
       or-cases (eqb c 1) (eqb c 2 || (eqb c 3 || false)) (λ t. under c 1 t code-under-rp)
       (or-cases (eqb c 2) (eqb c 3 || false) (λ t. under c 2 t code-under-i)
       (or-cases (eqb c 3) false (λ t. under c 3 t code-under-f) (λ t. absurd t)))
+      m
     where
-      under : (c d : ℕ) → T (eqb c d) → ChildCode d → ChildCode c
-      under c d t x = subst ChildCode (sym (eqb→eq c d t)) x
+      under : (c d : ℕ) → T (eqb c d) → ChildCode Report d → ChildCode Report c
+      under c d t x = subst (ChildCode Report) (sym (eqb→eq c d t)) x
+  child-code Reply c m = absurd m
 
 -- an RP without a parent keeps the rules of levels
-pub root-checks : (ls : List Level) (id : Bytes) → called id ls ≡ 0 → Keeps (levelChecks ruling ls (claimOf (hlView id [] (bytes "RP"))))
+pub root-checks : (name : ProfileName) (ls : List Level) (id : Bytes) → called id ls ≡ 0
+    → Keeps (levelChecks (levelProfile name) ls (claimOf (hlView id [] (bytes "RP"))))
 unfolding codeOf mayStandAlone
-root-checks ls id new = (rw new tt, (tt, (tt, (tt, tt))))
+root-checks Report ls id new = (rw new tt, (tt, (tt, (tt, tt))))
+root-checks Reply ls id new = (rw new tt, (tt, (tt, (tt, tt))))
 
 -- and so does an HL under level m, which is marked 1
-pub child-checks : (ls : List Level) (m : ℕ) (id parent code : Bytes) → 1 ≤ m → called id ls ≡ 0 → called parent ls ≡ m → 1 ≤ length parent
-    → T (leb 1 (codeOf ruling code)) → T (mayHang ruling (levelAt m ls .code) (codeOf ruling code))
-    → T (same (levelAt m ls .mark) (bytes "1")) → Keeps (levelChecks ruling ls (claimOf (hlView id parent code)))
-child-checks ls m id parent code l new found some known hangs marked =
+pub child-checks : (name : ProfileName) (ls : List Level) (m : ℕ) (id parent code : Bytes) → 1 ≤ m → called id ls ≡ 0 → called parent ls ≡ m → 1 ≤ length parent
+    → T (leb 1 (codeOf (levelProfile name) code)) → T (mayHang (levelProfile name) (levelAt m ls .code) (codeOf (levelProfile name) code))
+    → T (same (levelAt m ls .mark) (bytes "1")) → Keeps (levelChecks (levelProfile name) ls (claimOf (hlView id parent code)))
+child-checks name ls m id parent code l new found some known hangs marked =
     let there : eqb (length parent) 0 ≡ false = ne-eqb (length parent) 0 (λ z. omega arith) in
     let one : levelAt m ls .mark ≡ bytes "1" = same-equal (levelAt m ls .mark) (bytes "1") marked in
     (rw new tt, (rw (there, found) (le→leb 1 m l), rw (there, found, one) (known, (hangs, (tt, (tt, tt))))))
@@ -149,5 +180,5 @@ unfolding tagIn tagNumber
 hl-is id parent code = refl
 
 -- the level that an HL without a mark makes
-abbrev pub newLevel : List View → Bytes → Bytes → Bytes → Level
-newLevel h id parent code = levelOf ruling (suc (length h)) (claimOf (hlView id parent code)) (levels h)
+abbrev pub newLevel : ProfileName → List View → Bytes → Bytes → Bytes → Level
+newLevel name h id parent code = levelOf (levelProfile name) (suc (length h)) (claimOf (hlView id parent code)) (levels name h)

@@ -20,25 +20,24 @@ use Rattle.text.proofs.Serving.{serves-apart}
 use Rattle.text.proofs.Writable.{wellCounted, writes}
 use Rattle.rows.specs.Tags.{tag, tagNumber}
 use Rattle.types.specs.Types.{isId, isNumber, fits}
-use Rattle.elements.specs.Data.{Rules, rulesHL, rulesSE}
+use Rattle.rows.specs.declared.profile.ProfileName.{ProfileName}
+use Rattle.rows.specs.declared.profile.ProfileName.the-variants.{Report, Reply}
+use Rattle.elements.specs.Data.{Rules, rulesHL, rulesSE, elementProfile}
 use Rattle.elements.specs.Checks.{Check, each, Keeps}
 use Rattle.elements.specs.Rules.{dataPiece, dataChecks, byteChecks, endChecks, tooManyChecks, missingChecks, unfitChecks, noteChecks, checksBy, ruledChecks, presentAt}
 use Rattle.types.specs.declared.kind.Kind.the-variants.{AN, ID, N0}
-use Rattle.levels.specs.Profile.{LevelProfile}
+use Rattle.levels.specs.Profile.{levelProfile}
 use Rattle.levels.specs.Levels.{claimOf, Level}
 use Rattle.levels.specs.Rules.{levelChecks}
-use Rattle.gate.specs.Profile.{nonconformance}
+use Rattle.gate.specs.Profile.{profileNamed}
 use Rattle.gate.specs.Segments.{tagIn, isHL, isSE, levelsIn}
 use Rattle.gate.specs.Rules.{hlChecks, closingChecks, seChecks, Kept}
 use Rattle.gate.proofs.reading.Laws.{keeps-both}
+use Rattle.gate.proofs.reading.ElementTexts.{unusedIn}
 
--- the levels that segments make
-abbrev pub levels : List View → List Level
-levels h = levelsIn nonconformance h
-
--- what is said of levels
-abbrev pub ruling : LevelProfile
-ruling = nonconformance .levels
+-- the levels that segments make, by the profile of that name
+abbrev pub levels : ProfileName → List View → List Level
+levels name h = levelsIn (profileNamed name) h
 
 -- a byte is no separator
 abbrev pub noSeparator : Separators → ℕ → Bool
@@ -147,10 +146,10 @@ abbrev pub seView : Bytes → Bytes → View
 seView count control = line "SE" (count ∷ control ∷ [])
 
 -- the four rules of a ruled segment, together
-ruled-kept : (rules : Rules) (v : View) → Keeps (tooManyChecks rules v) → Keeps (missingChecks rules v) → Keeps (unfitChecks rules v)
-    → Keeps (noteChecks (rules .notes) (presentAt v)) → Keeps (checksBy rules v)
-ruled-kept rules v a b c d =
-    let many = tooManyChecks rules v in
+ruled-kept : (rules : Rules) (unused : ℕ → Bool) (v : View) → Keeps (tooManyChecks rules unused v) → Keeps (missingChecks rules v)
+    → Keeps (unfitChecks rules v) → Keeps (noteChecks (rules .notes) (presentAt v)) → Keeps (checksBy rules unused v)
+ruled-kept rules unused v a b c d =
+    let many = tooManyChecks rules unused v in
     let missing = missingChecks rules v in
     let unfit = unfitChecks rules v in
     keeps-both (many ++ missing ++ unfit) (noteChecks (rules .notes) (presentAt v)) (keeps-both (many ++ missing) unfit (keeps-both many missing a b) c) d
@@ -190,13 +189,32 @@ module _ (q : Separators) (fit : Fitted q) where
       line-writes (seView count control) tt
       (line-free "SE" (count ∷ control ∷ []) tt (all-two (every (noSeparator q)) count control (a .free) (b .free))) tt
 
-module _ (q : Separators) (h : List View) where
+-- an HL has no element that must be absent: of a root that is so by either profile
+abbrev pub FewOf : ProfileName → Bytes → Bytes → Bytes → Type 0
+FewOf name id parent code = Keeps (tooManyChecks rulesHL (unusedIn name "HL") (hlView id parent code))
+
+pub root-few : (name : ProfileName) (id code : Bytes) → FewOf name id [] code
+unfolding tagNumber
+root-few Report id code = (tt, (tt, (tt, tt)))
+root-few Reply id code = (tt, (tt, (tt, tt)))
+
+-- and of any by that of reports
+pub report-few : (id parent code : Bytes) → FewOf Report id parent code
+report-few id parent code = (tt, (tt, (tt, tt)))
+
+-- of an SE none must be absent
+se-few : (name : ProfileName) (count control : Bytes) → Keeps (tooManyChecks rulesSE (unusedIn name "SE") (seView count control))
+unfolding tagNumber
+se-few Report count control = (tt, (tt, tt))
+se-few Reply count control = (tt, (tt, tt))
+
+module _ (name : ProfileName) (q : Separators) (h : List View) where
   -- an HL with fit elements keeps the rules that its levels keep
-  pub hl-kept : (id parent code : Bytes) → Text q 1 12 id → Text q 0 12 parent → Text q 1 2 code → T (isId code)
-      → Keeps (levelChecks ruling (levels h) (claimOf (hlView id parent code)))
-      → Kept nonconformance h (hlView id parent code)
+  pub hl-kept : (id parent code : Bytes) → Text q 1 12 id → Text q 0 12 parent → Text q 1 2 code → T (isId code) → FewOf name id parent code
+      → Keeps (levelChecks (levelProfile name) (levels name h) (claimOf (hlView id parent code)))
+      → Kept (profileNamed name) h (hlView id parent code)
   unfolding tagIn tagNumber endChecks ruledChecks hlChecks seChecks fits
-  hl-kept id parent code a b c i k =
+  hl-kept id parent code a b c i few k =
       let there : Keeps (missingChecks rulesHL (hlView id parent code)) = (text-present id (a .long), (tt, (text-present code (c .long), (tt, tt)))) in
       let coded = both (between 1 2 (length code)) (isId code) (text-sized 1 2 code (c .long) (c .short)) i in
       let fit : Keeps (unfitChecks rulesHL (hlView id parent code)) =
@@ -204,14 +222,14 @@ module _ (q : Separators) (h : List View) where
       record {
         bytes = line-bytes "HL" (id ∷ parent ∷ code ∷ []) (all-three (every printable) id parent code (a .printed) (b .printed) (c .printed));
         ends = (tt, (ends-present id true (a .long), (ends-inside parent, (ends-present code false (c .long), tt))));
-        elements = ruled-kept rulesHL (hlView id parent code) (tt, (tt, (tt, tt))) there fit tt;
+        elements = ruled-kept rulesHL (unusedIn name "HL") (hlView id parent code) few there fit tt;
         level = k;
         closing = tt;
       }
 
   -- an SE with fit elements keeps the rules that it closes the segments before it with
   pub se-kept : (count control : Bytes) → Text q 1 10 count → T (isNumber count) → Text q 4 9 control
-      → Keeps (closingChecks nonconformance h (seView count control)) → Kept nonconformance h (seView count control)
+      → Keeps (closingChecks (profileNamed name) h (seView count control)) → Kept (profileNamed name) h (seView count control)
   unfolding tagIn tagNumber endChecks ruledChecks hlChecks seChecks fits
   se-kept count control a n b k =
       let some : 1 ≤ length control = omega (arith, b .long) in
@@ -223,7 +241,7 @@ module _ (q : Separators) (h : List View) where
       record {
         bytes = line-bytes "SE" (count ∷ control ∷ []) (all-two (every printable) count control (a .printed) (b .printed));
         ends = (tt, (ends-present count true (a .long), (ends-present control false some, tt)));
-        elements = ruled-kept rulesSE (seView count control) (tt, (tt, tt)) there fit tt;
+        elements = ruled-kept rulesSE (unusedIn name "SE") (seView count control) (se-few name count control) there fit tt;
         level = tt;
         closing = k;
       }
@@ -239,10 +257,10 @@ unfolding tagIn
 se-tag count control = refl
 
 -- a segment that keeps its rules wherever it stands, makes no level and does not end the transaction
-pub record Added (name : String) : Type 0 where
+pub record Added (profile : ProfileName) (name : String) : Type 0 where
   pub texts : List Bytes
   pub tagged : tagIn (line name texts) ≡ tag name
-  pub kept : (h : List View) → Kept nonconformance h (line name texts)
+  pub kept : (h : List View) → Kept (profileNamed profile) h (line name texts)
   pub no-level : isHL (line name texts) ≡ false
   pub written : (q : Separators) → Fitted q → T (writes q (line name texts))
 
@@ -254,13 +272,13 @@ keeps-all (c ∷ cs) h =
     (first-of (c .holds) rest h, keeps-all cs (second-of (c .holds) rest h))
 
 -- a segment whose tests compute
-added : (name : String) (texts : List Bytes) → tagIn (line name texts) ≡ tag name → T (every (λ (c : Check). c .holds) (byteChecks (line name texts)))
+added : (profile : ProfileName) (name : String) (texts : List Bytes) → tagIn (line name texts) ≡ tag name → T (every (λ (c : Check). c .holds) (byteChecks (line name texts)))
     → T (every (λ (c : Check). c .holds) (endChecks (line name texts)))
-    → T (every (λ (c : Check). c .holds) (ruledChecks (nonconformance .elements) (tagIn (line name texts)) (line name texts)))
+    → T (every (λ (c : Check). c .holds) (ruledChecks (elementProfile profile) (tagIn (line name texts)) (line name texts)))
     → isHL (line name texts) ≡ false → isSE (line name texts) ≡ false → T (wellFormed (line name texts))
-    → T (wellCounted (line name texts)) → T (every (every isIdByte) (bytes name ∷ texts)) → Added name
+    → T (wellCounted (line name texts)) → T (every (every isIdByte) (bytes name ∷ texts)) → Added profile name
 unfolding hlChecks seChecks
-added name texts t a b c i j w n p =
+added profile name texts t a b c i j w n p =
     let v = line name texts in
     record {
       texts = texts;
@@ -268,7 +286,7 @@ added name texts t a b c i j w n p =
       kept = λ h. record {
         bytes = keeps-all (byteChecks v) a;
         ends = keeps-all (endChecks v) b;
-        elements = keeps-all (ruledChecks (nonconformance .elements) (tagIn v) v) c;
+        elements = keeps-all (ruledChecks (elementProfile profile) (tagIn v) v) c;
         level = rw i tt;
         closing = rw j tt;
       };
@@ -281,26 +299,27 @@ added name texts t a b c i j w n p =
     }
 
 -- ST*842*0001
-pub added-st : Added "ST"
+pub added-st : (profile : ProfileName) → Added profile "ST"
 unfolding tagIn tagNumber inspected byteChecks dataChecks endChecks ruledChecks fits
-added-st = added "ST" (bytes "842" ∷ bytes "0001" ∷ []) refl tt tt tt refl refl tt tt tt
+added-st Report = added Report "ST" (bytes "842" ∷ bytes "0001" ∷ []) refl tt tt tt refl refl tt tt tt
+added-st Reply = added Reply "ST" (bytes "842" ∷ bytes "0001" ∷ []) refl tt tt tt refl refl tt tt tt
 
 -- BNR*1
-pub added-bnr : Added "BNR"
+pub added-bnr : (profile : ProfileName) → Added profile "BNR"
 unfolding tagIn tagNumber inspected byteChecks dataChecks endChecks ruledChecks fits
-added-bnr = added "BNR" (bytes "1" ∷ []) refl tt tt tt refl refl tt tt tt
+added-bnr profile = added profile "BNR" (bytes "1" ∷ []) refl tt tt tt refl refl tt tt tt
 
 -- LQ*1
-pub added-lq : Added "LQ"
+pub added-lq : (profile : ProfileName) → Added profile "LQ"
 unfolding tagIn tagNumber inspected byteChecks dataChecks endChecks ruledChecks fits
-added-lq = added "LQ" (bytes "1" ∷ []) refl tt tt tt refl refl tt tt tt
+added-lq profile = added profile "LQ" (bytes "1" ∷ []) refl tt tt tt refl refl tt tt tt
 
 -- FA2*1
-pub added-fa2 : Added "FA2"
+pub added-fa2 : (profile : ProfileName) → Added profile "FA2"
 unfolding tagIn tagNumber inspected byteChecks dataChecks endChecks ruledChecks fits
-added-fa2 = added "FA2" (bytes "1" ∷ []) refl tt tt tt refl refl tt tt tt
+added-fa2 profile = added profile "FA2" (bytes "1" ∷ []) refl tt tt tt refl refl tt tt tt
 
 -- BIN*1*A
-pub added-bin : Added "BIN"
+pub added-bin : (profile : ProfileName) → Added profile "BIN"
 unfolding tagIn tagNumber inspected byteChecks dataChecks endChecks ruledChecks fits
-added-bin = added "BIN" (bytes "1" ∷ bytes "A" ∷ []) refl tt tt tt refl refl tt tt tt
+added-bin profile = added profile "BIN" (bytes "1" ∷ bytes "A" ∷ []) refl tt tt tt refl refl tt tt tt

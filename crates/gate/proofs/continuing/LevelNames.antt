@@ -24,15 +24,16 @@ use Rattle.elements.specs.Data.{Rules, value, rulesST, rulesHL}
 use Rattle.elements.specs.Checks.{Keeps}
 use Rattle.elements.specs.Rules.{dataPiece, dataChecks, byteChecks, tooManyChecks, missingChecks, fitsSimple, unfitChecks, noteChecks, checksBy, presentAt}
 use Rattle.types.specs.declared.kind.Kind.the-variants.{AN}
-use Rattle.levels.specs.Profile.{codeOf, mayBeMarked}
+use Rattle.levels.specs.Profile.{levelProfile, codeOf, mayBeMarked}
 use Rattle.levels.specs.Levels.{textOf, claimOf, Level, called, levelAt, levelOf}
 use Rattle.levels.specs.Rules.{levelChecks, filledFrom, filled}
-use Rattle.gate.specs.Profile.{nonconformance}
+use Rattle.rows.specs.declared.profile.ProfileName.{ProfileName}
+use Rattle.gate.specs.Profile.{profileNamed}
 use Rattle.gate.specs.Segments.{tagIn, isHL, onto, levelsIn}
 use Rattle.gate.specs.Rules.{hlChecks, Kept, From}
 use Rattle.gate.proofs.reading.Laws.{keeps-split, keeps-at}
-use Rattle.gate.proofs.continuing.AddedSegments.{levels, ruling, noSeparator, Text}
-use Rattle.gate.proofs.reading.ElementTexts.{hl-rules, st-rules, hl-no-bin, st-no-bin, inspected-all}
+use Rattle.gate.proofs.continuing.AddedSegments.{levels, noSeparator, Text}
+use Rattle.gate.proofs.reading.ElementTexts.{unusedIn, hl-rules, st-rules, hl-no-bin, st-no-bin, inspected-all}
 use Rattle.levels.proofs.LevelTests.{keeps-passes}
 
 -- of pieces that keep the rule of bytes every one is printable
@@ -70,16 +71,16 @@ element-text q least most v k b u t f =
     }
 
 -- what is mandatory is present, and what is present fits
-ruled-parts : (rules : Rules) (v : View) → Keeps (checksBy rules v) → Keeps (missingChecks rules v) × Keeps (unfitChecks rules v)
-ruled-parts rules v k =
-    let many = tooManyChecks rules v in
+ruled-parts : (rules : Rules) (unused : ℕ → Bool) (v : View) → Keeps (checksBy rules unused v) → Keeps (missingChecks rules v) × Keeps (unfitChecks rules v)
+ruled-parts rules unused v k =
+    let many = tooManyChecks rules unused v in
     let missing = missingChecks rules v in
     let unfit = unfitChecks rules v in
     let a = keeps-split (many ++ missing ++ unfit) (noteChecks (rules .notes) (presentAt v)) k .0 in
     let b = keeps-split (many ++ missing) unfit a in
     (keeps-split many missing (b .0) .1, b .1)
 
-module _ (q : Separators) (h : List View) (v : View) (k : Kept nonconformance h v) (u : T (unseparated q (inspected v))) where
+module _ (name : ProfileName) (q : Separators) (h : List View) (v : View) (k : Kept (profileNamed name) h v) (u : T (unseparated q (inspected v))) where
   -- the rule of bytes, of a segment that is no BIN
   data-kept : inspected v ≡ v → Keeps (dataChecks v)
   unfolding byteChecks
@@ -88,42 +89,42 @@ module _ (q : Separators) (h : List View) (v : View) (k : Kept nonconformance h 
   -- HL01 can be written again
   pub hl-text : tagIn v ≡ tag "HL" → Text q 1 12 (textOf (elementOf v 1))
   hl-text e =
-      let p = ruled-parts rulesHL v (rw (e, hl-rules) at (k .elements)) in
+      let p = ruled-parts rulesHL (unusedIn name "HL") v (rw (e, hl-rules) at (k .elements)) in
       let all = inspected-all v (λ z. hl-no-bin (sym e ∙ z)) in
       element-text q 1 12 v 1 (data-kept all) (rw all at u) (p .0 .0) (p .1 .0)
 
   -- and ST02
   pub st-text : tagIn v ≡ tag "ST" → Text q 4 9 (textOf (elementOf v 2))
   st-text e =
-      let p = ruled-parts rulesST v (rw (e, st-rules) at (k .elements)) in
+      let p = ruled-parts rulesST (unusedIn name "ST") v (rw (e, st-rules) at (k .elements)) in
       let all = inspected-all v (λ z. st-no-bin (sym e ∙ z)) in
       element-text q 4 9 v 2 (data-kept all) (rw all at u) (p .0 .1 .0) (p .1 .1 .0)
 
 -- an HL makes one level more
-pub levels-hl : (h : List View) (v : View) → isHL v ≡ true
-    → levels (v ∷ h) ≡ levelOf ruling (suc (length h)) (claimOf v) (levels h) ∷ levels h
+pub levels-hl : (name : ProfileName) (h : List View) (v : View) → isHL v ≡ true
+    → levels name (v ∷ h) ≡ levelOf (levelProfile name) (suc (length h)) (claimOf v) (levels name h) ∷ levels name h
 unfolding levelsIn
-levels-hl h v e = rw e
+levels-hl name h v e = rw e
 
 -- another segment makes none
-pub levels-other : (h : List View) (v : View) → isHL v ≡ false → levels (v ∷ h) ≡ levels h
+pub levels-other : (name : ProfileName) (h : List View) (v : View) → isHL v ≡ false → levels name (v ∷ h) ≡ levels name h
 unfolding levelsIn
-levels-other h v e = rw e
+levels-other name h v e = rw e
 
 -- a level that can be named as a parent, and can have a child where it is marked 1
-pub record Nameable (q : Separators) (l : Level) : Type 0 where
-  pub name : Text q 1 12 (l .id)
-  pub marked : T (same (l .mark) (bytes "1")) → T (mayBeMarked ruling (l .code))
+pub record Nameable (name : ProfileName) (q : Separators) (l : Level) : Type 0 where
+  pub text : Text q 1 12 (l .id)
+  pub marked : T (same (l .mark) (bytes "1")) → T (mayBeMarked (levelProfile name) (l .code))
 
 -- levels that can all be named, each by a name of its own
-abbrev pub Named : Separators → List Level → Type 0
-Named q [] = Unit {0}
-Named q (l ∷ ls) = Nameable q l × (called (l .id) ls ≡ 0) × Named q ls
+abbrev pub Named : ProfileName → Separators → List Level → Type 0
+Named name q [] = Unit {0}
+Named name q (l ∷ ls) = Nameable name q l × (called (l .id) ls ≡ 0) × Named name q ls
 
 -- no segments make no levels
-pub named-none : (q : Separators) → Named q (levels [])
+pub named-none : (name : ProfileName) (q : Separators) → Named name q (levels name [])
 unfolding levelsIn
-named-none q = tt
+named-none name q = tt
 
 -- the level with an earlier number stays
 pub level-earlier : (m : ℕ) (l : Level) (ls : List Level) → m ≤ length ls → levelAt m (l ∷ ls) ≡ levelAt m ls
@@ -134,14 +135,14 @@ pub level-latest : (l : Level) (ls : List Level) → levelAt (suc (length ls)) (
 level-latest l ls = rw (eq-eqb (suc (length ls)) (suc (length ls)) refl)
 
 -- level m can be named, and its name finds it
-pub record NamedAt (q : Separators) (ls : List Level) (m : ℕ) : Type 0 where
-  pub nameable : Nameable q (levelAt m ls)
+pub record NamedAt (name : ProfileName) (q : Separators) (ls : List Level) (m : ℕ) : Type 0 where
+  pub nameable : Nameable name q (levelAt m ls)
   pub found : called (levelAt m ls .id) ls ≡ m
 
 -- a later level with a new name leaves it so
-named-earlier : (q : Separators) (l : Level) (ls : List Level) (m : ℕ) → 1 ≤ m → m ≤ length ls → called (l .id) ls ≡ 0 → NamedAt q ls m
-    → NamedAt q (l ∷ ls) m
-named-earlier q l ls m a b new n =
+named-earlier : (name : ProfileName) (q : Separators) (l : Level) (ls : List Level) (m : ℕ) → 1 ≤ m → m ≤ length ls → called (l .id) ls ≡ 0 → NamedAt name q ls m
+    → NamedAt name q (l ∷ ls) m
+named-earlier name q l ls m a b new n =
     let other : same (l .id) (levelAt m ls .id) ≡ false =
     fails (same (l .id) (levelAt m ls .id))
     (λ t. let e = ap (λ (s : Bytes). called s ls) (same-equal (l .id) (levelAt m ls .id) t) in omega (arith, n .found, new, e)) in
@@ -151,27 +152,28 @@ named-earlier q l ls m a b new n =
     }
 
 -- and is so itself
-named-latest : (q : Separators) (l : Level) (ls : List Level) → Nameable q l → NamedAt q (l ∷ ls) (suc (length ls))
-named-latest q l ls n = record {
+named-latest : (name : ProfileName) (q : Separators) (l : Level) (ls : List Level) → Nameable name q l → NamedAt name q (l ∷ ls) (suc (length ls))
+named-latest name q l ls n = record {
   nameable = rw (level-latest l ls) n;
   found = rw (level-latest l ls, passes (same (l .id) (l .id)) (same-self (l .id)));
 }
 
 -- so are all of them
-pub named-at : (q : Separators) (ls : List Level) → Named q ls → (m : ℕ) → 1 ≤ m → m ≤ length ls → NamedAt q ls m
-named-at q [] n m a b = absurd (omega arith)
-named-at q (l ∷ ls) n m a b = go (decLt m (suc (length ls))) (named-at q ls (n .2) m a)
+pub named-at : (name : ProfileName) (q : Separators) (ls : List Level) → Named name q ls → (m : ℕ) → 1 ≤ m → m ≤ length ls → NamedAt name q ls m
+named-at name q [] n m a b = absurd (omega arith)
+named-at name q (l ∷ ls) n m a b = go (decLt m (suc (length ls))) (named-at name q ls (n .2) m a)
   where
-    go : Dec (m < suc (length ls)) → (m ≤ length ls → NamedAt q ls m) → NamedAt q (l ∷ ls) m
-    go (yes h) f = named-earlier q l ls m a (omega arith) (n .1) (f (omega arith))
+    go : Dec (m < suc (length ls)) → (m ≤ length ls → NamedAt name q ls m) → NamedAt name q (l ∷ ls) m
+    go (yes h) f = named-earlier name q l ls m a (omega arith) (n .1) (f (omega arith))
     go (no h) f =
         let e : m ≡ suc (length ls) = omega arith in
-        subst (NamedAt q (l ∷ ls)) (sym e) (named-latest q l ls (n .0))
+        subst (NamedAt name q (l ∷ ls)) (sym e) (named-latest name q l ls (n .0))
 
 -- the tests of an HL that keeps its rules
-hl-levels : (h : List View) (v : View) → Kept nonconformance h v → isHL v ≡ true → Keeps (levelChecks ruling (levels h) (claimOf v))
+hl-levels : (name : ProfileName) (h : List View) (v : View) → Kept (profileNamed name) h v → isHL v ≡ true
+    → Keeps (levelChecks (levelProfile name) (levels name h) (claimOf v))
 unfolding hlChecks
-hl-levels h v k e = rw e at (k .level)
+hl-levels name h v k e = rw e at (k .level)
 
 -- a mark 1 is admitted only of a code that may have it
 mark-admitted : (mark : Bytes) (may : Bool) → T (eqb (length mark) 0 || same mark (bytes "0") || (same mark (bytes "1") && may))
@@ -180,31 +182,31 @@ mark-admitted mark may h t =
     subst (λ (s : Bytes). T (eqb (length s) 0 || same s (bytes "0") || (same s (bytes "1") && may))) (same-equal mark (bytes "1") t) h
 
 -- one segment more that keeps its rules leaves the levels named
-named-more : (q : Separators) (h : List View) (v : View) → Kept nonconformance h v → T (unseparated q (inspected v)) → (b : Bool) → isHL v ≡ b
-    → Named q (levels h) → Named q (levels (v ∷ h))
-named-more q h v k u true e n =
-    let p = keeps-passes ruling (levels h) (claimOf v) (hl-levels h v k e) in
-    rw (levels-hl h v e) (
+named-more : (name : ProfileName) (q : Separators) (h : List View) (v : View) → Kept (profileNamed name) h v → T (unseparated q (inspected v))
+    → (b : Bool) → isHL v ≡ b → Named name q (levels name h) → Named name q (levels name (v ∷ h))
+named-more name q h v k u true e n =
+    let p = keeps-passes (levelProfile name) (levels name h) (claimOf v) (hl-levels name h v k e) in
+    rw (levels-hl name h v e) (
       record {
-        name = hl-text q h v k u (eqb→eq (tagIn v) (tag "HL") (rw e tt));
-        marked = mark-admitted (claimOf v .mark) (mayBeMarked ruling (codeOf ruling (claimOf v .code))) (p .mark);
+        text = hl-text name q h v k u (eqb→eq (tagIn v) (tag "HL") (rw e tt));
+        marked = mark-admitted (claimOf v .mark) (mayBeMarked (levelProfile name) (codeOf (levelProfile name) (claimOf v .code))) (p .mark);
       },
       p .new,
       n,
     )
-named-more q h v k u false e n = rw (levels-other h v e) n
+named-more name q h v k u false e n = rw (levels-other name h v e) n
 
 -- no separator stands where a view is looked into
 abbrev pub bare : Separators → View → Bool
 bare q v = unseparated q (inspected v)
 
 -- the levels of segments that keep their rules are named
-pub named-onto : (q : Separators) (h vs : List View) → From (Kept nonconformance) h vs → T (every (bare q) vs)
-    → Named q (levels h) → Named q (levels (onto h vs))
-named-onto q h [] f u n = n
-named-onto q h (v ∷ vs) f u n =
-    named-onto q (v ∷ h) vs (f .1) (second-of (bare q v) (every (bare q) vs) u)
-    (named-more q h v (f .0) (first-of (bare q v) (every (bare q) vs) u) (isHL v) refl n)
+pub named-onto : (name : ProfileName) (q : Separators) (h vs : List View) → From (Kept (profileNamed name)) h vs → T (every (bare q) vs)
+    → Named name q (levels name h) → Named name q (levels name (onto h vs))
+named-onto name q h [] f u n = n
+named-onto name q h (v ∷ vs) f u n =
+    named-onto name q (v ∷ h) vs (f .1) (second-of (bare q v) (every (bare q) vs) u)
+    (named-more name q h v (f .0) (first-of (bare q v) (every (bare q) vs) u) (isHL v) refl n)
 
 -- level m has a child where it is marked 1
 abbrev pub served : List Level → ℕ → Level → Bool

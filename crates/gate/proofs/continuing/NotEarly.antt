@@ -26,13 +26,14 @@ use Rattle.text.proofs.Writable.{writes, writes-writable, cut-writable, writabl
 use Rattle.rows.specs.Tags.{tags, tagNumber}
 use Rattle.rows.proofs.TagList.{tag-of-number}
 use Rattle.gate.specs.Answers.{Fault}
-use Rattle.gate.specs.Profile.{nonconformance}
+use Rattle.gate.specs.Profile.{profileOf}
 use Rattle.gate.specs.Segments.{tagIn, seen}
 use Rattle.gate.specs.Records.{Tables}
 use Rattle.gate.specs.Reads.{limit, cutBy, skipBy, Passed, Run}
 use Rattle.gate.specs.Conditions.{Continues}
 use Rattle.gate.specs.declared.answer.Answer.the-variants.{Refused}
 use Rattle.gate.specs.declared.how.How.{How}
+use Rattle.gate.proofs.reading.Numbers.{fault-room}
 use Rattle.gate.proofs.reading.Once.{Fails, refused-fails, refused-segment, refused-byte}
 use Rattle.gate.proofs.whole.AllRules.{from-meets}
 use Rattle.gate.proofs.continuing.LevelNames.{bare}
@@ -134,7 +135,7 @@ module _ (how : How) where
         λ k. e k ∷ i k
 
     -- the continuation of what was passed, with the first byte of the rest
-    module _ (t : Tables) (s : Bytes) (gs : List Placed) (rows : List ℕ) (end b : ℕ) (y : Bytes) (p : Passed nonconformance how t s gs rows end (b ∷ y))
+    module _ (t : Tables) (s : Bytes) (gs : List Placed) (rows : List ℕ) (end b : ℕ) (y : Bytes) (p : Passed (profileOf how) how t s gs rows end (b ∷ y))
         (short : length s ≤ limit) where
       abbrev Going : List View → Type 0
       Going vs = (front : Bytes) × (s ≡ front ++ b ∷ y) × (end ≡ 0 + length front)
@@ -146,7 +147,7 @@ module _ (how : How) where
       going (v ∷ vs) l a =
           leads-on (q .terminator) (cutBy how) (skipBy how) (cut-law q fit) (skip-law q (how .lines)) 0 s gs end b y (p .leads) (written q v) (map (written q) vs) a
 
-      goes-on : (k : ℕ) → length gs + 1 ≡ k → Continued q (seen how gs) rows → Continues how s k end
+      goes-on : (k : ℕ) → length gs + 1 ≡ k → Continued (how .profile) q (seen how gs) rows → Continues how s k end
       goes-on k n c =
           let a = all-added (c .more) (c .writable) (c .tagged) in
           let g = going (c .more) (c .some) a in
@@ -165,7 +166,7 @@ module _ (how : How) where
             rows = rows ++ c .rows;
             end = past (q .terminator) (cutBy how) (skipBy how) (cut-law q fit) (skip-law q (how .lines)) end (map (written q) (c .more));
             whole = rw f (g .3);
-            meets = rw all (from-meets nonconformance (seen how gs ++ c .more) (rows ++ c .rows) (c .meets));
+            meets = rw all (from-meets (profileOf how) (seen how gs ++ c .more) (rows ++ c .rows) (c .meets));
           }
 
       -- so few segments stand in so few bytes
@@ -177,7 +178,7 @@ module _ (how : How) where
       pub continues : (k : ℕ) → length gs + 1 ≡ k → Continues how s k end
       continues k n =
           goes-on k n
-          (continued q fit (seen how gs) rows (p .viable) (p .tags) (p .kept) (p .ongoing) (leads-bare 0 s gs end (b ∷ y) (p .leads))
+          (continued (how .profile) q fit (seen how gs) rows (p .viable) (p .admitted) (p .tags) (p .kept) (p .ongoing) (leads-bare 0 s gs end (b ∷ y) (p .leads))
           (rw (length-map gs (λ (g : Placed). viewOf (how .separators) (g .segment))) (omega (arith, leads-few 0 s gs end (b ∷ y) (p .leads), end-within, short))))
 
 -- a fault is found in bytes that there are
@@ -190,14 +191,14 @@ cut-behind [] t m = (t, m, refl)
 cut-behind (b ∷ g) t m = (b, g ++ t ∷ m, refl)
 
 fault-byte : (how : How) → Fitted (how .separators) → (t : Tables) (s : Bytes) (n k b e : ℕ) (kept : List Placed) (w : List ℕ) → Fault n
-    → (r : Run nonconformance how t s (Refused n k b e) kept w) → (x : ℕ) × (y : Bytes) × (r .rest ≡ x ∷ y)
-fault-byte how fit t s n k b e kept w f r = by (refused-fails nonconformance how t (r .gs) (r .rows) (r .end) (r .rest) n k b e kept w (r .ends))
+    → (r : Run (profileOf how) how t s (Refused n k b e) kept w) → (x : ℕ) × (y : Bytes) × (r .rest ≡ x ∷ y)
+fault-byte how fit t s n k b e kept w f r = by (refused-fails (profileOf how) how t (r .gs) (r .rows) (r .end) (r .rest) n k b e kept w (r .ends))
   where
     stopped : (u m : Bytes) → (n ≡ 3) ⊎ Faulty (cutBy how) (r .rest) n e u m → (x : ℕ) × (y : Bytes) × (r .rest ≡ x ∷ y)
     stopped u m (inl z) = absurd (omega (arith, z, f .from))
     stopped u m (inr z) = let i = first-byte u m (z .some) in (i .0, i .1, z .whole ∙ i .2)
 
-    by : Fails nonconformance how t (r .gs) (r .rows) (r .end) (r .rest) n e → (x : ℕ) × (y : Bytes) × (r .rest ≡ x ∷ y)
+    by : Fails (profileOf how) how t (r .gs) (r .rows) (r .end) (r .rest) n e → (x : ℕ) × (y : Bytes) × (r .rest ≡ x ∷ y)
     by (inl x) =
         stopped (x .upto) (x .more)
         (subst (λ (c : Cut). CutLaw (how .separators .terminator) (cutBy how) (r .rest) c) (x .stops) (cut-law (how .separators) fit (r .rest)))
@@ -206,14 +207,14 @@ fault-byte how fit t s n k b e kept w f r = by (refused-fails nonconformance how
         subst (λ (c : Cut). CutLaw (how .separators .terminator) (cutBy how) (r .rest) c) (x .next) (cut-law (how .separators) fit (r .rest)) in
         let i = cut-behind (x .segment) (how .separators .terminator) (x .more) in
         (i .0, i .1, z .0 ∙ i .2)
-    by (inr (inr x)) = absurd (omega (arith, x .number-is, f .upto))
+    by (inr (inr x)) = absurd (fault-room n f (x .number-is))
 
 -- what was passed before a fault can be continued
 pub fault-continues : (how : How) (t : Tables) (s : Bytes) (n k b e : ℕ) (kept : List Placed) (w : List ℕ) → T (fitSeparators (how .separators))
-    → length s ≤ limit → Fault n → Run nonconformance how t s (Refused n k b e) kept w → Continues how s k b
+    → length s ≤ limit → Fault n → Run (profileOf how) how t s (Refused n k b e) kept w → Continues how s k b
 fault-continues how t s n k b e kept w fit short f r =
     let x = fault-byte how (fitted (how .separators) fit) t s n k b e kept w f r in
-    let p : Passed nonconformance how t s (r .gs) (r .rows) (r .end) (x .0 ∷ x .1) = rw (x .2) at (r .passed) in
-    subst (λ (place : ℕ). Continues how s k place) (sym (refused-byte nonconformance how t (r .gs) (r .rows) (r .end) (r .rest) n k b e kept w (r .ends)))
+    let p : Passed (profileOf how) how t s (r .gs) (r .rows) (r .end) (x .0 ∷ x .1) = rw (x .2) at (r .passed) in
+    subst (λ (place : ℕ). Continues how s k place) (sym (refused-byte (profileOf how) how t (r .gs) (r .rows) (r .end) (r .rest) n k b e kept w (r .ends)))
     (continues how (fitted (how .separators) fit) t s (r .gs) (r .rows) (r .end) (x .0) (x .1) p short k
-    (sym (refused-segment nonconformance how t (r .gs) (r .rows) (r .end) (r .rest) n k b e kept w (r .ends))))
+    (sym (refused-segment (profileOf how) how t (r .gs) (r .rows) (r .end) (r .rest) n k b e kept w (r .ends))))

@@ -1,115 +1,57 @@
--- What may come next in rows: after any row but SE an HL, or one segment that is pending and then an HL.
+-- What may come next in rows of a profile: after any row but SE an HL, or one segment that is pending and then an HL.
 -- Assumes nothing.
 use Prim.Native.Nat.{ℕ, _<_}
 use Prim.Native.String.{String}
-use mathlib.Core.Path.{_≡_, refl, sym, ap, subst, _∙_}
+use mathlib.Core.Path.{_≡_, refl}
 use mathlib.Core.Logic.{_≢_, _⊎_, inl, inr}
-use mathlib.Core.Bool.{Bool, not, _&&_, _||_}
-use mathlib.Core.List.{List}
+use mathlib.Core.Bool.{_||_}
+use mathlib.Core.List.{List, _∷_}
 use borrow.Author.Tests.{ne-eqb}
-use lib.Dec.{T, eqb, lit<}
+use lib.Dec.{T, lit<}
 use Rattle.text.proofs.Bools.{or-cases}
-use Rattle.text.proofs.Tables.{tab, tab-at}
 use Rattle.rows.specs.Tags.{tag, tagNumber}
 use Rattle.rows.specs.Rows.{Viable, list842}
-use Rattle.rows.specs.RowList.{rowAt, tagOf, maxOf}
-use Rattle.rows.proofs.NextRows.{after, edges842, nextOf}
-use Rattle.rows.specs.Following.{Fits, lastOf}
-use Rattle.rows.proofs.FittingRow.{next-fits}
+use Rattle.rows.specs.RowList.{rowAt, tagOf}
+use Rattle.rows.specs.RowSets.{rowsOf, Within}
+use Rattle.rows.specs.Following.{lastOf}
+use Rattle.rows.specs.declared.profile.ProfileName.{ProfileName}
+use Rattle.rows.proofs.Continuable.{hlNext, bridges, isPending, profiles-continuable, last-goes-on, Bridged, bridged}
 use Rattle.gate.proofs.continuing.AddedSegments.{Added, added-bnr, added-lq, added-fa2, added-bin}
-
--- the row that comes next goes on from viable rows, where its maximum is not 2
-pub next-goes-on : (w : List ℕ) (t x : ℕ) → Viable list842 w → t < 34 → nextOf (lastOf 0 w) t ≡ x → x ≢ 0 → maxOf x ≢ 2 → Fits w t x
-next-goes-on w t x v h e n m =
-    let f = next-fits w v t h (λ z. n (sym e ∙ z)) (λ again two s. m (ap maxOf (sym e ∙ s) ∙ two)) in
-    subst (Fits w t) e f
-
--- ST is one of the 34 tags
-pub st-small : tag "ST" < 34
-unfolding tagNumber
-st-small = lit< tt
-
--- and so is HL
-pub hl-small : tag "HL" < 34
-unfolding tagNumber
-hl-small = lit< tt
-
--- after an HL another may come
-pub hl-after-hl : nextOf 18 (tag "HL") ≡ 18
-unfolding nextOf after edges842 list842 tagNumber
-hl-after-hl = refl
-
--- or the SE
-pub se-after-hl : nextOf 18 (tag "SE") ≡ 79
-unfolding nextOf after edges842 list842 tagNumber
-se-after-hl = refl
-
--- first comes the ST
-pub st-first : nextOf 0 (tag "ST") ≡ 1
-unfolding nextOf after edges842 list842 tagNumber
-st-first = refl
-
--- an HL stands once in a pass
-pub max-hl : maxOf 18 ≡ 1
-unfolding maxOf rowAt list842 tagNumber
-max-hl = refl
-
--- and so does the SE
-pub max-se : maxOf 79 ≡ 1
-unfolding maxOf rowAt list842 tagNumber
-max-se = refl
-
--- and the ST
-pub max-st : maxOf 1 ≡ 1
-unfolding maxOf rowAt list842 tagNumber
-max-st = refl
 
 -- row 1 is the ST
 pub tag-st : tagOf 1 ≡ tag "ST"
 unfolding tagOf rowAt list842 tagNumber
 tag-st = refl
 
--- an HL may come after the row
-abbrev pub hlNext : ℕ → Bool
-hlNext r = eqb (nextOf r (tag "HL")) 18
+module _ (name : ProfileName) where
+  -- a segment that is pending after a row: it may come there, and then an HL
+  pub record Pending (r : ℕ) : Type 0 where
+    pub text : String
+    pub segment : Added name text
+    pub small : tag text < 34
+    pub between : Bridged (rowsOf name) r (tag text)
 
--- a segment with the tag may come after the row, and then an HL
-unfoldable pub bridges : ℕ → ℕ → Bool
-bridges r t = not (eqb (nextOf r t) 0) && not (eqb (maxOf (nextOf r t)) 2) && hlNext (nextOf r t)
+  -- one of the four is pending
+  some-pending : (r : ℕ) → T (isPending (rowsOf name) r) → Pending r
+  unfolding tagNumber
+  some-pending r =
+      let set = rowsOf name in
+      let bnr = bridges set r (tag "BNR") in
+      let lq = bridges set r (tag "LQ") in
+      let fa2 = bridges set r (tag "FA2") in
+      let bin = bridges set r (tag "BIN") in
+      or-cases (bnr || lq || fa2) bin
+      (or-cases (bnr || lq) fa2
+      (or-cases bnr lq (λ t. record { text = "BNR"; segment = added-bnr name; small = lit< tt; between = bridged set r (tag "BNR") t })
+      (λ t. record { text = "LQ"; segment = added-lq name; small = lit< tt; between = bridged set r (tag "LQ") t }))
+      (λ t. record { text = "FA2"; segment = added-fa2 name; small = lit< tt; between = bridged set r (tag "FA2") t }))
+      (λ t. record { text = "BIN"; segment = added-bin name; small = lit< tt; between = bridged set r (tag "BIN") t })
 
--- after the row a BNR, LQ, FA2 or BIN may come, and then an HL
-abbrev isPending : ℕ → Bool
-isPending r = bridges r (tag "BNR") || bridges r (tag "LQ") || bridges r (tag "FA2") || bridges r (tag "BIN")
-
--- after every row but SE an HL may come, or one of those first
-checked-pending : tab 80 (λ r. hlNext r || isPending r) ≡ tab 80 (λ r. not (eqb r 0) && not (eqb r 79))
-unfolding tab bridges nextOf maxOf rowAt after edges842 list842 tagNumber
-checked-pending = refl
-
--- a segment that is pending after a row: it may come there, and then an HL
-pub record Pending (r : ℕ) : Type 0 where
-  pub name : String
-  pub segment : Added name
-  pub small : tag name < 34
-  pub bridged : T (bridges r (tag name))
-
--- one of the four is pending
-some-pending : (r : ℕ) → T (isPending r) → Pending r
-unfolding tagNumber
-some-pending r =
-    let bnr = bridges r (tag "BNR") in
-    let lq = bridges r (tag "LQ") in
-    let fa2 = bridges r (tag "FA2") in
-    let bin = bridges r (tag "BIN") in
-    or-cases (bnr || lq || fa2) bin
-    (or-cases (bnr || lq) fa2
-    (or-cases bnr lq (λ t. record { name = "BNR"; segment = added-bnr; small = lit< tt; bridged = t })
-    (λ t. record { name = "LQ"; segment = added-lq; small = lit< tt; bridged = t }))
-    (λ t. record { name = "FA2"; segment = added-fa2; small = lit< tt; bridged = t }))
-    (λ t. record { name = "BIN"; segment = added-bin; small = lit< tt; bridged = t })
-
--- after every row but SE an HL may come, or a segment is pending
-pub pending : (r : ℕ) → r < 80 → r ≢ 0 → r ≢ 79 → T (hlNext r) ⊎ Pending r
-pending r h a b =
-    let c = tab-at 80 (λ r. hlNext r || isPending r) (λ r. not (eqb r 0) && not (eqb r 79)) checked-pending r h in
-    or-cases (hlNext r) (isPending r) (λ t. inl t) (λ t. inr (some-pending r t)) (rw (c, ne-eqb r 0 a, ne-eqb r 79 b) tt)
+  -- after every row of the profile but SE, at the end of rows that are viable, an HL may come, or a segment is pending
+  pub pending : (x : ℕ) (w : List ℕ) → Viable list842 (x ∷ w) → Within (rowsOf name) (x ∷ w) → lastOf x w ≢ 79
+      → T (hlNext (lastOf x w)) ⊎ Pending (lastOf x w)
+  pending x w v a b =
+      let set = rowsOf name in
+      let r = lastOf x w in
+      let goes : T (hlNext r || isPending set r) = rw (ne-eqb r 79 b) at (last-goes-on set (profiles-continuable name) x w v a) in
+      or-cases (hlNext r) (isPending set r) (λ t. inl t) (λ t. inr (some-pending r t)) goes

@@ -1,6 +1,7 @@
 -- What the reader reads off a segment's bytes is what the rules say of its view: the tag, and the text of an element of one component.
 -- Assumes nothing.
 use Prim.Native.Nat.{ℕ, suc, _+_, _≤_, _<_}
+use Prim.Native.String.{String}
 use mathlib.Core.Path.{_≡_, refl, sym, ap, subst, _∙_}
 use mathlib.Core.Logic.{by-cases}
 use mathlib.Core.Bool.{Bool, true, false, not, cond, _||_}
@@ -22,12 +23,12 @@ use Rattle.text.proofs.Pieces.{joined-pieces, pieces-free}
 use Rattle.text.proofs.BinView.{view-bin, view-plain, elements-bin, elements-plain, names-bin, inspected-other}
 use Rattle.text.proofs.Serving.{id-bytes-free}
 use Rattle.rows.specs.Tags.{tag, tags, placeIn, tagNumber}
-use Rattle.elements.specs.Data.{Value, value, Simple, Rules, rulesHL, rulesSE, rulesST}
+use Rattle.elements.specs.Data.{Value, value, Simple, Rules, rulesHL, rulesSE, rulesST, elementProfile}
 use Rattle.types.specs.declared.kind.Kind.the-variants.{AN, ID, N0}
 use Rattle.elements.specs.Checks.{Keeps}
-use Rattle.elements.specs.Rules.{ruleOf, fitsSimple, fitsShape, tooManyChecks, missingChecks, unfitChecks, noteChecks, checksBy, ruledChecks, presentAt}
+use Rattle.elements.specs.Rules.{isUnused, ruleOf, fitsSimple, fitsShape, tooManyChecks, missingChecks, unfitChecks, noteChecks, checksBy, ruledChecks, presentAt}
 use Rattle.levels.specs.Levels.{textOf, claimOf}
-use Rattle.gate.specs.Profile.{nonconformance}
+use Rattle.rows.specs.declared.profile.ProfileName.{ProfileName}
 use Rattle.gate.specs.Segments.{pieceTag, tagIn}
 use Rattle.gate.proofs.reading.Laws.{keeps-split, keeps-at}
 
@@ -121,34 +122,38 @@ text-of-piece c s x t = by (pieces c s) (joined-pieces c s) t
     by ((b ∷ p) ∷ (r ∷ ps)) e t = absurd t
 
 -- what rule 10 says of an element that is one value
-pub ruled-simple : (rules : Rules) (v : View) (x : Value) (k : ℕ) → 1 ≤ k → k ≤ length (rules .elements) → ruleOf rules k .shape ≡ Simple x
-    → Keeps (checksBy rules v) → T (not (present (elementOf v k)) || fitsSimple x (elementOf v k))
-ruled-simple rules v x k l h e t =
-    let a = keeps-split (tooManyChecks rules v ++ missingChecks rules v ++ unfitChecks rules v) (noteChecks (rules .notes) (presentAt v)) t .0 in
-    let b = keeps-split (tooManyChecks rules v ++ missingChecks rules v) (unfitChecks rules v) a .1 in
+pub ruled-simple : (rules : Rules) (unused : ℕ → Bool) (v : View) (x : Value) (k : ℕ) → 1 ≤ k → k ≤ length (rules .elements) → ruleOf rules k .shape ≡ Simple x
+    → Keeps (checksBy rules unused v) → T (not (present (elementOf v k)) || fitsSimple x (elementOf v k))
+ruled-simple rules unused v x k l h e t =
+    let a = keeps-split (tooManyChecks rules unused v ++ missingChecks rules v ++ unfitChecks rules v) (noteChecks (rules .notes) (presentAt v)) t .0 in
+    let b = keeps-split (tooManyChecks rules unused v ++ missingChecks rules v) (unfitChecks rules v) a .1 in
     let c =
     keeps-at 10 1 (length (rules .elements)) (λ (k : ℕ). not (present (elementOf v k)) || fitsShape (ruleOf rules k .shape) (elementOf v k)) b k l (omega arith) in
     rw e at c
 
 -- the text of such an element is the piece's bytes
-simple-text : (rules : Rules) (q : Separators) (g : Bytes) (x : Value) (k : ℕ) → 1 ≤ k → k ≤ length (rules .elements) → ruleOf rules k .shape ≡ Simple x
-    → isBin (q .element) g ≡ false → Keeps (checksBy rules (viewOf q g)) → textOf (elementOf (viewOf q g) k) ≡ getD (pieces (q .element) g) k []
-simple-text rules q g x k l h e n t =
-    let a = rw (view-plain q g n, element-piece q g k) at (ruled-simple rules (viewOf q g) x k l h e t) in
+simple-text : (rules : Rules) (unused : ℕ → Bool) (q : Separators) (g : Bytes) (x : Value) (k : ℕ) → 1 ≤ k → k ≤ length (rules .elements) → ruleOf rules k .shape ≡ Simple x
+    → isBin (q .element) g ≡ false → Keeps (checksBy rules unused (viewOf q g)) → textOf (elementOf (viewOf q g) k) ≡ getD (pieces (q .element) g) k []
+simple-text rules unused q g x k l h e n t =
+    let a = rw (view-plain q g n, element-piece q g k) at (ruled-simple rules unused (viewOf q g) x k l h e t) in
     rw (view-plain q g n, element-piece q g k) (text-of-piece (q .component) (getD (pieces (q .element) g) k []) x a)
 
--- the rules of HL, SE and ST segments
-pub hl-rules : (v : View) → ruledChecks (nonconformance .elements) (tag "HL") v ≡ checksBy rulesHL v
-unfolding ruledChecks tagNumber
-hl-rules v = refl
+-- the rules of HL, SE and ST segments, by either profile
+abbrev pub unusedIn : ProfileName → String → ℕ → Bool
+unusedIn name text = isUnused (elementProfile name) (tag text)
 
-pub se-rules : (v : View) → ruledChecks (nonconformance .elements) (tag "SE") v ≡ checksBy rulesSE v
-unfolding ruledChecks tagNumber
-se-rules v = refl
+module _ (name : ProfileName) (v : View) where
+  pub hl-rules : ruledChecks (elementProfile name) (tag "HL") v ≡ checksBy rulesHL (unusedIn name "HL") v
+  unfolding ruledChecks tagNumber
+  hl-rules = refl
 
-pub st-rules : (v : View) → ruledChecks (nonconformance .elements) (tag "ST") v ≡ checksBy rulesST v
-unfolding ruledChecks tagNumber
-st-rules v = refl
+  pub se-rules : ruledChecks (elementProfile name) (tag "SE") v ≡ checksBy rulesSE (unusedIn name "SE") v
+  unfolding ruledChecks tagNumber
+  se-rules = refl
+
+  pub st-rules : ruledChecks (elementProfile name) (tag "ST") v ≡ checksBy rulesST (unusedIn name "ST") v
+  unfolding ruledChecks tagNumber
+  st-rules = refl
 
 -- none of the three is a BIN
 pub hl-no-bin : tag "HL" ≡ tag "BIN" → ⊥
@@ -163,10 +168,10 @@ pub st-no-bin : tag "ST" ≡ tag "BIN" → ⊥
 unfolding tagNumber
 st-no-bin e = omega (arith, e)
 
-abbrev Ruled : View → Type 0
-Ruled v = Keeps (ruledChecks (nonconformance .elements) (tagIn v) v)
+abbrev Ruled : ProfileName → View → Type 0
+Ruled name v = Keeps (ruledChecks (elementProfile name) (tagIn v) v)
 
-module _ (q : Separators) (g : Bytes) (ruled : Ruled (viewOf q g)) where
+module _ (name : ProfileName) (q : Separators) (g : Bytes) (ruled : Ruled name (viewOf q g)) where
   abbrev pub pieceOf : ℕ → Bytes
   pieceOf k = getD (pieces (q .element) g) k []
 
@@ -182,20 +187,20 @@ module _ (q : Separators) (g : Bytes) (ruled : Ruled (viewOf q g)) where
   -- what an HL says stands in its pieces
   pub hl-claim : tagIn (viewOf q g) ≡ tag "HL" → claimOf (viewOf q g) ≡ record { id = pieceOf 1; parent = pieceOf 2; code = pieceOf 3; mark = pieceOf 4 }
   hl-claim e =
-      let k : Keeps (checksBy rulesHL (viewOf q g)) = rw (e, hl-rules) at ruled in
-      let a = simple-text rulesHL q g (value AN 1 12) 1 (omega arith) (omega arith) refl (plain-hl e) k in
-      let b = simple-text rulesHL q g (value AN 1 12) 2 (omega arith) (omega arith) refl (plain-hl e) k in
-      let c = simple-text rulesHL q g (value ID 1 2) 3 (omega arith) (omega arith) refl (plain-hl e) k in
-      let d = simple-text rulesHL q g (value ID 1 1) 4 (omega arith) (omega arith) refl (plain-hl e) k in
+      let k : Keeps (checksBy rulesHL (unusedIn name "HL") (viewOf q g)) = rw (e, hl-rules) at ruled in
+      let a = simple-text rulesHL (unusedIn name "HL") q g (value AN 1 12) 1 (omega arith) (omega arith) refl (plain-hl e) k in
+      let b = simple-text rulesHL (unusedIn name "HL") q g (value AN 1 12) 2 (omega arith) (omega arith) refl (plain-hl e) k in
+      let c = simple-text rulesHL (unusedIn name "HL") q g (value ID 1 2) 3 (omega arith) (omega arith) refl (plain-hl e) k in
+      let d = simple-text rulesHL (unusedIn name "HL") q g (value ID 1 1) 4 (omega arith) (omega arith) refl (plain-hl e) k in
       λ i. record { id = a i; parent = b i; code = c i; mark = d i }
 
   -- and what an SE says
   pub se-count : tagIn (viewOf q g) ≡ tag "SE" → textOf (elementOf (viewOf q g) 1) ≡ pieceOf 1
-  se-count e = simple-text rulesSE q g (value N0 1 10) 1 (omega arith) (omega arith) refl (plain-se e) (rw (e, se-rules) at ruled)
+  se-count e = simple-text rulesSE (unusedIn name "SE") q g (value N0 1 10) 1 (omega arith) (omega arith) refl (plain-se e) (rw (e, se-rules) at ruled)
 
   pub se-control : tagIn (viewOf q g) ≡ tag "SE" → textOf (elementOf (viewOf q g) 2) ≡ pieceOf 2
-  se-control e = simple-text rulesSE q g (value AN 4 9) 2 (omega arith) (omega arith) refl (plain-se e) (rw (e, se-rules) at ruled)
+  se-control e = simple-text rulesSE (unusedIn name "SE") q g (value AN 4 9) 2 (omega arith) (omega arith) refl (plain-se e) (rw (e, se-rules) at ruled)
 
   -- the control number of an ST
   pub st-control : tagIn (viewOf q g) ≡ tag "ST" → textOf (elementOf (viewOf q g) 2) ≡ pieceOf 2
-  st-control e = simple-text rulesST q g (value AN 4 9) 2 (omega arith) (omega arith) refl (plain-st e) (rw (e, st-rules) at ruled)
+  st-control e = simple-text rulesST (unusedIn name "ST") q g (value AN 4 9) 2 (omega arith) (omega arith) refl (plain-st e) (rw (e, st-rules) at ruled)

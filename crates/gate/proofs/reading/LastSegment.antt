@@ -13,12 +13,13 @@ use Rattle.rows.specs.Tags.{tag}
 use Rattle.rows.specs.Rows.{Word, Viable, list842}
 use Rattle.rows.specs.RowList.{tagOf}
 use Rattle.rows.specs.Following.{Fits, lastOf}
-use Rattle.rows.proofs.Viability.{viable-word, word-last, ends-at-79, nil-no-word}
+use Rattle.rows.proofs.Viability.{last-snoc, viable-word, word-last, ends-at-79, nil-no-word}
 use Rattle.rows.proofs.FittingRow.{viable-before}
+use Rattle.rows.proofs.Continuable.{within-more, within-front}
 use Rattle.gate.specs.Profile.{Profile}
 use Rattle.gate.specs.Segments.{tagIn, isSE, onto}
-use Rattle.gate.specs.Rules.{Kept, From}
-use Rattle.gate.proofs.reading.RowOfSE.{row-se, tag-79, last-snoc}
+use Rattle.gate.specs.Rules.{Admitted, Kept, From}
+use Rattle.gate.proofs.reading.RowOfSE.{row-se, tag-79}
 use Rattle.gate.proofs.reading.Laws.{from-front, from-append, MeetsFrom}
 use Rattle.gate.proofs.reading.Passing.{Numbers}
 
@@ -28,9 +29,10 @@ fits-se w v r c f = row-se r (f .tagged ∙ eqb→eq (tagIn v) (tag "SE") c)
 
 -- segments that were passed, and then an SE
 pub passed-closed : (profile : Profile) (vs : List View) (rows : List ℕ) (v : View) (r : ℕ) → Numbers profile vs rows → Kept profile (onto [] vs) v
-    → Fits rows (tagIn v) r → T (isSE v) → MeetsFrom profile (vs ++ (v ∷ [])) (rows ++ (r ∷ []))
-passed-closed profile vs rows v r p k f c = record {
-  word = viable-word (rows ++ (r ∷ [])) (f .viable) (last-snoc 0 rows r ∙ fits-se rows v r c f);
+    → Fits rows (tagIn v) r → Admitted profile r → T (isSE v) → MeetsFrom profile (vs ++ (v ∷ [])) (rows ++ (r ∷ []))
+passed-closed profile vs rows v r p k f a c = record {
+  word = viable-word (rows ++ (r ∷ [])) (f .viable) (last-snoc rows 0 r ∙ fits-se rows v r c f);
+  admitted = within-more (profile .rows) rows r (p .admitted) a;
   tags = rw (map-append, map-append, p .tags, f .tagged);
   kept = from-append (Kept profile) [] vs (v ∷ []) (p .kept) (k, tt);
 }
@@ -48,7 +50,7 @@ one-after a (z ∷ b) x y v =
     (z, viable-before ((a ++ (x ∷ [])) ++ (z ∷ [])) (b ++ (y ∷ [])) u)
 
 not-79 : (a b : List ℕ) (x y : ℕ) → Viable list842 ((a ++ (x ∷ b)) ++ (y ∷ [])) → x ≡ 79 → ⊥
-not-79 a b x y v e = let z = one-after a b x y v in ends-at-79 (a ++ (x ∷ [])) (last-snoc 0 a x ∙ e) (z .0) (z .1)
+not-79 a b x y v e = let z = one-after a b x y v in ends-at-79 (a ++ (x ∷ [])) (last-snoc a 0 x ∙ e) (z .0) (z .1)
 
 -- the last row of a word is 79: so the last segment is an SE, and no other is
 module _ (vs : List View) (v : View) (w : List ℕ) (p : Word list842 (w ++ (79 ∷ []))) (g : map tagOf (w ++ (79 ∷ [])) ≡ map tagIn (vs ++ (v ∷ []))) where
@@ -75,6 +77,7 @@ module _ (vs : List View) (v : View) (w : List ℕ) (p : Word list842 (w ++ (79 
 pub closed-passed : (profile : Profile) (vs : List View) (v : View) (w : List ℕ) → MeetsFrom profile (vs ++ (v ∷ [])) (w ++ (79 ∷ [])) → Numbers profile vs w
 closed-passed profile vs v w m = record {
   viable = viable-before w (79 ∷ []) (word-viable vs v w (m .word) (m .tags));
+  admitted = within-front (profile .rows) w (79 ∷ []) (m .admitted);
   tags = tags-last vs v w (m .word) (m .tags) .0;
   kept = from-front (Kept profile) [] vs (v ∷ []) (m .kept);
   ongoing = none-before vs v w (m .word) (m .tags);

@@ -12,8 +12,9 @@ use lib.ListN.{length}
 use Rattle.text.specs.View.{View}
 use Rattle.rows.specs.Rows.{Word, Viable, list842}
 use Rattle.rows.specs.RowList.{tagOf}
+use Rattle.rows.specs.RowSets.{Within}
 use Rattle.rows.specs.Following.{Fits}
-use Rattle.rows.proofs.FittingRow.{fits-tag}
+use Rattle.rows.proofs.FittingRow.{fits-tag, fits-once}
 use Rattle.rows.proofs.TagsDecideRows.{rows-once}
 use Rattle.elements.specs.Checks.{Check, each, Keeps}
 use Rattle.elements.specs.Rules.{byteChecks, endChecks, ruledChecks}
@@ -77,8 +78,9 @@ broken-once (r ∷ rs) n e m f (inr a) (inr b) = broken-once rs n e m f (a .1) (
 module _ (profile : Profile) (w : List ℕ) (h : List View) (v : View) where
   pub holds-sound : (r : ℕ) → Fits w (tagIn v) r → EachHolds (rules profile w h v) → Sound profile w h v r
   holds-sound r f s =
-      let i = holds-split (asRules (early v) ++ rowRules w v) (asRules (late profile h v)) s in
-      let j = holds-split (asRules (early v)) (rowRules w v) (i .0) in
+      let i = holds-split (asRules (early v) ++ rowRules profile w v) (asRules (late profile h v)) s in
+      let j = holds-split (asRules (early v)) (rowRules profile w v) (i .0) in
+      let admitted = j .1 .1 .0 in
       let a = keeps-split (byteChecks v ++ tagChecks v) (endChecks v) (holds-keeps (early v) (j .0)) in
       let ruled = ruledChecks (profile .elements) (tagIn v) v in
       let b = keeps-split (ruled ++ hlChecks profile h v) (seChecks profile h v) (holds-keeps (late profile h v) (i .1)) in
@@ -86,6 +88,7 @@ module _ (profile : Profile) (w : List ℕ) (h : List View) (v : View) where
       record {
         kept = record { bytes = keeps-split (byteChecks v) (tagChecks v) (a .0) .0; ends = a .1; elements = c .0; level = c .1; closing = b .1 };
         fits = f;
+        admitted = rw (fits-once w (tagIn v) (admitted .0) r (admitted .1) f) at (admitted .2);
       }
 
   sound-holds : (r : ℕ) → Sound profile w h v r → EachHolds (rules profile w h v)
@@ -94,10 +97,10 @@ module _ (profile : Profile) (w : List ℕ) (h : List View) (v : View) where
       let k = s .kept in
       let ruled = ruledChecks (profile .elements) (tagIn v) v in
       let tagged : Keeps (tagChecks v) = (lt→ltb (tagIn v) 34 (fits-tag w (tagIn v) r (s .fits)), tt) in
-      holds-both (asRules (early v) ++ rowRules w v) (asRules (late profile h v))
-      (holds-both (asRules (early v)) (rowRules w v)
+      holds-both (asRules (early v) ++ rowRules profile w v) (asRules (late profile h v))
+      (holds-both (asRules (early v)) (rowRules profile w v)
       (keeps-holds (early v) (keeps-both (byteChecks v ++ tagChecks v) (endChecks v) (keeps-both (byteChecks v) (tagChecks v) (k .bytes) tagged) (k .ends)))
-      ((r, s .fits), tt))
+      ((r, s .fits), ((r, s .fits, s .admitted), tt)))
       (keeps-holds (late profile h v)
       (keeps-both (ruled ++ hlChecks profile h v) (seChecks profile h v) (keeps-both ruled (hlChecks profile h v) (k .elements) (k .level)) (k .closing)))
 
@@ -139,5 +142,6 @@ same-rows w w′ vs a b e f = rows-once w w′ a b (e ∙ sym f)
 -- Condition 2 as a reader meets it: each segment keeps its rules after those before it
 pub record MeetsFrom (profile : Profile) (vs : List View) (rows : List ℕ) : Type 0 where
   pub word : Word list842 rows
+  pub admitted : Within (profile .rows) rows
   pub tags : map tagOf rows ≡ map tagIn vs
   pub kept : From (Kept profile) [] vs

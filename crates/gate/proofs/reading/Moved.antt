@@ -10,6 +10,7 @@ use Rattle.text.specs.View.{View, viewOf}
 use Rattle.text.specs.Cut.{Placed, Leads}
 use Rattle.text.specs.declared.lines.LineEnds.{LineEnds}
 use Rattle.text.specs.declared.separators.Separators.{Separators}
+use Rattle.rows.specs.declared.profile.ProfileName.{ProfileName}
 use Rattle.gate.specs.Profile.{Profile}
 use Rattle.gate.specs.Segments.{seen}
 use Rattle.gate.specs.Records.{Tables, segmentRecord, segmentRecords, levelRecords, over, recorded}
@@ -17,38 +18,39 @@ use Rattle.gate.specs.Reads.{cutBy, skipBy, Passed, Keeping, RoomWith}
 use Rattle.gate.specs.declared.how.How.{How}
 use Rattle.gate.proofs.reading.Once.{Fails}
 
--- these separators, and this choice of line ends
-abbrev pub reading : Separators → LineEnds → How
-reading q lines = record { separators = q; lines = lines }
+-- by this profile, with these separators and this choice of line ends
+abbrev pub reading : ProfileName → Separators → LineEnds → How
+reading name q lines = record { separators = q; lines = lines; profile = name }
 
 -- the records of segments do not hang on the choice
-records-same : (q : Separators) (lines lines′ : LineEnds) (h : List View) (gs : List Placed) (rows : List ℕ)
-    → segmentRecords (reading q lines) h gs rows ≡ segmentRecords (reading q lines′) h gs rows
-records-same q lines lines′ h [] rows = refl
-records-same q lines lines′ h (g ∷ gs) [] = refl
-records-same q lines lines′ h (g ∷ gs) (r ∷ rows) =
-    ap (λ (l : List ℕ). segmentRecord h (viewOf q (g .segment)) g r ++ l) (records-same q lines lines′ (viewOf q (g .segment) ∷ h) gs rows)
+records-same : (name : ProfileName) (q : Separators) (lines lines′ : LineEnds) (h : List View) (gs : List Placed) (rows : List ℕ)
+    → segmentRecords (reading name q lines) h gs rows ≡ segmentRecords (reading name q lines′) h gs rows
+records-same name q lines lines′ h [] rows = refl
+records-same name q lines lines′ h (g ∷ gs) [] = refl
+records-same name q lines lines′ h (g ∷ gs) (r ∷ rows) =
+    ap (λ (l : List ℕ). segmentRecord h (viewOf q (g .segment)) g r ++ l) (records-same name q lines lines′ (viewOf q (g .segment) ∷ h) gs rows)
 
-pub recorded-same : (profile : Profile) (q : Separators) (lines lines′ : LineEnds) (t : Tables) (gs : List Placed) (rows : List ℕ)
-    → recorded profile (reading q lines) t gs rows ≡ recorded profile (reading q lines′) t gs rows
-recorded-same profile q lines lines′ t gs rows = λ i. record {
-  segments = over (t .segments) (records-same q lines lines′ [] gs rows i);
-  levels = over (t .levels) (levelRecords profile (reading q lines) gs);
+pub recorded-same : (profile : Profile) (name : ProfileName) (q : Separators) (lines lines′ : LineEnds) (t : Tables) (gs : List Placed) (rows : List ℕ)
+    → recorded profile (reading name q lines) t gs rows ≡ recorded profile (reading name q lines′) t gs rows
+recorded-same profile name q lines lines′ t gs rows = λ i. record {
+  segments = over (t .segments) (records-same name q lines lines′ [] gs rows i);
+  levels = over (t .levels) (levelRecords profile (reading name q lines) gs);
 }
 
-module _ (profile : Profile) (q : Separators) (lines lines′ : LineEnds) (t : Tables) (gs gs′ : List Placed) (rows : List ℕ) (end end′ : ℕ) (rest : Bytes)
-    (same : seen (reading q lines′) gs′ ≡ seen (reading q lines) gs) where
+module _ (profile : Profile) (name : ProfileName) (q : Separators) (lines lines′ : LineEnds) (t : Tables) (gs gs′ : List Placed) (rows : List ℕ) (end end′ : ℕ) (rest : Bytes)
+    (same : seen (reading name q lines′) gs′ ≡ seen (reading name q lines) gs) where
   abbrev how : How
-  how = reading q lines
+  how = reading name q lines
 
   abbrev how′ : How
-  how′ = reading q lines′
+  how′ = reading name q lines′
 
   pub passed-moved : (s s′ : Bytes) → Leads (cutBy how′) (skipBy how′) 0 s′ gs′ end′ rest → Passed profile how t s gs rows end rest
       → Passed profile how′ t s′ gs′ rows end′ rest
   passed-moved s s′ leads p = record {
     leads = leads;
     viable = p .viable;
+    admitted = p .admitted;
     tags = rw same (p .tags);
     kept = rw same (p .kept);
     ongoing = rw same (p .ongoing);

@@ -144,7 +144,7 @@ module _ {profile : Profile} {how : How} {t : Tables} {s : Bytes} where
       let m : Room profile t (v ∷ onto [] (seen how (a .gs))) =
       room-fewer profile t (v ∷ onto [] (seen how (a .gs))) (seen how (i .after)) (rw (e, onto-append) at (b .passed .room)) in
       stuck profile how t (a .gs) (a .rows) (a .end) (a .rest) r k w (i .next .segment) (i .more) (p .row) (a .ends) (i .cut-is)
-      (record { kept = p .kept; fits = p .fits }) m (p .ongoing)
+      (record { kept = p .kept; fits = p .fits; admitted = p .admitted }) m (p .ongoing)
 
   pub run-once : {r r′ : Answer} {k k′ : List Placed} {w w′ : List ℕ} → Run profile how t s r k w → Run profile how t s r′ k′ w′
       → (r ≡ r′) × (k ≡ k′) × (w ≡ w′)

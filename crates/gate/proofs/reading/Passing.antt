@@ -11,16 +11,19 @@ use Rattle.text.specs.Bytes.{Bytes}
 use Rattle.text.specs.View.{View, viewOf}
 use Rattle.text.specs.Cut.{Placed}
 use Rattle.text.proofs.Bools.{passes, not-passes}
+use Rattle.text.proofs.Everys.{every-middle}
 use Rattle.text.proofs.Lists.{map-append, splits}
 use Rattle.rows.specs.Rows.{Viable, list842}
 use Rattle.rows.specs.RowList.{tagOf}
+use Rattle.rows.specs.RowSets.{Within}
 use Rattle.rows.specs.Following.{Fits}
 use Rattle.rows.proofs.FittingRow.{viable-before}
+use Rattle.rows.proofs.Continuable.{within-more}
 use Rattle.levels.specs.Levels.{Claim}
 use Rattle.levels.proofs.CalledLevel.{levels-length}
 use Rattle.gate.specs.Profile.{Profile}
 use Rattle.gate.specs.Segments.{tagIn, isHL, isSE, seen, onto, addClaim, claims, levelsIn, belongsTo}
-use Rattle.gate.specs.Rules.{Kept, From}
+use Rattle.gate.specs.Rules.{Admitted, Kept, From}
 use Rattle.gate.specs.Records.{Tables, Room}
 use Rattle.gate.specs.Reads.{Passed}
 use Rattle.gate.specs.declared.how.How.{How}
@@ -29,13 +32,14 @@ use Rattle.gate.proofs.reading.Laws.{from-at, from-append, same-rows}
 -- rows that number segments, and what each of these keeps: a reading aside from where it stands and what it has room for
 pub record Numbers (profile : Profile) (vs : List View) (rows : List ℕ) : Type 0 where
   pub viable : Viable list842 rows
+  pub admitted : Within (profile .rows) rows
   pub tags : map tagOf rows ≡ map tagIn vs
   pub kept : From (Kept profile) [] vs
   pub ongoing : From (λ h v. T (not (isSE v))) [] vs
 
 pub numbers : {profile : Profile} {how : How} {t : Tables} {s : Bytes} {gs : List Placed} {rows : List ℕ} {end : ℕ} {rest : Bytes}
     → Passed profile how t s gs rows end rest → Numbers profile (seen how gs) rows
-numbers p = record { viable = p .viable; tags = p .tags; kept = p .kept; ongoing = p .ongoing }
+numbers p = record { viable = p .viable; admitted = p .admitted; tags = p .tags; kept = p .kept; ongoing = p .ongoing }
 
 -- each segment has one row
 pub one-each : (how : How) (gs : List Placed) (rows : List ℕ) → map tagOf rows ≡ map tagIn (seen how gs) → length rows ≡ length gs
@@ -46,6 +50,7 @@ one-each how gs rows tags =
 pub record Next (profile : Profile) (xs : List View) (w : List ℕ) (v : View) : Type 0 where
   pub row : ℕ
   pub fits : Fits w (tagIn v) row
+  pub admitted : Admitted profile row
   pub kept : Kept profile (onto [] xs) v
   pub ongoing : T (not (isSE v))
 
@@ -58,15 +63,17 @@ next-of profile xs w v ys rows a b =
     record {
       row = i .mid;
       fits = record { viable = viable-before (w ++ (i .mid ∷ [])) (i .back) (rw (append-assoc, ← f) z); tagged = i .mid-is };
+      admitted = every-middle (profile .rows) (i .front) (i .mid) (i .back) (rw (i .whole) at (b .admitted));
       kept = from-at (Kept profile) [] xs v ys (b .kept);
       ongoing = from-at (λ h v. T (not (isSE v))) [] xs v ys (b .ongoing);
     }
 
 -- one more
 pub numbers-more : (profile : Profile) (vs : List View) (w : List ℕ) (v : View) (r : ℕ) → Numbers profile vs w → Kept profile (onto [] vs) v
-    → Fits w (tagIn v) r → T (not (isSE v)) → Numbers profile (vs ++ (v ∷ [])) (w ++ (r ∷ []))
-numbers-more profile vs w v r p k f o = record {
+    → Fits w (tagIn v) r → Admitted profile r → T (not (isSE v)) → Numbers profile (vs ++ (v ∷ [])) (w ++ (r ∷ []))
+numbers-more profile vs w v r p k f a o = record {
   viable = f .viable;
+  admitted = within-more (profile .rows) w r (p .admitted) a;
   tags = map-append tagOf w (r ∷ []) ∙ rw (p .tags, f .tagged) (sym (map-append tagIn vs (v ∷ [])));
   kept = from-append (Kept profile) [] vs (v ∷ []) (p .kept) (k, tt);
   ongoing = from-append (λ h v. T (not (isSE v))) [] vs (v ∷ []) (p .ongoing) (o, tt);

@@ -23,7 +23,7 @@ use Rattle.elements.specs.Checks.{Check, Keeps}
 use Rattle.elements.specs.Rules.{byteChecks, endChecks}
 use Rattle.gate.specs.Profile.{Profile}
 use Rattle.gate.specs.Segments.{tagIn, isSE, seen, onto, levelsIn}
-use Rattle.gate.specs.Rules.{tagChecks, Rule, asRules, rowRules, early, late, rules, Sound, FirstBroken}
+use Rattle.gate.specs.Rules.{tagChecks, Rule, asRules, Admitted, rowRules, early, late, rules, Sound, FirstBroken}
 use Rattle.gate.specs.Records.{Tables, Room, segmentRoom, levelRoom}
 use Rattle.gate.specs.Reads.{cutBy, skipBy, Passed, Run}
 use Rattle.gate.specs.declared.answer.Answer.{Answer}
@@ -44,14 +44,14 @@ abbrev pub tested : List Check → Says → Says
 tested [] d = d
 tested (c ∷ cs) d = elim (c .holds) [ true ↦ tested cs d | false ↦ Bad (c .number) (c .element) ]
 
-abbrev pub byRow : ℕ → Says → Says
-byRow zero d = Bad 7 0
-byRow (suc r) d = d
+abbrev pub byRow : Profile → ℕ → Says → Says
+byRow profile zero d = Bad 7 0
+byRow profile (suc r) d = elim (profile .rows (suc r)) [ true ↦ d | false ↦ Bad 24 0 ]
 
 unfoldable pub says : Profile → List ℕ → List View → View → Says
 says profile w h v =
     let x = stepOf (lastOf 0 w) (twice 0 false w) (tagIn v) in
-    tested (early v) (byRow x (tested (late profile h v) (Fine x)))
+    tested (early v) (byRow profile x (tested (late profile h v) (Fine x)))
 
 -- an answer, the segments with records, their rows
 abbrev pub Out : Type 0
@@ -120,17 +120,26 @@ module _ (profile : Profile) (w : List ℕ) (v : View) where
       by false f = inl ((λ x. x), refl, refl)
 
   module _ (h : List View) (p : Viable list842 w) where
-    by-row : (x : ℕ) → OneFits w (tagIn v) x → Right (rowRules w v ++ asRules (late profile h v)) (byRow x (tested (late profile h v) (Fine x)))
+    -- the row is of the profile, or 24 is broken
+    by-profile : (r : ℕ) → OneFits w (tagIn v) r → Fits w (tagIn v) r → (b : Bool) → profile .rows r ≡ b
+        → Right (rowRules profile w v ++ asRules (late profile h v)) (elim b [ true ↦ tested (late profile h v) (Fine r) | false ↦ Bad 24 0 ])
+    by-profile r s f true e =
+        let seven : Rule = record { number = 7; element = 0; Holds = (r : ℕ) × Fits w (tagIn v) r } in
+        let last : Rule = record { number = 24; element = 0; Holds = (r : ℕ) × Fits w (tagIn v) r × Admitted profile r } in
+        let rest = asRules (late profile h v) in
+        let d = tested (late profile h v) (Fine r) in
+        right-more seven (last ∷ rest) d (r, f)
+        (right-more last rest d (r, f, rw e tt) (rw append-nil at (tested-right (late profile h v) [] (Fine r) (λ _. (tt, f)))))
+    by-profile r s f false e =
+        inr ((r, f), inl ((λ x. let z = s .alone (x .0) (x .1) .0 in subst T (ap (profile .rows) z ∙ e) (x .2)), refl, refl))
+
+    by-row : (x : ℕ) → OneFits w (tagIn v) x → Right (rowRules profile w v ++ asRules (late profile h v)) (byRow profile x (tested (late profile h v) (Fine x)))
     by-row zero s = inl ((λ r. s .alone (r .0) (r .1) .1 refl), refl, refl)
-    by-row (suc r) s =
-        let f : Fits w (tagIn v) (suc r) = s .fits (λ e. omega (arith, e)) in
-        right-more (record { number = 7; element = 0; Holds = (r : ℕ) × Fits w (tagIn v) r }) (asRules (late profile h v))
-        (tested (late profile h v) (Fine (suc r))) (suc r, f)
-        (rw append-nil at (tested-right (late profile h v) [] (Fine (suc r)) (λ _. (tt, f))))
+    by-row (suc r) s = by-profile (suc r) s (s .fits (λ e. omega (arith, e))) (profile .rows (suc r)) refl
 
     pub says-right : Right (rules profile w h v) (says profile w h v)
     unfolding says tagChecks
-    says-right = rw append-assoc (tested-right (early v) (rowRules w v ++ asRules (late profile h v)) _ (λ k.
+    says-right = rw append-assoc (tested-right (early v) (rowRules profile w v ++ asRules (late profile h v)) _ (λ k.
         let tag-known = keeps-split (byteChecks v) (tagChecks v) (keeps-split (byteChecks v ++ tagChecks v) (endChecks v) k .0) .1 .0 in
         by-row (stepOf (lastOf 0 w) (twice 0 false w) (tagIn v)) (step-fits w p (tagIn v) (ltb→lt (tagIn v) 34 tag-known))))
 
@@ -178,10 +187,11 @@ module _ (profile : Profile) (how : How) (t : Tables) (s : Bytes) where
     pub passed-more : (r : ℕ) → Sound profile w h v r → T (not (isSE v)) → Room profile t (v ∷ h)
         → Passed profile how t s gs′ (w ++ (r ∷ [])) (end + length g + 1 + skipBy how more) (drop (skipBy how more) more)
     passed-more r sound o room =
-        let n = numbers-more profile (seen how gs) w v r (numbers p) (sound .kept) (sound .fits) o in
+        let n = numbers-more profile (seen how gs) w v r (numbers p) (sound .kept) (sound .fits) (sound .admitted) o in
         record {
           leads = led-snoc profile how t s 0 s gs end rest g more (p .leads) next;
           viable = n .viable;
+          admitted = n .admitted;
           tags = rw seen-more (n .tags);
           kept = rw seen-more (n .kept);
           ongoing = rw seen-more (n .ongoing);
@@ -256,7 +266,7 @@ module _ (profile : Profile) (how : How) (t : Tables) (s : Bytes) where
   -- nothing is passed yet
   pub passed-none : Passed profile how t s [] [] 0 s
   unfolding levelsIn
-  passed-none = record { leads = (refl, refl); viable = viable-nil; tags = refl; kept = tt; ongoing = tt; room = record { segments-fit = omega arith; levels-fit = omega arith } }
+  passed-none = record { leads = (refl, refl); viable = viable-nil; admitted = tt; tags = refl; kept = tt; ongoing = tt; room = record { segments-fit = omega arith; levels-fit = omega arith } }
 
   pub computes : Good (compute profile how (segmentRoom t) (levelRoom t) s)
   unfolding compute

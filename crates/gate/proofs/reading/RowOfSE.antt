@@ -3,7 +3,6 @@
 use Prim.Native.Nat.{ℕ, _<_}
 use mathlib.Core.Path.{_≡_, refl, sym, ap, _∙_}
 use mathlib.Core.Logic.{by-cases}
-use mathlib.Core.List.{List, [], _∷_, _++_}
 use native.Mathlib.Omega.{arith}
 use native.Mathlib.Decide.{decLt}
 use lib.Dec.{eqb}
@@ -12,7 +11,6 @@ use Rattle.text.proofs.Tables.{tab, tab-at}
 use Rattle.rows.specs.Tags.{tag, tagNumber}
 use Rattle.rows.specs.Rows.{list842}
 use Rattle.rows.specs.RowList.{rowAt, tagOf}
-use Rattle.rows.specs.Following.{lastOf}
 use Rattle.rows.specs.declared.list.Row.{Row}
 use Rattle.rows.proofs.ListedRows.{row-past}
 
@@ -37,8 +35,3 @@ row-se r e =
 pub tag-79 : tagOf 79 ≡ tag "SE"
 unfolding tagOf rowAt list842 tagNumber
 tag-79 = refl
-
--- the last row of a list that ends so
-pub last-snoc : (r : ℕ) (w : List ℕ) (x : ℕ) → lastOf r (w ++ (x ∷ [])) ≡ x
-last-snoc r [] x = refl
-last-snoc r (y ∷ w) x = last-snoc y w x

@@ -104,12 +104,13 @@ module _ (profile : Profile) where
   -- a transaction that meets every rule at once keeps them segment by segment
   pub meets-from : (vs : List View) (rows : List ℕ) → Meets profile vs rows → MeetsFrom profile vs rows
   meets-from vs rows m =
-      let closes = word-closes vs rows (m .word) (m .tags) in
+      let closes = word-closes vs rows (m .word .word) (m .tags) in
       let kept = meet-kept (profile .levels) (hls vs) (claims (onto [] vs)) (divided vs .tells) (claims-count vs) (m .levels) in
       let marks = meet-filled (profile .levels) (hls vs) (claims (onto [] vs)) (divided vs .tells) (claims-count vs) (m .levels) in
       let ends : ClosesWell vs = record { count = m .count; control = m .control; marks = marks } in
       record {
-        word = m .word;
+        word = m .word .word;
+        admitted = m .word .admitted;
         tags = m .tags;
         kept = parts-kept [] vs (record {
           bytes = m .bytes;
@@ -127,7 +128,7 @@ module _ (profile : Profile) where
       let parts = kept-parts [] vs (m .kept) in
       let ends = keeps-ends vs (closes .0) (closes .1) (from-closing profile [] vs (closes .0) (parts .closing)) in
       record {
-        word = m .word;
+        word = record { word = m .word; admitted = m .admitted };
         tags = m .tags;
         bytes = parts .bytes;
         ends = parts .ends;

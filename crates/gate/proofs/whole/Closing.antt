@@ -14,13 +14,13 @@ use Rattle.rows.specs.Tags.{tag, tagNumber}
 use Rattle.rows.specs.Rows.{Word, list842}
 use Rattle.rows.specs.RowList.{tagOf}
 use Rattle.rows.specs.Following.{MayFollow, lastOf}
-use Rattle.rows.proofs.Viability.{Chain, word-iff, nil-no-word, ends-at-79}
+use Rattle.rows.proofs.Viability.{last-snoc, Chain, word-iff, nil-no-word, ends-at-79}
 use Rattle.elements.specs.Checks.{Check, Keeps}
 use Rattle.gate.specs.Profile.{Profile}
 use Rattle.gate.specs.Segments.{tagIn, isHL, isSE, onto, claims, opening}
 use Rattle.gate.specs.Rules.{closingChecks, seChecks, From}
 use Rattle.gate.specs.Meets.{firstOf, lastFrom}
-use Rattle.gate.proofs.reading.RowOfSE.{row-se, tag-79, last-snoc}
+use Rattle.gate.proofs.reading.RowOfSE.{row-se, tag-79}
 
 -- an SE is no HL
 se-no-hl : (v : View) → T (isSE v) → isHL v ≡ false
@@ -29,7 +29,7 @@ se-no-hl v s = rw (eqb→eq (tagIn v) (tag "SE") s)
 
 -- nothing may follow row 79
 nothing-follows : (x y : ℕ) → x ≡ 79 → MayFollow x y → ⊥
-nothing-follows x y e (w, v) = ends-at-79 (w ++ (x ∷ [])) (last-snoc 0 w x ∙ e) y (rw append-assoc v)
+nothing-follows x y e (w, v) = ends-at-79 (w ++ (x ∷ [])) (last-snoc w 0 x ∙ e) y (rw append-assoc v)
 
 -- the last segment is an SE and no other is
 abbrev pub Closes : List View → Type 0

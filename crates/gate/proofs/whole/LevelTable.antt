@@ -10,12 +10,13 @@ use native.Mathlib.Decide.{decLt}
 use lib.ListN.{length}
 use borrow.Author.Tests.{eq-eqb, ne-eqb}
 use Rattle.text.specs.View.{View}
-use Rattle.levels.specs.Profile.{LevelProfile}
+use Rattle.levels.specs.Profile.{LevelProfile, levelProfile}
 use Rattle.levels.specs.Levels.{Claim, Level, levelAt, parentOf, levelsOf}
 use Rattle.levels.specs.internal.Everyone.{Everyone}
 use Rattle.levels.proofs.CalledLevel.{levels-length, level-everyone}
 use Rattle.levels.proofs.Depth.{Within4, depth-at-most-4}
-use Rattle.gate.specs.Profile.{nonconformance}
+use Rattle.rows.specs.declared.profile.ProfileName.{ProfileName}
+use Rattle.gate.specs.Profile.{profileNamed}
 use Rattle.gate.specs.Segments.{onto, claims, levelsIn}
 use Rattle.gate.specs.Meets.{hls, hlAt, Meets}
 use Rattle.gate.specs.Conditions.{LevelShown}
@@ -56,17 +57,18 @@ module _ (profile : LevelProfile) (cs : List Claim) where
       })
 
 -- HL number j of a transaction that meets every rule
-pub level-shown : (vs : List View) (rows : List ℕ) → Meets nonconformance vs rows → (j : ℕ) → j < length (hls vs) → LevelShown nonconformance vs j
+pub level-shown : (name : ProfileName) (vs : List View) (rows : List ℕ) → Meets (profileNamed name) vs rows → (j : ℕ) → j < length (hls vs)
+    → LevelShown (profileNamed name) vs j
 unfolding levelsIn
-level-shown vs rows m j h =
-    let profile = nonconformance .levels in
+level-shown name vs rows m j h =
+    let profile = levelProfile name in
     let cs = hls vs in
     let ks = claims (onto [] vs) in
     let count = claims-count vs in
     let b = before-of profile cs ks (divided vs .tells) j (omega (arith, count)) in
     record {
       shallow = level-everyone (λ (l : Level). l .depth ≤ 4) (omega arith) (suc j) (levelsOf profile ks)
-          (shallow-all (levelsOf profile ks) (depth-at-most-4 ks (meet-kept profile cs ks (divided vs .tells) count (m .levels))));
+          (shallow-all (levelsOf profile ks) (depth-at-most-4 name ks (meet-kept profile cs ks (divided vs .tells) count (m .levels))));
       root = λ e. b .parent-is ∙ rw e;
       child = λ p.
           let u = m .levels .parented j h p in

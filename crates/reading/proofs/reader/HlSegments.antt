@@ -2,7 +2,7 @@
 -- Assumes nothing.
 use Prim.Native.Nat.{ℕ, _+_, _≤_, _<_}
 use mathlib.Core.Path.{_≡_, refl, sym, ap, _∙_}
-use mathlib.Core.Bool.{false, not, _&&_, _||_}
+use mathlib.Core.Bool.{Bool, false, not, _&&_, _||_}
 use mathlib.Core.List.{List, [], _∷_, _++_}
 use native.Mathlib.Omega.{arith}
 use lib.Dec.{T}
@@ -18,26 +18,27 @@ use Rattle.text.proofs.BinView.{view-plain, elements-plain}
 use Rattle.text.specs.Separators.{Fitted}
 use Rattle.rows.specs.Tags.{tag, tags, tagNumber}
 use Rattle.rows.proofs.TagList.{tag-of-number}
-use Rattle.elements.specs.Data.{rulesHL}
+use Rattle.elements.specs.Data.{rulesHL, elementProfile}
 use Rattle.elements.specs.Checks.{Keeps}
 use Rattle.elements.specs.Rules.{ruleOf, headed, tooManyChecks, missingChecks, unfitChecks, noteChecks, checksBy, ruledChecks, presentAt}
 use Rattle.levels.specs.Levels.{Claim, claimOf}
 use Rattle.levels.specs.internal.Everyone.{Everyone}
 use Rattle.levels.proofs.Depth.{Within4, depth-at-most-4}
-use Rattle.gate.specs.Profile.{nonconformance}
+use Rattle.rows.specs.declared.profile.ProfileName.{ProfileName}
+use Rattle.gate.specs.Profile.{profileNamed}
 use Rattle.gate.specs.Segments.{tagIn, onto, claims, levelsIn}
 use Rattle.gate.specs.Rules.{Kept, From}
 use Rattle.gate.proofs.reading.Laws.{keeps-split, keeps-at}
-use Rattle.gate.proofs.reading.ElementTexts.{element-piece, other-tag, hl-no-bin, tag-of-view, hl-rules, hl-claim}
+use Rattle.gate.proofs.reading.ElementTexts.{element-piece, other-tag, hl-no-bin, tag-of-view, unusedIn, hl-rules, hl-claim}
 use Rattle.gate.proofs.whole.AllLevels.{Leveled, from-kept}
 use Rattle.finding.specs.internal.TablesHold.{HlBytes}
 
 -- the third element of an HL is there
-third-present : (v : View) → Keeps (checksBy rulesHL v) → T (present (elementOf v 3))
-third-present v k =
-    let a = keeps-split (tooManyChecks rulesHL v ++ missingChecks rulesHL v ++ unfitChecks rulesHL v) (noteChecks (rulesHL .notes) (presentAt v)) k .0 in
-    let b = keeps-split (tooManyChecks rulesHL v ++ missingChecks rulesHL v) (unfitChecks rulesHL v) a .0 in
-    let c = keeps-split (tooManyChecks rulesHL v) (missingChecks rulesHL v) b .1 in
+third-present : (unused : ℕ → Bool) (v : View) → Keeps (checksBy rulesHL unused v) → T (present (elementOf v 3))
+third-present unused v k =
+    let a = keeps-split (tooManyChecks rulesHL unused v ++ missingChecks rulesHL v ++ unfitChecks rulesHL v) (noteChecks (rulesHL .notes) (presentAt v)) k .0 in
+    let b = keeps-split (tooManyChecks rulesHL unused v ++ missingChecks rulesHL v) (unfitChecks rulesHL v) a .0 in
+    let c = keeps-split (tooManyChecks rulesHL unused v) (missingChecks rulesHL v) b .1 in
     let d =
     keeps-at 8 1 4 (λ (k : ℕ). (not (ruleOf rulesHL k .must) || present (elementOf v k)) && headed (ruleOf rulesHL k .shape) (elementOf v k)) c 3 (omega arith)
     (omega arith) in
@@ -68,15 +69,15 @@ hl-tag-long t e =
     sym (ap length f) ∙ hl-letters
 
 -- the bytes of an HL segment tell its HL01 and its mark
-pub hl-written : (q : Separators) → Fitted q → (s : Bytes) (at : ℕ) (g more : Bytes) → drop at s ≡ g ++ q .terminator ∷ more
-    → Keeps (ruledChecks (nonconformance .elements) (tagIn (viewOf q g)) (viewOf q g)) → tagIn (viewOf q g) ≡ tag "HL"
+pub hl-written : (name : ProfileName) (q : Separators) → Fitted q → (s : Bytes) (at : ℕ) (g more : Bytes) → drop at s ≡ g ++ q .terminator ∷ more
+    → Keeps (ruledChecks (elementProfile name) (tagIn (viewOf q g)) (viewOf q g)) → tagIn (viewOf q g) ≡ tag "HL"
     → HlBytes s (q .element) at (length g) (claimOf (viewOf q g) .id) (claimOf (viewOf q g) .mark)
-hl-written q fit s at g more w k e =
+hl-written name q fit s at g more w k e =
     let seg : take (length g) (drop at s) ≡ g = ap (take (length g)) w ∙ take-append-seam g (q .terminator ∷ more) in
-    let rules : Keeps (checksBy rulesHL (viewOf q g)) = rw (e, hl-rules) at k in
+    let rules : Keeps (checksBy rulesHL (unusedIn name "HL") (viewOf q g)) = rw (e, hl-rules) at k in
     let n = other-tag q g (λ z. hl-no-bin (sym e ∙ z)) in
-    let four = four-pieces q g n (third-present (viewOf q g) rules) in
-    let claim = hl-claim q g k e in
+    let four = four-pieces q g n (third-present (unusedIn name "HL") (viewOf q g) rules) in
+    let claim = hl-claim name q g k e in
     record {
       tag = rw seg (hl-tag-long (getD (pieces (q .element) g) 0 []) (ap (λ (ps : List Bytes). tagNumber (getD ps 0 [])) (sym (elements-plain (q .element) g n)) ∙ sym (tag-of-view q fit g) ∙ e));
       some = rw seg (omega arith);
@@ -84,12 +85,13 @@ hl-written q fit s at g more w k e =
       mark-is = rw seg (sym (ap (λ (c : Claim). c .mark) claim));
     }
 
--- each segment that keeps its rules keeps those of levels
-leveled : (h vs : List View) → From (Kept nonconformance) h vs → From (Leveled nonconformance) h vs
-leveled h [] f = tt
-leveled h (v ∷ vs) f = (f .0 .level, leveled (v ∷ h) vs (f .1))
+module _ (name : ProfileName) where
+  -- each segment that keeps its rules keeps those of levels
+  leveled : (h vs : List View) → From (Kept (profileNamed name)) h vs → From (Leveled (profileNamed name)) h vs
+  leveled h [] f = tt
+  leveled h (v ∷ vs) f = (f .0 .level, leveled (v ∷ h) vs (f .1))
 
--- so every level of segments that keep their rules has a depth of 1 to 4
-pub depths : (vs : List View) → From (Kept nonconformance) [] vs → Everyone Within4 (levelsIn nonconformance (onto [] vs))
-unfolding levelsIn
-depths vs f = depth-at-most-4 (claims (onto [] vs)) (from-kept nonconformance [] vs tt (leveled [] vs f))
+  -- so every level of segments that keep their rules has a depth of 1 to 4
+  pub depths : (vs : List View) → From (Kept (profileNamed name)) [] vs → Everyone Within4 (levelsIn (profileNamed name) (onto [] vs))
+  unfolding levelsIn
+  depths vs f = depth-at-most-4 name (claims (onto [] vs)) (from-kept (profileNamed name) [] vs tt (leveled [] vs f))

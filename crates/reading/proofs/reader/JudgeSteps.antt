@@ -27,6 +27,7 @@ use Rattle.rows.specs.Rows.{Viable, list842}
 use Rattle.rows.specs.RowList.{tagOf, rowAt}
 use Rattle.rows.proofs.Viability.{viable-iff}
 use Rattle.types.specs.Types.{numberOf}
+use Rattle.elements.specs.Data.{elementProfile}
 use Rattle.elements.specs.Checks.{Check, Keeps, firstBroken}
 use Rattle.elements.specs.Rules.{endChecks, ruledChecks}
 use Rattle.elements.specs.internal.Layouts.{layoutView, elementIn}
@@ -38,9 +39,10 @@ use Rattle.levels.specs.Levels.{Claim, claimOf, textOf, levelOf}
 use Rattle.levels.proofs.LevelTests.{keeps-passes}
 use Rattle.finding.proofs.KnownLevels.{knows-after}
 use Rattle.levels.specs.Rules.{levelChecks}
-use Rattle.gate.specs.Profile.{nonconformance, profileOf}
+use Rattle.rows.specs.declared.profile.ProfileName.{ProfileName}
+use Rattle.gate.specs.Profile.{profileOf}
 use Rattle.gate.specs.Segments.{tagIn, isHL, isSE, seen, onto, levelsIn}
-use Rattle.gate.specs.Rules.{closingChecks}
+use Rattle.gate.specs.Rules.{Admitted, closingChecks}
 use Rattle.gate.specs.Records.{Tables}
 use Rattle.reading.specs.internal.Standing.{Standing}
 use Rattle.reading.specs.internal.Cutting.{CutAs, segmentOf}
@@ -53,7 +55,7 @@ use Rattle.reading.specs.declared.judging.Judgement.{Judgement}
 use Rattle.reading.specs.declared.judging.Judgement.the-variants.{Broken, Other}
 use Rattle.elements.specs.declared.layout.Layout.{Layout}
 use Rattle.reading.specs.declared.judging.State.{State}
-use Rattle.reading.proofs.reader.RuleOrder.{unknown-tag, bad-end, no-row, bad-element, bad-level, bad-closing, no-level, no-closing, its-level, its-closing, all-kept}
+use Rattle.reading.proofs.reader.RuleOrder.{unknown-tag, bad-end, no-row, not-in-profile, bad-element, bad-level, bad-closing, no-level, no-closing, its-level, its-closing, all-kept}
 use Rattle.gate.proofs.reading.ElementTexts.{bin-tag, other-tag, hl-no-bin, se-no-bin, tag-of-view, hl-claim, se-count, se-control}
 use Rattle.reading.proofs.cut.BinCuts.{bin-ends}
 use Rattle.reading.proofs.reader.OpeningControl.{control-of-first, counted-number}
@@ -95,9 +97,9 @@ module _ {q : Separators} {s : Bytes} {starts : List ℕ} {layout : Layout} {g m
   tag-is fit = ap tagNumber (text-is 0 (omega arith)) ∙ sym (tag-of-view q fit g)
 
 -- a BIN is a plain segment
-plain-bin : (v : View) → firstBroken (ruledChecks (nonconformance .elements) (tag "BIN") v) ≡ Holds
+plain-bin : (name : ProfileName) (v : View) → firstBroken (ruledChecks (elementProfile name) (tag "BIN") v) ≡ Holds
 unfolding ruledChecks tagNumber
-plain-bin v = refl
+plain-bin name v = refl
 
 -- an SE's row comes behind another row
 row-1 : tagOf 1 ≡ tag "SE" → ⊥
@@ -162,7 +164,13 @@ module _ {how : How} {before : Tables} {s : Bytes} {segments levels : List ℕ} 
       pub judges-row : x ≡ 0 → Judges (profileOf how) rows h v (Broken 7 0)
       judges-row e = no-row (profileOf how) rows h v (nt .laid .data-only) known-tag ends (λ r f. one-fits .alone r f .1 e)
 
-      module _ (some : x ≡ 0 → ⊥) where
+      -- 24
+      pub judges-outside : (x ≡ 0 → ⊥) → (Admitted (profileOf how) x → ⊥) → Judges (profileOf how) rows h v (Broken 24 0)
+      judges-outside some outside =
+          not-in-profile (profileOf how) rows h v (nt .laid .data-only) known-tag ends x (one-fits .fits some)
+          (λ r f a. outside (rw (one-fits .alone r f .0) at a))
+
+      module _ (some : x ≡ 0 → ⊥) (inside : Admitted (profileOf how) x) where
         fits : Fits rows (tagIn v) x
         fits = one-fits .fits some
 
@@ -175,14 +183,14 @@ module _ {how : How} {before : Tables} {s : Bytes} {segments levels : List ℕ} 
                 ≡ firstBroken (ruledChecks (profileOf how .elements) (tagIn v) v)
             by true b =
                 let e = tag-known ∙ bin-tag (how .separators) g b in
-                rw (← tag-known, e) (plain-bin (layoutView s starts layout (how .separators .component)) ∙ sym (plain-bin v))
-            by false b = ruled-own (right nt) b t ∙ ap (λ (k : ℕ). firstBroken (ruledChecks (profileOf how .elements) k v)) tag-known
+                rw (← tag-known, e) (plain-bin (how .profile) (layoutView s starts layout (how .separators .component)) ∙ sym (plain-bin (how .profile) v))
+            by false b = ruled-own (right nt) b (how .profile) t ∙ ap (λ (k : ℕ). firstBroken (ruledChecks (profileOf how .elements) k v)) tag-known
 
         -- 9, 8, 10, 11
         pub judges-element : (d : Verdict)
             → d ≡ firstBroken (ruledChecks (profileOf how .elements) t (layoutView s starts layout (how .separators .component)))
             → (n e : ℕ) → d ≡ Faulty n e → Judges (profileOf how) rows h v (Broken n e)
-        judges-element d is n e q = bad-element (profileOf how) rows h v (nt .laid .data-only) known-tag ends x fits n e (sym ruled-is ∙ sym is ∙ q)
+        judges-element d is n e q = bad-element (profileOf how) rows h v (nt .laid .data-only) known-tag ends x fits inside n e (sym ruled-is ∙ sym is ∙ q)
 
         module _ (elements : Keeps (ruledChecks (profileOf how .elements) (tagIn v) v)) where
           -- 12, 13, 14, 15 of an HL
@@ -193,7 +201,7 @@ module _ {how : How} {before : Tables} {s : Bytes} {segments levels : List ℕ} 
               let b = piece-is nt n 2 (omega arith) in
               let c = piece-is nt n 3 (omega arith) in
               let d = piece-is nt n 4 (omega arith) in
-              (λ i. record { id = a i; parent = b i; code = c i; mark = d i }) ∙ sym (hl-claim (how .separators) g elements e)
+              (λ i. record { id = a i; parent = b i; code = c i; mark = d i }) ∙ sym (hl-claim (how .profile) (how .separators) g elements e)
 
           hl-no-se : T (isHL v) → T (not (isSE v))
           unfolding tagNumber
@@ -205,17 +213,17 @@ module _ {how : How} {before : Tables} {s : Bytes} {segments levels : List ℕ} 
               let checks = levelChecks (profileOf how .levels) (levelsIn (profileOf how) h) (claimOf v) in
               verdict-cases (firstBroken checks)
               (λ q.
-              let level = its-level (profileOf how) rows h v (nt .laid .data-only) known-tag ends x fits elements hl (keeps-holds checks .0 q) in
-              let closing = no-closing (profileOf how) rows h v (nt .laid .data-only) known-tag ends x fits elements (hl-no-se hl) in
+              let level = its-level (profileOf how) rows h v (nt .laid .data-only) known-tag ends x fits inside elements hl (keeps-holds checks .0 q) in
+              let closing = no-closing (profileOf how) rows h v (nt .laid .data-only) known-tag ends x fits inside elements (hl-no-se hl) in
               rw q (
-                record { kept = all-kept (profileOf how) rows h v (nt .laid .data-only) known-tag ends x fits elements level closing; fits = fits },
+                record { kept = all-kept (profileOf how) rows h v (nt .laid .data-only) known-tag ends x fits inside elements level closing; fits = fits; admitted = inside },
                 passes (isHL v) hl,
                 hl-no-se hl,
                 refl,
                 knows-after (st .knows) (omega (arith, st .knows .counted)) (levelOf (profileOf how .levels) (suc (length h)) (claimOf v) (levelsIn (profileOf how) h))
                     (keeps-passes (profileOf how .levels) (levelsIn (profileOf how) h) (claimOf v) (keeps-holds checks .0 q) .new),
               ))
-              (λ n k q. rw q (bad-level (profileOf how) rows h v (nt .laid .data-only) known-tag ends x fits elements hl n k q))
+              (λ n k q. rw q (bad-level (profileOf how) rows h v (nt .laid .data-only) known-tag ends x fits inside elements hl n k q))
 
           -- 16 and 15 of an SE
           se-no-hl : T (isSE v) → T (not (isHL v))
@@ -227,14 +235,14 @@ module _ {how : How} {before : Tables} {s : Bytes} {segments levels : List ℕ} 
               let checks = closingChecks (profileOf how) h v in
               verdict-cases (firstBroken checks)
               (λ q.
-              let level = no-level (profileOf how) rows h v (nt .laid .data-only) known-tag ends x fits elements (se-no-hl se) in
-              let closing = its-closing (profileOf how) rows h v (nt .laid .data-only) known-tag ends x fits elements se (keeps-holds checks .0 q) in
+              let level = no-level (profileOf how) rows h v (nt .laid .data-only) known-tag ends x fits inside elements (se-no-hl se) in
+              let closing = its-closing (profileOf how) rows h v (nt .laid .data-only) known-tag ends x fits inside elements se (keeps-holds checks .0 q) in
               rw q (
-                record { kept = all-kept (profileOf how) rows h v (nt .laid .data-only) known-tag ends x fits elements level closing; fits = fits },
+                record { kept = all-kept (profileOf how) rows h v (nt .laid .data-only) known-tag ends x fits inside elements level closing; fits = fits; admitted = inside },
                 not-passes (isHL v) (se-no-hl se),
                 se,
               ))
-              (λ n k q. rw q (bad-closing (profileOf how) rows h v (nt .laid .data-only) known-tag ends x fits elements (se-no-hl se) se n k q))
+              (λ n k q. rw q (bad-closing (profileOf how) rows h v (nt .laid .data-only) known-tag ends x fits inside elements (se-no-hl se) se n k q))
 
           -- an SE is not the first segment
           some-before : tagIn v ≡ tag "SE" → 0 < state .count
@@ -245,9 +253,9 @@ module _ {how : How} {before : Tables} {s : Bytes} {segments levels : List ℕ} 
           its-closing-tests e =
               let n = other-tag (how .separators) g (λ z. se-no-bin (sym e ∙ z)) in
               let total : numberOf (elementIn s starts layout 1) ≡ valueOf (textOf (elementOf v 1)) =
-              ap numberOf (piece-is nt n 1 (omega arith) ∙ sym (se-count (how .separators) g elements e)) ∙ counted-number (how .separators) g elements e in
+              ap numberOf (piece-is nt n 1 (omega arith) ∙ sym (se-count (how .profile) (how .separators) g elements e)) ∙ counted-number (how .profile) (how .separators) g elements e in
               let control : elementIn s starts layout 2 ≡ textOf (elementOf v 2) =
-              piece-is nt n 2 (omega arith) ∙ sym (se-control (how .separators) g elements e) in
+              piece-is nt n 2 (omega arith) ∙ sym (se-control (how .profile) (how .separators) g elements e) in
               let first = control-of-first how before s segments levels at state gs rows (some-before e) st in
               let long : suc (state .count) ≡ suc (length h) = omega (arith, history-long how gs, st .count-is) in
               rw (total, control, first, long, st .tells .levels-are) refl
@@ -276,9 +284,9 @@ module _ {how : How} {before : Tables} {s : Bytes} {segments levels : List ℕ} 
               by false false p q =
                   let hl : T (not (isHL v)) = rw (← tag-known, p) tt in
                   let se : T (not (isSE v)) = rw (← tag-known, q) tt in
-                  let level = no-level (profileOf how) rows h v (nt .laid .data-only) known-tag ends x fits elements hl in
-                  let closing = no-closing (profileOf how) rows h v (nt .laid .data-only) known-tag ends x fits elements se in (
-                    record { kept = all-kept (profileOf how) rows h v (nt .laid .data-only) known-tag ends x fits elements level closing; fits = fits },
+                  let level = no-level (profileOf how) rows h v (nt .laid .data-only) known-tag ends x fits inside elements hl in
+                  let closing = no-closing (profileOf how) rows h v (nt .laid .data-only) known-tag ends x fits inside elements se in (
+                    record { kept = all-kept (profileOf how) rows h v (nt .laid .data-only) known-tag ends x fits inside elements level closing; fits = fits; admitted = inside },
                     not-passes (isHL v) hl,
                     se,
                   )

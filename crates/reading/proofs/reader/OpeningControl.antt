@@ -2,7 +2,7 @@
 -- Assumes nothing.
 use Prim.Native.Nat.{ℕ, _+_, _≤_, _<_}
 use mathlib.Core.Path.{_≡_, refl, sym, ap, subst, _∙_}
-use mathlib.Core.Bool.{not, _&&_, _||_}
+use mathlib.Core.Bool.{Bool, not, _&&_, _||_}
 use mathlib.Core.List.{List, [], _∷_, _++_, head-eq-of-cons-eq}
 use native.Mathlib.Omega.{arith}
 use lib.Dec.{T}
@@ -22,20 +22,20 @@ use Rattle.rows.specs.Rows.{list842}
 use Rattle.rows.specs.RowList.{tagOf, rowAt}
 use Rattle.rows.proofs.Viability.{viable-iff}
 use Rattle.types.specs.Types.{numberOf, fits}
-use Rattle.elements.specs.Data.{value, rulesSE}
+use Rattle.elements.specs.Data.{value, rulesSE, elementProfile}
 use Rattle.elements.specs.Checks.{Keeps}
 use Rattle.elements.specs.Rules.{ruleOf, headed, fitsSimple, tooManyChecks, missingChecks, unfitChecks, noteChecks, checksBy, ruledChecks, presentAt}
 use Rattle.types.specs.declared.kind.Kind.the-variants.{N0}
 use Rattle.levels.specs.Widths.{segmentWidth}
 use Rattle.levels.specs.Levels.{textOf}
-use Rattle.gate.specs.Profile.{nonconformance}
+use Rattle.rows.specs.declared.profile.ProfileName.{ProfileName}
 use Rattle.gate.specs.Segments.{tagIn, seen, onto, opening}
 use Rattle.gate.specs.Records.{Tables}
 use Rattle.reading.specs.internal.Standing.{Standing}
 use Rattle.reading.specs.internal.Judgements.{openingControl}
 use Rattle.gate.specs.declared.how.How.{How}
 use Rattle.gate.proofs.reading.Laws.{keeps-split, opening-onto, keeps-at}
-use Rattle.gate.proofs.reading.ElementTexts.{other-tag, st-no-bin, ruled-simple, se-rules, st-control}
+use Rattle.gate.proofs.reading.ElementTexts.{other-tag, st-no-bin, ruled-simple, unusedIn, se-rules, st-control}
 use Rattle.reading.specs.declared.judging.State.{State}
 
 -- row 1 is ST's
@@ -61,17 +61,17 @@ control-of-first how before s segments levels at state (g ∷ gs) (r ∷ rows) s
     let first : r ≡ 1 = viable-iff r rows .0 (st .passed .viable) .0 in
     let st-tag : tagIn (viewOf q (g .segment)) ≡ tag "ST" = sym (head-eq-of-cons-eq (st .passed .tags)) ∙ ap tagOf first ∙ tag-1 in
     let v = viewOf q (g .segment) in
-    let text = st-control q (g .segment) (st .passed .kept .0 .elements) st-tag in
+    let text = st-control (how .profile) q (g .segment) (st .passed .kept .0 .elements) st-tag in
     let plain = elements-plain (q .element) (g .segment) (other-tag q (g .segment) (λ z. st-no-bin (sym st-tag ∙ z))) in
     let o : opening (onto [] (seen how (g ∷ gs))) ≡ v = opening-onto v [] (seen how gs) in
     rw (le-ltb (length segments) segmentWidth wide, long, le-ltb (length s) (length (g .segment)) inside, front, o, plain) (sym text)
 
 -- SE01 is one to ten digits, so its number is worked out
-first-there : (v : View) → Keeps (checksBy rulesSE v) → T (present (elementOf v 1))
-first-there v k =
-    let a = keeps-split (tooManyChecks rulesSE v ++ missingChecks rulesSE v ++ unfitChecks rulesSE v) (noteChecks (rulesSE .notes) (presentAt v)) k .0 in
-    let b = keeps-split (tooManyChecks rulesSE v ++ missingChecks rulesSE v) (unfitChecks rulesSE v) a .0 in
-    let c = keeps-split (tooManyChecks rulesSE v) (missingChecks rulesSE v) b .1 in
+first-there : (unused : ℕ → Bool) (v : View) → Keeps (checksBy rulesSE unused v) → T (present (elementOf v 1))
+first-there unused v k =
+    let a = keeps-split (tooManyChecks rulesSE unused v ++ missingChecks rulesSE v ++ unfitChecks rulesSE v) (noteChecks (rulesSE .notes) (presentAt v)) k .0 in
+    let b = keeps-split (tooManyChecks rulesSE unused v ++ missingChecks rulesSE v) (unfitChecks rulesSE v) a .0 in
+    let c = keeps-split (tooManyChecks rulesSE unused v) (missingChecks rulesSE v) b .1 in
     let d =
     keeps-at 8 1 2 (λ (k : ℕ). (not (ruleOf rulesSE k .must) || present (elementOf v k)) && headed (ruleOf rulesSE k .shape) (elementOf v k)) c 1 (omega arith)
     (omega arith) in
@@ -81,12 +81,12 @@ fits-number : (s : Bytes) → T (fits N0 1 10 s) → numberOf s ≡ valueOf s
 unfolding fits numberOf
 fits-number s t = rw (passes (between 1 10 (length s) && every isDigit s) t)
 
-pub counted-number : (q : Separators) (g : Bytes) → Keeps (ruledChecks (nonconformance .elements) (tagIn (viewOf q g)) (viewOf q g))
+pub counted-number : (name : ProfileName) (q : Separators) (g : Bytes) → Keeps (ruledChecks (elementProfile name) (tagIn (viewOf q g)) (viewOf q g))
     → tagIn (viewOf q g) ≡ tag "SE" → numberOf (textOf (elementOf (viewOf q g) 1)) ≡ valueOf (textOf (elementOf (viewOf q g) 1))
-counted-number q g ruled e =
+counted-number name q g ruled e =
     let v = viewOf q g in
-    let k : Keeps (checksBy rulesSE v) = rw (e, se-rules) at ruled in
-    by (elementOf v 1) (first-there v k) (ruled-simple rulesSE v (value N0 1 10) 1 (omega arith) (omega arith) refl k)
+    let k : Keeps (checksBy rulesSE (unusedIn name "SE") v) = rw (e, se-rules) at ruled in
+    by (elementOf v 1) (first-there (unusedIn name "SE") v k) (ruled-simple rulesSE (unusedIn name "SE") v (value N0 1 10) 1 (omega arith) (omega arith) refl k)
   where
     by : (p : List Bytes) → T (present p) → T (not (present p) || fitsSimple (value N0 1 10) p) → numberOf (textOf p) ≡ valueOf (textOf p)
     by [] t u = absurd t

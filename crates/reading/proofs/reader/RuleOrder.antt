@@ -20,7 +20,7 @@ use Rattle.levels.specs.Levels.{claimOf}
 use Rattle.levels.specs.Rules.{levelChecks}
 use Rattle.gate.specs.Profile.{Profile}
 use Rattle.gate.specs.Segments.{tagIn, isHL, isSE, levelsIn}
-use Rattle.gate.specs.Rules.{tagChecks, hlChecks, closingChecks, seChecks, Rule, asRules, rowRules, rules, FirstBroken, Kept}
+use Rattle.gate.specs.Rules.{tagChecks, hlChecks, closingChecks, seChecks, Rule, asRules, Admitted, rowRules, rules, FirstBroken, Kept}
 
 -- the first of some tests that fails is the first of the rules that is broken, whatever rules follow
 pub first-here : (cs : List Check) (rest : List Rule) (n e : ℕ) → firstBroken cs ≡ Broken n e → FirstBroken (asRules cs ++ rest) n e
@@ -63,7 +63,7 @@ module _ (profile : Profile) (w : List ℕ) (h : List View) (v : View) where
   abbrev ruledOn : List Rule
   ruledOn = asRules ruled ++ levelOn
 
-  grouped : rules profile w h v ≡ asRules (byteChecks v) ++ (asRules (tagChecks v) ++ (asRules (endChecks v) ++ (rowRules w v ++ ruledOn)))
+  grouped : rules profile w h v ≡ asRules (byteChecks v) ++ (asRules (tagChecks v) ++ (asRules (endChecks v) ++ (rowRules profile w v ++ ruledOn)))
   grouped =
       rw (
         as-rules-append (byteChecks v ++ tagChecks v) (endChecks v),
@@ -101,9 +101,13 @@ module _ (profile : Profile) (w : List ℕ) (h : List View) (v : View) where
         pub no-row : ((r : ℕ) → Fits w (tagIn v) r → ⊥) → FirstBroken (rules profile w h v) 7 0
         no-row none = rw grouped (before-row _ 7 0 (inl ((λ x. none (x .0) (x .1)), refl, refl)))
 
-        module _ (r : ℕ) (fits : Fits w (tagIn v) r) where
+        -- 24
+        pub not-in-profile : (r : ℕ) → Fits w (tagIn v) r → ((x : ℕ) → Fits w (tagIn v) x → Admitted profile x → ⊥) → FirstBroken (rules profile w h v) 24 0
+        not-in-profile r fits none = rw grouped (before-row _ 24 0 (inr ((r, fits), inl ((λ x. none (x .0) (x .1) (x .2)), refl, refl))))
+
+        module _ (r : ℕ) (fits : Fits w (tagIn v) r) (inside : Admitted profile r) where
           after-row : (n e : ℕ) → FirstBroken ruledOn n e → FirstBroken (rules profile w h v) n e
-          after-row n e f = rw grouped (before-row (rowRules w v ++ ruledOn) n e (inr ((r, fits), f)))
+          after-row n e f = rw grouped (before-row (rowRules profile w v ++ ruledOn) n e (inr ((r, fits), inr ((r, fits, inside), f))))
 
           -- 9, 8, 10, 11
           pub bad-element : (n e : ℕ) → firstBroken ruled ≡ Broken n e → FirstBroken (rules profile w h v) n e

@@ -34,7 +34,7 @@ use Rattle.gate.proofs.reading.Laws.{onto-append, onto-length}
 use Rattle.gate.proofs.reading.Once.{Fails}
 use Rattle.gate.proofs.reading.Passing.{belongs-se, belongs-hl, belongs-other}
 use Rattle.reading.proofs.reader.HlSegments.{hl-written, depths}
-use Rattle.gate.proofs.reading.RowOfSE.{last-snoc}
+use Rattle.rows.proofs.Viability.{last-snoc}
 use Rattle.gate.proofs.continuing.LevelNames.{levels-hl, levels-other}
 use Rattle.gate.proofs.reading.Reference.{passed-none, passed-more}
 use Rattle.finding.proofs.KnownLevels.{knows-none}
@@ -180,13 +180,13 @@ module _ {how : How} {before : Tables} {s : Bytes} {segments levels : List ℕ} 
     pub room-other : isHL v ≡ false → state .count < length segments / segmentWidth → Room profile before (v ∷ before-views)
     room-other hl l = record {
       segments-fit = omega (arith, segments-long, history-long how gs, st .count-is);
-      levels-fit = rw (levels-other before-views v hl) (st .passed .room .levels-fit);
+      levels-fit = rw (levels-other (how .profile) before-views v hl) (st .passed .room .levels-fit);
     }
 
     pub room-level : isHL v ≡ true → state .count < length segments / segmentWidth → state .known .levels < length levels / levelWidth → Room profile before (v ∷ before-views)
     room-level hl l m = record {
       segments-fit = omega (arith, segments-long, history-long how gs, st .count-is);
-      levels-fit = rw (levels-hl before-views v hl) (omega (arith, levels-long, st .knows .counted));
+      levels-fit = rw (levels-hl (how .profile) before-views v hl) (omega (arith, levels-long, st .knows .counted));
     }
 
     -- no room
@@ -195,7 +195,7 @@ module _ {how : How} {before : Tables} {s : Bytes} {segments levels : List ℕ} 
 
     pub no-level-room : isHL v ≡ true → length levels / levelWidth ≤ state .known .levels → Room profile before (v ∷ before-views) → ⊥
     no-level-room hl l r =
-        let f : suc (length (levelsIn profile before-views)) ≤ length (before .levels) / levelWidth = rw (levels-hl before-views v hl) at (r .levels-fit) in
+        let f : suc (length (levelsIn profile before-views)) ≤ length (before .levels) / levelWidth = rw (levels-hl (how .profile) before-views v hl) at (r .levels-fit) in
         omega (arith, levels-long, st .knows .counted, f)
 
     -- where the next segment starts
@@ -224,7 +224,7 @@ module _ {how : How} {before : Tables} {s : Bytes} {segments levels : List ℕ} 
         → Standing how before s (stored r (state .known .levels)) levels next (stateAfter state r (state .known)) gs′ (rows ++ (r ∷ []))
     standing-other r sound hl se room =
         let same : levelsIn profile (onto [] (seen how gs′)) ≡ levelsIn profile before-views =
-        ap (levelsIn profile) history-more ∙ levels-other before-views v hl in
+        ap (levelsIn profile) history-more ∙ levels-other (how .profile) before-views v hl in
         let one : suc (state .count) ≡ state .count + 1 = omega arith in
         record {
           passed = passed-next r sound se (room-other hl room);
@@ -232,7 +232,7 @@ module _ {how : How} {before : Tables} {s : Bytes} {segments levels : List ℕ} 
           levels-are = st .levels-are ∙ ap (λ (ls : List Level). over (before .levels) (recordsOf ls)) (sym same);
           count-is = count-more;
           rows-are = rows-more r;
-          row-is = last-snoc 0 rows r;
+          row-is = last-snoc rows 0 r;
           again-is = again-more r;
           tells = rw (← one, same) (holds-segment (st .tells) at (length g) (r ∷ state .known .levels ∷ []) refl (omega arith));
           knows = rw same (st .knows);
@@ -249,11 +249,11 @@ module _ {how : How} {before : Tables} {s : Bytes} {segments levels : List ℕ} 
     standing-level fit r sound hl se room level-room numbers is after knows =
         let p = passed-next r sound se (room-level hl room level-room) in
         let more-levels : levelsIn profile (onto [] (seen how gs′)) ≡ new ∷ levelsIn profile before-views =
-        ap (levelsIn profile) history-more ∙ levels-hl before-views v hl in
+        ap (levelsIn profile) history-more ∙ levels-hl (how .profile) before-views v hl in
         let one : suc (state .count) ≡ state .count + 1 = omega arith in
         let two : suc (state .known .levels) ≡ after .levels = omega (arith, st .knows .counted, knows .counted) in
-        let deep : Everyone Within4 (new ∷ levelsIn profile before-views) = rw more-levels at (depths (seen how gs′) (p .kept)) in
-        let written = hl-written (how .separators) fit s at g more whole (sound .kept .elements) (eqb→eq (tagIn v) (tag "HL") (rw hl tt)) in
+        let deep : Everyone Within4 (new ∷ levelsIn profile before-views) = rw more-levels at (depths (how .profile) (seen how gs′) (p .kept)) in
+        let written = hl-written (how .profile) (how .separators) fit s at g more whole (sound .kept .elements) (eqb→eq (tagIn v) (tag "HL") (rw hl tt)) in
         record {
           passed = p;
           segments-are = segments-more r (after .levels) (belongs-hl profile before-views v se hl ∙ knows .counted);
@@ -265,7 +265,7 @@ module _ {how : How} {before : Tables} {s : Bytes} {segments levels : List ℕ} 
               (ap (λ (l : List ℕ). recordsOf (levelsIn profile before-views) ++ l) is ∙ sym (ap recordsOf more-levels));
           count-is = count-more;
           rows-are = rows-more r;
-          row-is = last-snoc 0 rows r;
+          row-is = last-snoc rows 0 r;
           again-is = again-more r;
           tells = rw (← one, ← two, more-levels, is)
               (holds-level (st .tells) at (length g) (r ∷ suc (state .known .levels) ∷ []) refl (omega arith) new (omega (arith, history-long how gs, st .count-is)) (deep .0 .1) (omega arith) written);
@@ -278,7 +278,7 @@ module _ {how : How} {before : Tables} {s : Bytes} {segments levels : List ℕ} 
         (record { segments = stored r 0; levels = levels })
     standing-closes r sound hl se room =
         let same : levelsIn profile (onto [] (seen how gs′)) ≡ levelsIn profile before-views =
-        ap (levelsIn profile) history-more ∙ levels-other before-views v hl in
+        ap (levelsIn profile) history-more ∙ levels-other (how .profile) before-views v hl in
         let are : levels ≡ over (before .levels) (levelRecords profile how gs′) =
         st .levels-are ∙ ap (λ (ls : List Level). over (before .levels) (recordsOf ls)) (sym same) in
         record {

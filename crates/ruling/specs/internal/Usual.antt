@@ -2,13 +2,14 @@
 -- Assumes nothing.
 use Prim.Native.Nat.{ℕ, zero, suc, _≤_}
 use mathlib.Core.Path.{_≡_}
-use mathlib.Core.Bool.{Bool, true}
+use mathlib.Core.Bool.{Bool, true, false}
 use mathlib.Core.List.{List, [], _∷_}
 use lib.ListN.{length}
 use Rattle.text.specs.Bytes.{Bytes}
 use Rattle.types.specs.declared.kind.Kind.{Kind}
-use Rattle.elements.specs.Data.{Simple, Element, value}
-use Rattle.elements.specs.Rules.{ruleOf, completeBy, suitsBy}
+use Rattle.rows.specs.declared.profile.ProfileName.{ProfileName}
+use Rattle.elements.specs.Data.{Simple, Element, value, elementProfile}
+use Rattle.elements.specs.Rules.{ruleOf, isUnused, completeBy, suitsBy}
 use Rattle.elements.specs.internal.Layouts.{elementIn}
 use Rattle.elements.specs.internal.Verdicts.{rulesOf, lastMust}
 use Rattle.elements.specs.declared.layout.Layout.{Layout}
@@ -30,6 +31,10 @@ SuitsAt s starts layout tag k = Suits (ruleOf (rulesOf tag) k) (elementIn s star
 abbrev pub FromOne : (ℕ → Type 0) → ℕ → Type 0
 FromOne P zero = Unit {0}
 FromOne P (suc n) = FromOne P n × P (suc n)
+
+-- the profile wants no element of the segment with that tag absent
+abbrev pub AllUsed : ProfileName → ℕ → Type 0
+AllUsed profile tag = (k : ℕ) → isUnused (elementProfile profile) tag k ≡ false
 
 -- the elements up to one that reaches the last that is there and the last that has to be
 pub record Suiting (s : Bytes) (starts : List ℕ) (layout : Layout) (tag : ℕ) : Type 0 where

@@ -12,6 +12,9 @@ separators-at-requires c κs = search needs
 lines-at-requires : tie.Need-lines-at-requires
 lines-at-requires c κs = search needs
 
+profile-at-requires : tie.Need-profile-at-requires
+profile-at-requires c κs = search needs
+
 two-at-requires : tie.Need-two-at-requires
 two-at-requires c κs = search needs
 
@@ -54,6 +57,7 @@ read-case-spec =
     (tie.spec
     separators-at-requires
     lines-at-requires
+    profile-at-requires
     two-at-requires
     least-requires
     two-at-requires-2

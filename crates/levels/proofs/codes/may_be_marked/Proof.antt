@@ -1,11 +1,21 @@
--- `may_be_marked` meets its contract.
+-- `may_be_marked` meets its contract, profile by profile.
 -- Assumes nothing.
-use Rattle.levels.proofs.CodeLetters.{is-marked}
+use Rattle.levels.proofs.CodeLetters.{is-marked, none-marked}
+use borrow.Author.Needs.{needs}
 use Rattle.levels.proofs.codes.may_be_marked.Statement.{statement}
 use Rattle.levels.proofs.codes.may_be_marked.Tie as tie
 
+enum-told : tie.Need-enum-told
+enum-told c = search needs
+
+enum-told-2 : tie.Need-enum-told-2
+enum-told-2 c = search needs
+
 returns : tie.Need-returns
-returns c = is-marked (c .args .code)
+returns c = rw (c .enum-told .given .1) (is-marked (c .before .before .args .code))
+
+returns-2 : tie.Need-returns-2
+returns-2 c = rw (c .enum-told2 .given .1) (none-marked (c .before .before .args .code))
 
 pub may-be-marked-spec : {M : Type 1} → statement M
-may-be-marked-spec = tie.close (tie.spec returns)
+may-be-marked-spec = tie.close (tie.spec enum-told enum-told-2 returns returns-2)

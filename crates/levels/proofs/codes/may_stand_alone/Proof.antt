@@ -1,11 +1,21 @@
--- `may_stand_alone` meets its contract.
+-- `may_stand_alone` meets its contract, profile by profile.
 -- Assumes nothing.
-use Rattle.levels.proofs.CodeLetters.{stands-alone}
+use Rattle.levels.proofs.CodeLetters.{stands-alone, all-stand-alone}
+use borrow.Author.Needs.{needs}
 use Rattle.levels.proofs.codes.may_stand_alone.Statement.{statement}
 use Rattle.levels.proofs.codes.may_stand_alone.Tie as tie
 
+enum-told : tie.Need-enum-told
+enum-told c = search needs
+
+enum-told-2 : tie.Need-enum-told-2
+enum-told-2 c = search needs
+
 returns : tie.Need-returns
-returns c = stands-alone (c .args .code)
+returns c = rw (c .enum-told .given .1) (stands-alone (c .before .before .args .code))
+
+returns-2 : tie.Need-returns-2
+returns-2 c = rw (c .enum-told2 .given .1) (all-stand-alone (c .before .before .args .code))
 
 pub may-stand-alone-spec : {M : Type 1} → statement M
-may-stand-alone-spec = tie.close (tie.spec returns)
+may-stand-alone-spec = tie.close (tie.spec enum-told enum-told-2 returns returns-2)

@@ -16,7 +16,7 @@ answer-requires c κs = search needs
 
 returns : tie.Need-returns
 returns c =
-    child-is _ _ _ _ _ _ (c .before .before .code-number .ensures) (c .before .child-verdict .ensures) (c .answer .ensures)
+    child-is _ _ _ _ _ _ _ (c .before .before .code-number .ensures) (c .before .child-verdict .ensures) (c .answer .ensures)
 
 pub judge-child-spec : {M : Type 1} → statement M
 judge-child-spec =

@@ -15,7 +15,7 @@ answer-requires : tie.Need-answer-requires
 answer-requires c κs = search needs
 
 returns : tie.Need-returns
-returns c = root-is _ _ _ _ _ (c .before .before .code-number .ensures) (c .before .root-verdict .ensures) (c .answer .ensures)
+returns c = root-is _ _ _ _ _ _ (c .before .before .code-number .ensures) (c .before .root-verdict .ensures) (c .answer .ensures)
 
 pub judge-root-spec : {M : Type 1} → statement M
 judge-root-spec =

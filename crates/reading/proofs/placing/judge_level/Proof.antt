@@ -4,7 +4,9 @@ use mathlib.Core.Path.{_≡_, sym, ap, _∙_}
 use mathlib.Core.List.{List}
 use lib.Dec.{eqb}
 use lib.ListN.{length}
+use denote.Ref.{now}
 use borrow.Author.Tests.{not-true, not-false}
+use Rattle.levels.specs.Profile.{levelProfile}
 use Rattle.levels.specs.Levels.{Claim, Level, called}
 use Rattle.reading.specs.internal.Judgements.{claimIn}
 use Rattle.reading.proofs.reader.Placings.{placed-used, placed-root, placed-nowhere, placed-under}
@@ -31,7 +33,9 @@ claim c = claimIn (c .args .s .now) (c .args .starts .now) (c .args .layout)
 tests : (c : tie.After-is-new) → Knows (start (c .before) .args .known) (before-it (start (c .before)))
     → start (c .before) .args .after ≡ knownAfter (start (c .before) .args .known) (claim (start (c .before)) .id)
     → c .is-new .result ≡ eqb (called (claim (start (c .before)) .id) (before-it (start (c .before)))) 0
-tests c k is = rw (c .before .element .ensures) at (c .is-new .ensures .right k (is ∙ ap (knownAfter _) (sym (c .before .element .ensures))))
+tests c k is =
+    let named : now (c .before .element .result) ≡ claim (start (c .before)) .id = c .before .element .ensures in
+    rw named at (c .is-new .ensures .right k (is ∙ ap (knownAfter _) (sym named)))
 
 abbrev found-start : tie.After-find → tie.Start
 found-start c = start (c .before .before .before .before .before .before .before)
@@ -50,7 +54,7 @@ returns : tie.Need-returns
 returns c = λ k is.
     let tested = c .before in
     let at = start (tested .before) in
-    placed-used (before-it at) (claim at) (tested .is-new .result) (tests tested k is) (not-true (tested .is-new .result) (c .if1 .taken))
+    placed-used (levelProfile (at .args .profile)) (before-it at) (claim at) (tested .is-new .result) (tests tested k is) (not-true (tested .is-new .result) (c .if1 .taken))
 
 element-requires-2 : tie.Need-element-requires-2
 element-requires-2 c κs = search needs
@@ -72,7 +76,7 @@ returns-2 c = λ k is.
     let new = parent .before in
     let tested = new .before in
     let at = start (tested .before) in
-    placed-root (before-it at) (claim at) (tested .is-new .result) (tests tested k is) (not-false (tested .is-new .result) (new .if1 .left))
+    placed-root (levelProfile (at .args .profile)) (before-it at) (claim at) (tested .is-new .result) (tests tested k is) (not-false (tested .is-new .result) (new .if1 .left))
     (ap length (sym (parent .element2 .ensures)) ∙ c .before .if2 .taken) _
     (rw (code .element3 .ensures, mark .element4 .ensures) at (c .judge-root .ensures))
 
@@ -87,7 +91,7 @@ returns-3 c = λ k is.
     let new = parent .before in
     let tested = new .before in
     let at = start (tested .before) in
-    placed-nowhere (before-it at) (claim at) (tested .is-new .result) (tests tested k is) (not-false (tested .is-new .result) (new .if1 .left))
+    placed-nowhere (levelProfile (at .args .profile)) (before-it at) (claim at) (tested .is-new .result) (tests tested k is) (not-false (tested .is-new .result) (new .if1 .left))
     (λ z. child .if2 .left (ap length (parent .element2 .ensures) ∙ z)) _ (finds found k) (c .if3 .taken)
 
 parent-at-requires : tie.Need-parent-at-requires
@@ -109,7 +113,7 @@ returns-4 c = λ k is.
     let at = start (tested .before) in
     let a = at .args in
     let above = found .find .result in
-    placed-under (before-it at) (claim at) (tested .is-new .result) (tests tested k is) (not-false (tested .is-new .result) (new .if1 .left))
+    placed-under (levelProfile (at .args .profile)) (before-it at) (claim at) (tested .is-new .result) (tests tested k is) (not-false (tested .is-new .result) (new .if1 .left))
     (λ z. child .if2 .left (ap length (parent .element2 .ensures) ∙ z)) above (finds found k) (named .if3 .left) _
     (called-level (a .s .now) (a .separator) (a .segments .now) (a .levels .now) (a .known .levels) (claim at .parent) above (finds found k) (named .if3 .left)) _
     (rw (c .before .parent-at .ensures, code .element3 .ensures, mark .element4 .ensures) at (c .judge-child .ensures))

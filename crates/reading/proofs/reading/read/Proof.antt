@@ -12,17 +12,22 @@ use Rattle.reading.proofs.reading.read.Tie as tie
 abbrev tested : tie.After-read-on-arg2 → tie.Else2
 tested c = c .before .before .before .before .before .before .before
 
+-- where the function starts, by the place behind its first call
+abbrev start : tie.After-fit → tie.Start
+start c = c .before .before .before .before
+
 fit-requires : tie.Need-fit-requires
 fit-requires c κs = search needs
 
 returns : tie.Need-returns
-returns c = unfit-refuses _ _ _ (c .before .fit .result) (c .before .fit .ensures) (c .if1 .taken)
+returns c = unfit-refuses (start (c .before) .args .how) _ _ (c .before .fit .result) (c .before .fit .ensures) (c .if1 .taken)
 
 returns-2 : tie.Need-returns-2
 returns-2 c =
     let fitting = c .before in
     let told = fitting .before .fit in
-    long-refuses _ _ _ (told .result) (told .ensures) (fitting .if1 .left) (omega (arith, c .if2 .taken))
+    let a = start (fitting .before) .args in
+    long-refuses (a .how) (a .s .now) _ (told .result) (told .ensures) (fitting .if1 .left) (omega (arith, c .if2 .taken))
 
 set-special-requires : tie.Need-set-special-requires
 set-special-requires c κs = search needs
@@ -52,7 +57,8 @@ returns-3 c =
     let short = tested (ended .before) in
     let fitting = short .before in
     let told = fitting .before .fit in
-    segments-decide _ _ _ (told .result) (told .ensures) (fitting .if1 .left) (omega (arith, short .if2 .left)) _ _ (ended .read-on .ensures)
+    let a = start (fitting .before) .args in
+    segments-decide (a .how) (a .s .now) _ (told .result) (told .ensures) (fitting .if1 .left) (omega (arith, short .if2 .left)) _ _ (ended .read-on .ensures)
 
 pub read-spec : {M : Type 1} → statement M
 read-spec =

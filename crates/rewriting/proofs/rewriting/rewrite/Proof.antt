@@ -27,7 +27,7 @@ refused-requires c κs = search needs
 returns : tie.Need-returns
 returns c =
     let tested = c .before in
-    rw (c .refused .ensures) (old-unfit _ _ _ _ _ (sym (tested .before .fit .ensures) ∙ not-true _ (tested .if1 .taken)))
+    rw (c .refused .ensures) (old-unfit _ _ _ _ _ _ (sym (tested .before .fit .ensures) ∙ not-true _ (tested .if1 .taken)))
 
 fit-requires-2 : tie.Need-fit-requires-2
 fit-requires-2 c κs = search needs
@@ -39,7 +39,7 @@ returns-2 : tie.Need-returns-2
 returns-2 c =
     let tested = c .before in
     rw (c .refused2 .ensures)
-    (new-unfit _ _ _ _ _ (old-fits (tested .before .before)) (sym (tested .before .fit2 .ensures) ∙ not-true _ (tested .if2 .taken)))
+    (new-unfit _ _ _ _ _ _ (old-fits (tested .before .before)) (sym (tested .before .fit2 .ensures) ∙ not-true _ (tested .if2 .taken)))
 
 read-requires : tie.Need-read-requires
 read-requires c κs = search needs
@@ -53,9 +53,10 @@ write-accepted-requires c κs =
     let read = counted .before .before .before .before .before .before in
     let accepted = rw (counted .count .given .1) at (read .read .ensures) in
     let both = read .before .before .before in
-    let new-fit = fitted (both .before .before .before .before .before .before .before .before .args .new) (rw (new-fits both) tt) in (
-      accepted-names _ _ _ _ _ _ _ accepted,
-      (accepted-cut _ _ _ _ _ _ _ accepted, (new-fit, accepted-bytes _ _ _ _ _ _ _ accepted)),
+    let a = both .before .before .before .before .before .before .before .before .args in
+    let new-fit = fitted (a .new) (rw (new-fits both) tt) in (
+      accepted-names (a .profile) (a .old) _ _ _ _ _ _ accepted,
+      (accepted-cut (a .profile) (a .old) _ _ _ _ _ _ accepted, (new-fit, accepted-bytes (a .profile) (a .old) _ _ _ _ _ _ accepted)),
     )
 
 enum-known-number : tie.Need-enum-known-number
@@ -75,7 +76,7 @@ returns-3 c =
     let counted = c .before .before .before .before .before .before in
     let read = counted .before .before .before .before .before .before in
     let fit = read .before .before .before in
-    reading-accepted _ _ _ _ _ (old-fits (fit .before .before)) (new-fits fit) _ _ _ _ (rw (counted .count .given .1) at (read .read .ensures)) _ _
+    reading-accepted _ _ _ _ _ _ (old-fits (fit .before .before)) (new-fits fit) _ _ _ _ (rw (counted .count .given .1) at (read .read .ensures)) _ _
     (c .before .before .write-accepted .ensures)
 
 same-length-4 : tie.Need-same-length-4
@@ -88,7 +89,7 @@ returns-4 : tie.Need-returns-4
 returns-4 c =
     let read = c .before .before .before .before .before .before .before in
     let fit = read .before .before .before in
-    reading-refused _ _ _ _ _ (old-fits (fit .before .before)) (new-fits fit) _ _ _ _ _ (rw (c .before .number .given .1) at (read .read .ensures))
+    reading-refused _ _ _ _ _ _ (old-fits (fit .before .before)) (new-fits fit) _ _ _ _ _ (rw (c .before .number .given .1) at (read .read .ensures))
 
 pub rewrite-spec : {M : Type 1} → statement M
 rewrite-spec =

@@ -3,32 +3,36 @@
 use mathlib.Core.Path.{_≡_, sym, _∙_}
 use lib.ListN.{length}
 use denote.Ref.{now}
-use Rattle.elements.specs.internal.Layouts.{componentsIn}
+use Rattle.elements.specs.internal.Layouts.{thereIn, componentsIn}
 use Rattle.elements.specs.internal.Verdicts.{rulesOf}
+use Rattle.elements.specs.declared.verdict.Verdict.{Verdict}
 use Rattle.elements.specs.declared.verdict.Verdict.the-variants.{Holds}
 use Rattle.elements.proofs.EveryTag.{last-small}
-use Rattle.ruling.specs.internal.Early.{earlyVerdict}
-use Rattle.ruling.proofs.EarlyRules.{early-few}
+use Rattle.ruling.specs.internal.Early.{earlyBy}
+use Rattle.ruling.proofs.EarlyRules.{early-few, silent-others}
 use Rattle.ruling.proofs.RuleOrder.{decide-plain, decide-early, decide-notes}
 use native.Mathlib.Omega.{arith}
 use borrow.Author.Needs.{needs}
 use Rattle.ruling.proofs.ruled.ruled_verdict.Statement.{statement}
 use Rattle.ruling.proofs.ruled.ruled_verdict.Tie as tie
 
+-- what is found before the notes
+abbrev early : tie.Start → Verdict
+early c =
+    earlyBy (c .args .profile) (c .args .tag) (thereIn (now (c .args .s)) (now (c .args .starts)) (c .args .layout))
+    (componentsIn (now (c .args .s)) (now (c .args .starts)) (c .args .layout) (c .args .component)) (c .args .layout .count)
+
 ruled : (c : tie.Else1) → length (rulesOf (c .before .before .before .args .tag) .elements) ≡ 0 → ⊥
 ruled c z = c .if1 .left (c .before .last-ruled .ensures ∙ z)
 
-silent : (c : tie.After-enum-told) → Holds ≡ earlyVerdict (rulesOf (c .before .before .before .before .before .before .args .tag))
-    (componentsIn (now (c .before .before .before .before .before .before .args .s))
-    (now (c .before .before .before .before .before .before .args .starts)) (c .before .before .before .before .before .before .args .layout)
-    (c .before .before .before .before .before .before .args .component)) (c .before .before .before .before .before .before .args .layout .count)
+silent : (c : tie.After-enum-told) → Holds ≡ early (c .before .before .before .before .before .before)
 silent c = sym (c .enum-told .given .1) ∙ c .before .before .early-verdict .ensures
 
 last-ruled-requires : tie.Need-last-ruled-requires
 last-ruled-requires c κs = search needs
 
 returns : tie.Need-returns
-returns c = decide-plain _ _ _ _ _ (sym (c .before .last-ruled .ensures) ∙ c .if1 .taken)
+returns c = decide-plain _ _ _ _ (c .before .before .before .args .profile) _ (sym (c .before .last-ruled .ensures) ∙ c .if1 .taken)
 
 early-verdict-requires : tie.Need-early-verdict-requires
 early-verdict-requires c κs = search needs
@@ -37,16 +41,24 @@ enum-known-n : tie.Need-enum-known-n
 enum-known-n c = search needs
 
 returns-2 : tie.Need-returns-2
-returns-2 c = decide-early _ _ _ _ _ (ruled (c .before .before .before .before)) _ _ (sym (c .before .n .given .1) ∙ c .before .before .before .early-verdict .ensures)
+returns-2 c =
+    let found = c .before .before .before in
+    decide-early _ _ _ _ (found .before .before .before .before .args .profile) _ (ruled (found .before)) _ _
+    (sym (c .before .n .given .1) ∙ found .early-verdict .ensures)
 
 enum-told : tie.Need-enum-told
 enum-told c = search needs
 
 notes-verdict-requires : tie.Need-notes-verdict-requires
-notes-verdict-requires c κs = omega (arith, early-few _ _ _ _ _ (silent c), last-small (c .before .before .before .before .before .before .args .tag))
+notes-verdict-requires c κs =
+    let a = c .before .before .before .before .before .before .args in
+    omega (arith, early-few _ _ _ _ _ (silent-others _ _ _ _ _ (a .profile) _ (silent c)), last-small (a .tag))
 
 returns-3 : tie.Need-returns-3
-returns-3 c = c .notes-verdict .ensures ∙ decide-notes _ _ _ _ _ (ruled (c .before .before .before .before)) (silent (c .before))
+returns-3 c =
+    let told = c .before in
+    let start = told .before .before .before .before .before .before in
+    c .notes-verdict .ensures ∙ decide-notes _ _ _ _ (start .args .profile) _ (ruled (told .before .before .before)) (silent told)
 
 pub ruled-verdict-spec : {M : Type 1} → statement M
 ruled-verdict-spec =
