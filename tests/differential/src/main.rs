@@ -1,6 +1,6 @@
 //! Drives the proved library, through its C interface, and the independent reader with the same inputs, line ends skipped and
-//! strictly, and compares the answers, the whole tables and outputs, the spans of lookups and the numbers of number checks, and
-//! guard words around what was lent. Ends with status 1 if anything differs.
+//! strictly, as reports and as replies, and compares the answers, the whole tables and outputs, the spans of lookups and the
+//! numbers of number checks, and guard words around what was lent. Ends with status 1 if anything differs.
 
 mod lent;
 mod lookups;
@@ -30,7 +30,7 @@ fn run(words: &[String]) -> Result<bool, String> {
     let count = number(words, "--count", COUNT)?;
     let from = number(words, "--from", 0)?;
     println!(
-        "seeds {from} to {}, count {count}, W1 with every table size and separator, and every short number",
+        "seeds {from} to {}, count {count}, W1 and a reply with every table size and separator, and every short number",
         from + count - 1
     );
     let mut tally = Tally::default();

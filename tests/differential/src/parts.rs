@@ -1,4 +1,4 @@
-//! What is compared: generated reports, every table size, every separator.
+//! What is compared: generated reports and replies, every table size, every separator.
 
 use crate::lookups;
 use crate::numbers;
@@ -13,8 +13,14 @@ const W1: &[u8] = b"ST*842*0001~BNR*11*NR7*20240301~HL*1**RP*1~HL*2*1*I*0~NCD*1~
 const W1_IN_LINES: &[u8] =
     b"ST*842*0001~\r\nBNR*11*NR7*20240301~\nHL*1**RP*1~\rHL*2*1*I*0~NCD*1~\r\nNCA**R1~\nSE*7*0001~\r\n";
 
+/// A reply with each of its codes, line ends among its segments.
+const REPLY: &[u8] =
+    b"ST*842*0001~BNR*11*SQ7*20240301~\r\nHL*1**RP~HL*2**I~\nNCD**5~NCA**UC~\rHL*3**RB~SE*8*0001~";
+
 /// Room for a segment and a level more than W1 has.
 const W1_SIZES: Sizes = Sizes { segments: SEGMENT_NUMBERS * 8, levels: LEVEL_NUMBERS * 3, output: 0 };
+/// The same for the reply.
+const REPLY_SIZES: Sizes = Sizes { segments: SEGMENT_NUMBERS * 9, levels: LEVEL_NUMBERS * 4, output: 0 };
 
 /// One seed in so many has its report read with every table size.
 const EVERY_ROOM_ONE_IN: u64 = 512;
@@ -37,12 +43,12 @@ pub fn generated(tally: &mut Tally, seed: u64) {
     }
 }
 
-/// Bits of `how` that are not looked at: none for every other seed, else any but the lowest.
+/// Bits of `how` that are not looked at: none for every other seed, else any but the two lowest.
 fn unnamed_bits(seed: u64) -> u64 {
     if seed.is_multiple_of(2) {
         0
     } else {
-        Random::new(seed ^ 0x40).number() & !1
+        Random::new(seed ^ 0x40).number() & !3
     }
 }
 
@@ -58,15 +64,21 @@ fn every_room(tally: &mut Tally, name: &str, input: &[u8], set: Separators) {
     }
 }
 
-/// W1, with line ends and without, with every pair of table sizes.
+/// W1, with line ends and without, and a reply, with every pair of table sizes.
 pub fn rooms(tally: &mut Tally) {
-    for segments in 0..=W1_SIZES.segments {
-        for levels in 0..=W1_SIZES.levels {
-            let sizes = Sizes { segments, levels, output: 0 };
-            tally.read("W1, rooms", W1, Separators::STANDARD, 0, sizes);
-            tally.read("W1 in lines, rooms", W1_IN_LINES, Separators::STANDARD, 0, sizes);
-        }
+    for sizes in every_pair(W1_SIZES) {
+        tally.read("W1, rooms", W1, Separators::STANDARD, 0, sizes);
+        tally.read("W1 in lines, rooms", W1_IN_LINES, Separators::STANDARD, 0, sizes);
     }
+    for sizes in every_pair(REPLY_SIZES) {
+        tally.read("reply, rooms", REPLY, Separators::STANDARD, 0, sizes);
+    }
+}
+
+/// Every pair of table sizes up to these.
+fn every_pair(most: Sizes) -> impl Iterator<Item = Sizes> {
+    (0..=most.segments)
+        .flat_map(move |segments| (0..=most.levels).map(move |levels| Sizes { segments, levels, output: 0 }))
 }
 
 /// W1 in other separators: every byte in each of the three places, as the set and in the input, and every fit pair of
@@ -86,11 +98,12 @@ pub fn sets(tally: &mut Tally) {
     }
 }
 
-/// W1 as it is, and translated with line ends and without, read with that set.
+/// W1 as it is, and translated with line ends and without, and a reply translated, read with that set.
 fn set(tally: &mut Tally, set: Separators) {
     tally.read("W1, sets", W1, set, 0, W1_SIZES);
     tally.read("W1 translated, sets", &translated(W1, set), set, 0, W1_SIZES);
     tally.read("W1 in lines translated, sets", &translated(W1_IN_LINES, set), set, 0, W1_SIZES);
+    tally.read("reply translated, sets", &translated(REPLY, set), set, 0, REPLY_SIZES);
 }
 
 /// A report in the standard separators, written with that set.

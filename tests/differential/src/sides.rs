@@ -1,7 +1,7 @@
 //! The two sides: the library through its C interface, and the independent reader.
 
 use crate::outcome::{Outcome, Sizes};
-use reference::{lookup_span, LineEnds, Separators};
+use reference::{lookup_span, LineEnds, Profile, Separators};
 use stormhlaw::{raw, How};
 
 /// The set as the library takes it.
@@ -9,13 +9,17 @@ pub fn library_set(set: Separators) -> stormhlaw::Separators {
     stormhlaw::Separators { element: set.element, component: set.component, terminator: set.terminator }
 }
 
-/// What the library is told of line ends, with these bits besides, to which it must not look.
-pub fn library_how(line_ends: LineEnds, unnamed: u64) -> u64 {
+/// What the library is told of line ends and of the profile, with these bits besides, to which it must not look.
+pub fn library_how(line_ends: LineEnds, profile: Profile, unnamed: u64) -> u64 {
     let how = match line_ends {
         LineEnds::Skipped => How::new(),
         LineEnds::Strict => How::strict(),
     };
-    how.flags() | unnamed
+    let profile = match profile {
+        Profile::Report => stormhlaw::Profile::Nonconformance,
+        Profile::Reply => stormhlaw::Profile::StorageReply,
+    };
+    how.with_profile(profile).flags() | unnamed
 }
 
 /// The library's reading.
@@ -26,10 +30,15 @@ pub fn library_read(input: &[u8], set: Separators, how: u64, sizes: Sizes) -> Ou
 }
 
 /// The independent reading.
-pub fn reference_read(input: &[u8], set: Separators, line_ends: LineEnds, sizes: Sizes) -> Outcome {
+pub fn reference_read(
+    input: &[u8],
+    set: Separators,
+    (line_ends, profile): (LineEnds, Profile),
+    sizes: Sizes,
+) -> Outcome {
     let mut outcome = Outcome::new(sizes);
     let (segments, levels) = (outcome.segments.part(), outcome.levels.part());
-    outcome.answer = reference::read(input, set, line_ends, segments, levels).numbers();
+    outcome.answer = reference::read(input, set, line_ends, profile, segments, levels).numbers();
     outcome
 }
 

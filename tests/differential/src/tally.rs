@@ -2,19 +2,48 @@
 
 use crate::outcome::Sizes;
 use crate::sides::{library_how, library_lookup, library_read, reference_lookup, reference_read};
-use reference::{LineEnds, Separators};
+use reference::{LineEnds, Profile, Separators};
 
-/// How many answers there are, 0 to 19.
-const ANSWERS: usize = 20;
+/// The answers are 0 to 19 and 24.
+const ANSWERS: usize = 25;
 
 /// How many differences are told of; the others are only counted.
 const TOLD: usize = 10;
 
+/// How often each answer was given by each profile.
+#[derive(Default)]
+struct Answers {
+    reports: [u64; ANSWERS],
+    replies: [u64; ANSWERS],
+}
+
+impl Answers {
+    /// Counts one answer by that profile.
+    fn count(&mut self, profile: Profile, answer: u64) {
+        let counts = match profile {
+            Profile::Report => &mut self.reports,
+            Profile::Reply => &mut self.replies,
+        };
+        counts[(answer as usize).min(ANSWERS - 1)] += 1;
+    }
+
+    /// Prints how many there are, and how many of each, in a line for each profile.
+    fn print(&self, name: &str) {
+        for (profile, counts) in [("reports", self.reports), ("replies", self.replies)] {
+            print!("{name} of {profile} {}; by answer", counts.iter().sum::<u64>());
+            for (number, count) in counts.iter().enumerate().filter(|(_, count)| **count > 0) {
+                print!(" {number}:{count}");
+            }
+            println!();
+        }
+    }
+}
+
 /// What was compared so far.
 #[derive(Default)]
 pub struct Tally {
-    readings: [u64; ANSWERS],
-    rewritings: [u64; ANSWERS],
+    readings: Answers,
+    rewritings: Answers,
     lookups: u64,
     /// Pairs of lookups before and behind a rewriting.
     kept: u64,
@@ -23,19 +52,25 @@ pub struct Tally {
     differences: usize,
 }
 
+/// Every choice about line ends with every profile.
+pub fn every_how() -> impl Iterator<Item = (LineEnds, Profile)> {
+    Profile::BOTH.into_iter().flat_map(|profile| LineEnds::BOTH.map(|line_ends| (line_ends, profile)))
+}
+
 /// The bytes at a place, if it lies within the segment.
 fn bytes_at(segment: &[u8], (start, length): (u64, u64)) -> Option<&[u8]> {
     segment.get(start as usize..)?.get(..length as usize)
 }
 
 impl Tally {
-    /// Compares one reading by each choice about line ends, with these bits besides.
+    /// Compares one reading by each choice about line ends and each profile, with these bits besides.
     pub fn read(&mut self, name: &str, input: &[u8], set: Separators, unnamed: u64, sizes: Sizes) {
-        for line_ends in LineEnds::BOTH {
-            let how = library_how(line_ends, unnamed);
+        for (line_ends, profile) in every_how() {
+            let how = library_how(line_ends, profile, unnamed);
             let one = library_read(input, set, how, sizes);
-            self.readings[(one.answer[0] as usize).min(ANSWERS - 1)] += 1;
-            if let Some(difference) = one.difference(&reference_read(input, set, line_ends, sizes)) {
+            self.readings.count(profile, one.answer[0]);
+            if let Some(difference) = one.difference(&reference_read(input, set, (line_ends, profile), sizes))
+            {
                 self.differs(name, &difference, input, &format!("{set:?}, how {how:#x}, {sizes:?}"));
             }
         }
@@ -69,9 +104,9 @@ impl Tally {
         }
     }
 
-    /// Counts one rewriting with that answer.
-    pub fn rewritten(&mut self, answer: u64) {
-        self.rewritings[(answer as usize).min(ANSWERS - 1)] += 1;
+    /// Counts one rewriting by that profile with that answer.
+    pub fn rewritten(&mut self, profile: Profile, answer: u64) {
+        self.rewritings.count(profile, answer);
     }
 
     /// Counts one number check, of a number or of a text that is none.
@@ -97,13 +132,8 @@ impl Tally {
 
     /// Prints what was compared.
     pub fn print(&self) {
-        for (name, answers) in [("readings", self.readings), ("rewritings", self.rewritings)] {
-            print!("{name} {}; by answer", answers.iter().sum::<u64>());
-            for (number, count) in answers.iter().enumerate().filter(|(_, count)| **count > 0) {
-                print!(" {number}:{count}");
-            }
-            println!();
-        }
+        self.readings.print("readings");
+        self.rewritings.print("rewritings");
         println!("lookups {}; before and behind a rewriting {}", self.lookups, self.kept);
         println!("numbers {}; fit {}", self.numbers[0], self.numbers[1]);
         println!("differences {}", self.differences);

@@ -1,6 +1,6 @@
 //! How fast `read` is: nanoseconds for each byte and each call, on reports of several sizes.
 
-use reference::{read, Answer, LineEnds, Separators, LEVEL_NUMBERS, SEGMENT_NUMBERS};
+use reference::{read, Answer, LineEnds, Profile, Separators, LEVEL_NUMBERS, SEGMENT_NUMBERS};
 use std::hint::black_box;
 use std::time::Instant;
 
@@ -58,7 +58,8 @@ fn measure(name: &str, input: &[u8], times: usize) {
         let start = Instant::now();
         for _ in 0..times {
             let (set, line_ends) = (Separators::STANDARD, black_box(LineEnds::Skipped));
-            let answer = read(black_box(input), set, line_ends, &mut segments, &mut levels);
+            let profile = black_box(Profile::Report);
+            let answer = read(black_box(input), set, line_ends, profile, &mut segments, &mut levels);
             assert!(matches!(black_box(answer), Answer::Accepted { .. }), "{answer:?}");
         }
         best = best.min(start.elapsed().as_nanos() as f64 / times as f64);

@@ -12,7 +12,7 @@ pub enum Answer {
         /// How many bytes, up to and with the terminator of SE.
         bytes: usize,
     },
-    /// Answers 1 to 19.
+    /// Answers 1 to 19 and 24.
     Refused {
         /// The answer's number.
         number: usize,

@@ -1,8 +1,9 @@
-//! The element rules of document 01, and of document 02, Item 6: answers 9, 8, 10 and 11.
+//! The element rules of document 01, and of document 02, Items 6 and 9: answers 9, 8, 10 and 11.
 
 use crate::answer::Fault;
 use crate::cut::{Cut, CAPITAL, COMPONENT, DIGIT};
 use crate::number::{self, MOST_DIGITS};
+use crate::profile::Profile;
 use crate::rows::{Tag, TAG_COUNT};
 use crate::types;
 
@@ -67,6 +68,8 @@ pub struct Rules {
     pub elements: &'static [Element],
     /// A bit for each mandatory element.
     pub mandatory: u64,
+    /// A bit for each element that is one too many wherever it is present.
+    pub absent: u64,
     /// The notes in the paper's order.
     pub notes: &'static [Note],
     /// The last element is a composite.
@@ -109,6 +112,7 @@ const fn note(letter: Letter, elements: &[usize]) -> Note {
 static ST: Rules = Rules {
     elements: &[element(Type::Is842, 3, 3), an(4, 9)],
     mandatory: slots(&[1, 2]),
+    absent: 0,
     notes: &[],
     composite: false,
 };
@@ -116,6 +120,7 @@ static ST: Rules = Rules {
 static N1: Rules = Rules {
     elements: &[id(2, 3), an(1, 60), id(1, 2), an(2, 80), id(2, 2), id(2, 3)],
     mandatory: slots(&[1]),
+    absent: 0,
     notes: &[note(Letter::R, &[2, 3]), note(Letter::P, &[3, 4])],
     composite: false,
 };
@@ -123,19 +128,36 @@ static N1: Rules = Rules {
 static DTM: Rules = Rules {
     elements: &[id(3, 3), element(Type::DT, 8, 8), element(Type::TM, 4, 8), id(2, 2), id(2, 3), an(1, 35)],
     mandatory: slots(&[1]),
+    absent: 0,
     notes: &[note(Letter::R, &[2, 3, 5]), note(Letter::C, &[4, 3]), note(Letter::P, &[5, 6])],
     composite: false,
 };
 
-static HL: Rules = Rules {
-    elements: &[an(1, 12), an(1, 12), id(1, 2), id(1, 1)],
-    mandatory: slots(&[1, 3]),
-    notes: &[],
+static HL_ELEMENTS: [Element; 4] = [an(1, 12), an(1, 12), id(1, 2), id(1, 1)];
+
+static HL: Rules = hl(&[]);
+
+/// A level of a reply names no parent and has no mark.
+static REPLY_HL: Rules = hl(&[2, 4]);
+
+/// HL, with these elements absent.
+const fn hl(absent: &[usize]) -> Rules {
+    Rules {
+        elements: &HL_ELEMENTS,
+        mandatory: slots(&[1, 3]),
+        absent: slots(absent),
+        notes: &[],
+        composite: false,
+    }
+}
+
+static LIN: Rules = Rules {
+    elements: &LIN_ELEMENTS,
+    mandatory: slots(&[2, 3]),
+    absent: 0,
+    notes: &LIN_NOTES,
     composite: false,
 };
-
-static LIN: Rules =
-    Rules { elements: &LIN_ELEMENTS, mandatory: slots(&[2, 3]), notes: &LIN_NOTES, composite: false };
 
 /// LIN: 1 AN 1/20, then fifteen pairs, ID 2/2 and AN 1/48.
 static LIN_ELEMENTS: [Element; 31] = {
@@ -160,12 +182,18 @@ static LIN_NOTES: [Note; 14] = {
     notes
 };
 
-static NTE: Rules =
-    Rules { elements: &[id(3, 3), an(1, 80)], mandatory: slots(&[2]), notes: &[], composite: false };
+static NTE: Rules = Rules {
+    elements: &[id(3, 3), an(1, 80)],
+    mandatory: slots(&[2]),
+    absent: 0,
+    notes: &[],
+    composite: false,
+};
 
 static NCA: Rules = Rules {
     elements: &[an(1, 20), id(1, 2), an(1, 80), r(1, 15), element(Type::Composite, 0, 0)],
     mandatory: 0,
+    absent: 0,
     notes: &[note(Letter::R, &[2, 3]), note(Letter::P, &[4, 5])],
     composite: true,
 };
@@ -179,23 +207,39 @@ pub const NCA05_COMPONENTS: usize = 15;
 static SE: Rules = Rules {
     elements: &[element(Type::N0, 1, 10), an(4, 9)],
     mandatory: slots(&[1, 2]),
+    absent: 0,
     notes: &[],
     composite: false,
 };
 
 /// The rules of every tag; plain segments have none.
-pub static RULES: [Option<&Rules>; TAG_COUNT] = {
-    let mut rules: [Option<&Rules>; TAG_COUNT] = [None; TAG_COUNT];
+pub type AllRules = [Option<&'static Rules>; TAG_COUNT];
+
+static REPORT_RULES: AllRules = with_hl(&HL);
+static REPLY_RULES: AllRules = with_hl(&REPLY_HL);
+
+/// The rules of a profile, which differ at HL alone.
+#[inline]
+pub(crate) fn rules(profile: Profile) -> &'static AllRules {
+    match profile {
+        Profile::Report => &REPORT_RULES,
+        Profile::Reply => &REPLY_RULES,
+    }
+}
+
+/// All rules, with these of HL.
+const fn with_hl(hl: &'static Rules) -> AllRules {
+    let mut rules: AllRules = [None; TAG_COUNT];
     rules[Tag::ST as usize] = Some(&ST);
     rules[Tag::N1 as usize] = Some(&N1);
     rules[Tag::DTM as usize] = Some(&DTM);
-    rules[Tag::HL as usize] = Some(&HL);
+    rules[Tag::HL as usize] = Some(hl);
     rules[Tag::LIN as usize] = Some(&LIN);
     rules[Tag::NTE as usize] = Some(&NTE);
     rules[Tag::NCA as usize] = Some(&NCA);
     rules[Tag::SE as usize] = Some(&SE);
     rules
-};
+}
 
 /// Tests a ruled segment against its rules, in the order 9, 8, 10, 11.
 #[inline]
@@ -213,9 +257,14 @@ fn composite<'a>(rules: &Rules, cut: &Cut, input: &'a [u8]) -> Option<(usize, &'
     (rules.composite && cut.has(number)).then(|| (number, cut.element(input, number)))
 }
 
-/// Answer 9: too many elements or components.
+/// Answer 9: too many elements or components. An element that is to be absent stands before those past the
+/// last, and no segment with one has a composite.
 #[inline]
 fn too_many(rules: &Rules, cut: &Cut, input: &[u8], component: u8) -> Result<(), Fault> {
+    let present = cut.present & rules.absent;
+    if present != 0 {
+        return Err(Fault::new(9, present.trailing_zeros() as usize));
+    }
     if let Some((number, bytes)) = composite(rules, cut, input) {
         if bytes.iter().filter(|byte| **byte == component).count() >= NCA05_COMPONENTS {
             return Err(Fault::new(9, number));

@@ -1,10 +1,11 @@
-//! The levels of document 01: answers 12 to 15 at an HL.
+//! The levels of document 01, and of document 02, Item 9: answers 12 to 15 at an HL.
 
 use crate::answer::Fault;
 use crate::cut::Cut;
+use crate::profile::Profile;
 
-/// The five codes; the level table holds their place here, from 1.
-pub const CODES: [&str; 5] = ["RP", "I", "F", "PC", "SN"];
+/// The six codes; the level table holds their place here, from 1. Each profile has some of them.
+pub const CODES: [&str; 6] = ["RP", "I", "F", "PC", "SN", "RB"];
 
 /// The numbers of the codes.
 const RP: u64 = 1;
@@ -12,6 +13,7 @@ const I: u64 = 2;
 const F: u64 = 3;
 const PC: u64 = 4;
 const SN: u64 = 5;
+const RB: u64 = 6;
 
 /// How many numbers the level table has for each level: its segment, its parent's level number, its depth, its
 /// code.
@@ -20,17 +22,24 @@ pub const LEVEL_NUMBERS: usize = 4;
 /// its row, the level it belongs to.
 pub const SEGMENT_NUMBERS: usize = 4;
 
-/// The number of a code, 0 for one that is unknown.
+/// The number of a code, 0 for one that is unknown in the profile.
 #[inline]
-fn code_number(text: &[u8]) -> u64 {
-    match text {
-        b"RP" => RP,
-        b"I" => I,
-        b"F" => F,
-        b"PC" => PC,
-        b"SN" => SN,
+fn code_number(text: &[u8], profile: Profile) -> u64 {
+    match (text, profile) {
+        (b"RP", _) => RP,
+        (b"I", _) => I,
+        (b"F", Profile::Report) => F,
+        (b"PC", Profile::Report) => PC,
+        (b"SN", Profile::Report) => SN,
+        (b"RB", Profile::Reply) => RB,
         _ => 0,
     }
+}
+
+/// Whether a level of this code may stand without a parent. Every one of a reply may.
+#[inline]
+fn stands_alone(code: u64) -> bool {
+    matches!(code, RP | I | RB)
 }
 
 /// RP-I, I-F, I-PC, F-PC, I-SN, F-SN.
@@ -46,7 +55,7 @@ pub struct Level {
     pub parent: u64,
     /// 1 without a parent, else the parent's plus one. The pairs let it be no more than 4.
     pub depth: u64,
-    /// The code, 1 to 5.
+    /// The code, 1 to 6.
     pub code: u64,
     /// Marked `1`, so that a child must come.
     pub waits: bool,
@@ -60,6 +69,8 @@ pub struct Earlier<'a> {
     pub input: &'a [u8],
     /// The element separator.
     pub element: u8,
+    /// The profile.
+    pub profile: Profile,
     /// The records of the segments accepted so far.
     pub segments: &'a [u64],
     /// The records of the levels accepted so far.
@@ -165,12 +176,13 @@ impl Earlier<'_> {
         self.input[(self.segments[at] + self.segments[at + 1]) as usize - 1]
     }
 
-    /// Tests an HL in the order 12, 13, 14, 15.
+    /// Tests an HL in the order 12, 13, 14, 15. One of a reply has neither HL02 nor HL04, and comes to stand
+    /// without a parent and without a mark.
     #[inline]
     pub(crate) fn level(&self, cut: &Cut) -> Result<Level, Fault> {
         let own = Name::new(cut.element(self.input, 1), self.element);
         let named = cut.has(2).then(|| Name::new(cut.element(self.input, 2), self.element));
-        let code = code_number(cut.element(self.input, 3));
+        let code = code_number(cut.element(self.input, 3), self.profile);
         let found = self.search(own, named);
         if found.used {
             return Err(Fault::new(12, 1));
@@ -178,7 +190,7 @@ impl Earlier<'_> {
         if named.is_some() && found.parent == 0 {
             return Err(Fault::new(13, 2));
         }
-        if code == 0 || (named.is_none() && code != RP && code != I) {
+        if code == 0 || (named.is_none() && !stands_alone(code)) {
             return Err(Fault::new(14, 3));
         }
         let (depth, fills) = self.under(&found, code)?;
@@ -219,19 +231,28 @@ mod tests {
 
     #[test]
     fn codes_are_numbered_in_the_papers_order() {
-        for (at, code) in CODES.iter().enumerate() {
-            assert_eq!(code_number(code.as_bytes()), at as u64 + 1);
+        for profile in Profile::BOTH {
+            for (at, code) in CODES.iter().enumerate() {
+                let number = if profile.codes().contains(code) { at as u64 + 1 } else { 0 };
+                assert_eq!(code_number(code.as_bytes(), profile), number, "{code} {profile:?}");
+            }
+            for code in ["", "R", "P", "II", "S", "rp", "0", "FF", "CP", "BR", "rb", "B", "RBB"] {
+                assert_eq!(code_number(code.as_bytes(), profile), 0);
+            }
         }
-        for code in ["", "R", "P", "II", "S", "rp", "0", "FF", "CP"] {
-            assert_eq!(code_number(code.as_bytes()), 0);
-        }
+    }
+
+    #[test]
+    fn every_level_of_a_reply_stands_alone() {
+        let alone = |code: &&&str| stands_alone(code_number(code.as_bytes(), Profile::Reply));
+        assert_eq!(Profile::Reply.codes().iter().filter(alone).count(), 3);
     }
 
     #[test]
     fn six_pairs_are_permitted() {
         let mut pairs = Vec::new();
-        for parent in 1..=5 {
-            for child in 1..=5 {
+        for parent in 1..=6 {
+            for child in 1..=6 {
                 if permitted(parent, child) {
                     pairs.push((CODES[parent as usize - 1], CODES[child as usize - 1]));
                 }

@@ -1,5 +1,5 @@
 //! A reader of X12 842 nonconformance reports, written from the rules of document 01 and of document
-//! 02, Items 1, 3, 5, 6 and 8, alone, to compare another reader with: the same answers, the same tables,
+//! 02, Items 1, 3, 5, 6, 8 and 9, alone, to compare another reader with: the same answers, the same tables,
 //! the same output, the same places, the same numbers.
 //!
 //! `read` is made for speed: one pass, no allocation. `plain::read_plain` says the same in the
@@ -16,6 +16,7 @@ pub mod listing;
 mod lookup;
 mod number;
 pub mod plain;
+mod profile;
 mod read;
 pub mod reports;
 mod rewrite;
@@ -29,6 +30,7 @@ pub use levels::{CODES, LEVEL_NUMBERS, SEGMENT_NUMBERS};
 pub use line_ends::LineEnds;
 pub use lookup::lookup_span;
 pub use number::{number, Number};
+pub use profile::Profile;
 pub use read::{read, LONGEST};
 pub use rewrite::rewrite;
 pub use separators::Separators;

@@ -1,9 +1,9 @@
 //! What the program prints for a report (document 01, "Worked reports"; document 02, Item 5). It
-//! skips line ends.
+//! skips line ends and reads by the first profile.
 
 use crate::levels::{LEVEL_NUMBERS, SEGMENT_NUMBERS};
 use crate::plain::read_plain;
-use crate::{Answer, LineEnds, Separators, CODES};
+use crate::{Answer, LineEnds, Profile, Separators, CODES};
 
 /// The most bytes that the program takes.
 pub const PROGRAM_BYTES: usize = 65_536;
@@ -19,7 +19,8 @@ pub fn listing(report: &[u8]) -> String {
     }
     let mut segments = vec![0; SEGMENT_NUMBERS * PROGRAM_SEGMENTS];
     let mut levels = vec![0; LEVEL_NUMBERS * PROGRAM_LEVELS];
-    match read_plain(report, Separators::STANDARD, LineEnds::default(), &mut segments, &mut levels) {
+    let (line_ends, profile) = (LineEnds::default(), Profile::default());
+    match read_plain(report, Separators::STANDARD, line_ends, profile, &mut segments, &mut levels) {
         Answer::Refused { number, segment, byte, element } => refusal(number, segment, byte, element),
         Answer::Accepted { segments: count, levels: level_count, bytes } => {
             let mut lines = format!("842 segments {count} levels {level_count} bytes {bytes}\n");

@@ -2,9 +2,10 @@
 
 use crate::answer::{Answer, Fault};
 use crate::cut::{Cut, Kinds};
-use crate::elements;
+use crate::elements::{self, AllRules};
 use crate::levels::{Earlier, Level, LEVEL_NUMBERS, SEGMENT_NUMBERS};
 use crate::line_ends::{LineEnds, Skipping};
+use crate::profile::{Profile, Rows};
 use crate::rows::{self, Tag};
 use crate::separators::Separators;
 
@@ -14,11 +15,13 @@ pub const LONGEST: usize = 1_048_576;
 /// Reads a transaction and fills both tables (document 01, "What the tables hold" and "Answers in
 /// the order they are tested"). A refusal at segment k leaves the records of segments 1 to k-1;
 /// every other number of both tables keeps what it held. Starts, in tables and answers, come behind
-/// skipped line ends (document 02, Item 3).
+/// skipped line ends (document 02, Item 3). The profile says which rows and levels there may be (document
+/// 02, Item 9).
 pub fn read(
     input: &[u8],
     separators: Separators,
     line_ends: LineEnds,
+    profile: Profile,
     segments: &mut [u64],
     levels: &mut [u64],
 ) -> Answer {
@@ -29,13 +32,17 @@ pub fn read(
         return Answer::bare(2, 0);
     }
     let skipping = Skipping::new(line_ends, separators);
-    Reader::new(input, separators, segments, levels).run(skipping)
+    Reader::new(input, separators, profile, segments, levels).run(skipping)
 }
 
 /// A reading under way.
 struct Reader<'a> {
     input: &'a [u8],
     separators: Separators,
+    profile: Profile,
+    /// The rows and the element rules of the profile.
+    rows: &'static Rows,
+    rules: &'static AllRules,
     segments: &'a mut [u64],
     levels: &'a mut [u64],
     /// How many segments are accepted.
@@ -56,12 +63,16 @@ impl<'a> Reader<'a> {
     fn new(
         input: &'a [u8],
         separators: Separators,
+        profile: Profile,
         segments: &'a mut [u64],
         levels: &'a mut [u64],
     ) -> Reader<'a> {
         Reader {
             input,
             separators,
+            profile,
+            rows: profile.rows(),
+            rules: elements::rules(profile),
             segments,
             levels,
             count: 0,
@@ -99,8 +110,8 @@ impl<'a> Reader<'a> {
         }
     }
 
-    /// Tests one segment in the order 5, 4, 6, 7, 9, 8, 10, 11, 12, 13, 14, 16, 15, 17 and writes
-    /// its records. Gives its tag.
+    /// Tests one segment in the order 5, 4, 6, 7, 24, 9, 8, 10, 11, 12, 13, 14, 16, 15, 17 and
+    /// writes its records. Gives its tag.
     #[inline]
     fn take(&mut self, cut: &Cut) -> Result<usize, Fault> {
         if let Some(element) = cut.bad {
@@ -116,7 +127,7 @@ impl<'a> Reader<'a> {
             return Err(Fault::new(6, element));
         }
         self.step(tag)?;
-        if let Some(rules) = elements::RULES[tag] {
+        if let Some(rules) = self.rules[tag] {
             elements::check(rules, cut, self.input, self.separators.component)?;
         }
         if tag == Tag::HL as usize {
@@ -135,8 +146,9 @@ impl<'a> Reader<'a> {
         Ok(tag)
     }
 
-    /// Answer 7: finds the row. A maximum of 2 is counted within one pass, since another row, the
-    /// one that opens the loop, stands between two passes.
+    /// Answer 7: finds the row, by the whole list in either profile. A maximum of 2 is counted within one
+    /// pass, since another row, the one that opens the loop, stands between two passes. Then answer 24: the
+    /// profile does not have that row.
     #[inline]
     fn step(&mut self, tag: usize) -> Result<(), Fault> {
         let next = usize::from(rows::NEXT[self.row][tag]);
@@ -146,6 +158,9 @@ impl<'a> Reader<'a> {
         self.repeated = if next == self.row { self.repeated.saturating_add(1) } else { 1 };
         if rows::MOST[next] == 2 && self.repeated > 2 {
             return Err(Fault::new(7, 0));
+        }
+        if !self.rows[next] {
+            return Err(Fault::new(24, 0));
         }
         self.row = next;
         Ok(())
@@ -157,6 +172,7 @@ impl<'a> Reader<'a> {
         let earlier = Earlier {
             input: self.input,
             element: self.separators.element,
+            profile: self.profile,
             segments: &self.segments[..self.count * SEGMENT_NUMBERS],
             levels: &self.levels[..self.level_count * LEVEL_NUMBERS],
         };

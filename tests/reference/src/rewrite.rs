@@ -1,10 +1,11 @@
 //! Rewriting a transaction with other separators (document 01, the text after the table of answers;
-//! document 02, Items 1 and 3).
+//! document 02, Items 1, 3 and 9).
 
 use crate::answer::Answer;
 use crate::attached;
 use crate::levels::SEGMENT_NUMBERS;
 use crate::line_ends::LineEnds;
+use crate::profile::Profile;
 use crate::read::read;
 use crate::separators::Separators;
 use std::iter::once;
@@ -13,13 +14,14 @@ use std::ops::Range;
 /// The row of BIN; there is no other.
 const BIN_ROW: u64 = 55;
 
-/// Tests both sets (1, the old one first), reads strictly, then 18: a data byte equals a new separator; then
+/// Tests both sets (1, the old one first), reads strictly and by the profile, then 18: a data byte equals a new separator; then
 /// 19: the output is shorter than the bytes used. The tables are left as reading alone leaves them,
 /// and untouched at 1. On any refusal the output keeps its bytes; success writes exactly the used
 /// length and gives the reading's numbers. The bytes of BIN02 are copied and not looked at.
 pub fn rewrite(
     input: &[u8],
     separators: Separators,
+    profile: Profile,
     new: Separators,
     segments: &mut [u64],
     levels: &mut [u64],
@@ -31,7 +33,7 @@ pub fn rewrite(
     if !new.fit() {
         return Answer::bare(1, 1);
     }
-    let answer = read(input, separators, LineEnds::Strict, segments, levels);
+    let answer = read(input, separators, LineEnds::Strict, profile, segments, levels);
     let Answer::Accepted { segments: count, bytes, .. } = answer else {
         return answer;
     };

@@ -1,4 +1,4 @@
-//! The fast reader against the plain one, on generated reports.
+//! The fast reader against the plain one, on generated reports and replies.
 
 use reference::generator::{report, Case};
 use reference::plain::read_plain;
@@ -18,8 +18,9 @@ type Outcome = (Answer, Vec<u64>, Vec<u64>);
 fn both(case: &Case, line_ends: LineEnds) -> Outcome {
     let (mut segments, mut levels) = tables(case);
     let (mut plain_segments, mut plain_levels) = tables(case);
-    let answer = read(&case.input, case.separators, line_ends, &mut segments, &mut levels);
-    let plain = read_plain(&case.input, case.separators, line_ends, &mut plain_segments, &mut plain_levels);
+    let Case { input, separators, profile, .. } = case;
+    let answer = read(input, *separators, line_ends, *profile, &mut segments, &mut levels);
+    let plain = read_plain(input, *separators, line_ends, *profile, &mut plain_segments, &mut plain_levels);
     assert_eq!(answer, plain, "seed {}, {line_ends:?}", case.seed);
     assert_eq!(segments, plain_segments, "seed {}, {line_ends:?}", case.seed);
     assert_eq!(levels, plain_levels, "seed {}, {line_ends:?}", case.seed);
@@ -60,10 +61,23 @@ fn both_readers_agree_and_every_answer_and_row_comes() {
     }
     println!("{answers:?}");
     assert_eq!(rows, (1..=79).collect::<BTreeSet<u64>>());
-    for number in 0..=17 {
+    for number in (0..=17).chain([24]) {
         assert!(answers.keys().any(|key| key.0 == number), "answer {number} never came");
     }
-    for key in [(14, 2), (14, 3), (15, 0), (15, 2), (15, 4), (16, 1), (16, 2), (9, 5), (8, 5), (10, 5)] {
+    for key in [
+        (9, 2),
+        (9, 4),
+        (9, 5),
+        (8, 5),
+        (10, 5),
+        (14, 2),
+        (14, 3),
+        (15, 0),
+        (15, 2),
+        (15, 4),
+        (16, 1),
+        (16, 2),
+    ] {
         assert!(answers.contains_key(&key), "answer {key:?} never came");
     }
 }
@@ -188,8 +202,8 @@ fn rewritten(case: &Case) -> Answer {
     let (mut own_segments, mut own_levels) = tables(case);
     let before: Vec<u8> = (0..case.output_length).map(|at| (at * 7 + 3) as u8).collect();
     let mut output = before.clone();
-    let answer =
-        rewrite(&case.input, case.separators, case.new, &mut own_segments, &mut own_levels, &mut output);
+    let Case { input, separators, profile, new, .. } = case;
+    let answer = rewrite(input, *separators, *profile, *new, &mut own_segments, &mut own_levels, &mut output);
     let [number, _, _, element] = answer.numbers();
     if number != 0 {
         assert_eq!(output, before);
@@ -257,7 +271,7 @@ fn a_refusal_stands_whatever_follows_and_with_more_room() {
         let case = report(seed);
         let (answer, ..) = both(&case, LineEnds::Skipped);
         let [number, ..] = answer.numbers();
-        let fault = (4..=16).contains(&number) || number == 0;
+        let fault = (4..=16).contains(&number) || number == 0 || number == 24;
         if !fault || case.input.len() > 10_000 {
             continue;
         }

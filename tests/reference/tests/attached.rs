@@ -7,7 +7,7 @@ mod words;
 use reference::generator::{counted_segment, Random};
 use reference::plain::read_plain;
 use reference::{lookup_span, read, rewrite};
-use reference::{LineEnds, Separators, LONGEST, SEGMENT_NUMBERS};
+use reference::{LineEnds, Profile, Separators, LONGEST, SEGMENT_NUMBERS};
 use words::words;
 
 /// What stands before the BIN, which is then the sixth segment and starts at byte 38.
@@ -21,8 +21,8 @@ fn given(input: &[u8]) -> ([u64; 4], Vec<[u64; SEGMENT_NUMBERS]>) {
     let lent = || (vec![7; ROOM.0], vec![8; ROOM.1]);
     let (mut fast, mut plain) = (lent(), lent());
     let (set, line_ends) = (Separators::STANDARD, LineEnds::Skipped);
-    let answer = read(input, set, line_ends, &mut fast.0, &mut fast.1);
-    let plain_answer = read_plain(input, set, line_ends, &mut plain.0, &mut plain.1);
+    let answer = read(input, set, line_ends, Profile::Report, &mut fast.0, &mut fast.1);
+    let plain_answer = read_plain(input, set, line_ends, Profile::Report, &mut plain.0, &mut plain.1);
     assert_eq!((answer, &fast), (plain_answer, &plain), "{}", input.escape_ascii());
     (answer.numbers(), fast.0.as_chunks().0.to_vec())
 }
@@ -264,10 +264,13 @@ fn lookups_agree_with_the_plain_ones() {
 /// Rewrites and gives the answer and the output.
 fn rewritten(input: &[u8], old: Separators, new: Separators) -> ([u64; 4], Vec<u8>) {
     let (mut segments, mut levels, mut output) = (vec![7; ROOM.0], vec![8; ROOM.1], vec![b'?'; input.len()]);
-    let answer = rewrite(input, old, new, &mut segments, &mut levels, &mut output);
+    let profile = Profile::Report;
+    let answer = rewrite(input, old, profile, new, &mut segments, &mut levels, &mut output);
     let (mut plain_segments, mut plain_levels) = (vec![7; ROOM.0], vec![8; ROOM.1]);
     let mut plain_output = vec![b'?'; input.len()];
-    let plain = plainly::rewrite(input, old, new, &mut plain_segments, &mut plain_levels, &mut plain_output);
+    let (segments_of_plain, levels_of_plain) = (&mut plain_segments, &mut plain_levels);
+    let plain =
+        plainly::rewrite(input, old, profile, new, segments_of_plain, levels_of_plain, &mut plain_output);
     assert_eq!((answer, &segments, &levels, &output), (plain, &plain_segments, &plain_levels, &plain_output));
     (answer.numbers(), output)
 }

@@ -6,7 +6,7 @@ use both::{given, Outcome};
 use reference::generator::{report, Case};
 use reference::vectors::levels::{deep_with, segments, Body, BODIES, DEEP};
 use reference::vectors::text::after_bnr;
-use reference::{LineEnds, Separators, LEVEL_NUMBERS, SEGMENT_NUMBERS};
+use reference::{LineEnds, Profile, Separators, LEVEL_NUMBERS, SEGMENT_NUMBERS};
 use std::collections::BTreeMap;
 
 /// The level of each accepted segment.
@@ -17,7 +17,7 @@ fn levels_of_segments(outcome: &Outcome) -> Vec<u64> {
 /// Reads a text with the standard separators and so many numbers in the segment table.
 fn read_text(text: &str, segment_numbers: usize) -> Outcome {
     let rooms = (segment_numbers, LEVEL_NUMBERS * 20);
-    given(text.as_bytes(), Separators::STANDARD, LineEnds::Skipped, rooms)
+    given(text.as_bytes(), Separators::STANDARD, (LineEnds::Skipped, Profile::Report), rooms)
 }
 
 /// Room for every text here.
@@ -101,7 +101,7 @@ fn generated_reports_are_held_to_the_words() {
     for seed in 0..12_000 {
         let case = report(seed);
         let rooms = (case.segment_numbers, case.level_numbers);
-        let outcome = given(&case.input, case.separators, LineEnds::Skipped, rooms);
+        let outcome = given(&case.input, case.separators, (LineEnds::Skipped, case.profile), rooms);
         let levels = levels_of_segments(&outcome);
         assert_eq!(levels, by_the_bytes(&case, &outcome), "seed {seed}");
         // The HL that makes a level belongs to it.

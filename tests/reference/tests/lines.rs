@@ -7,11 +7,12 @@ mod words;
 use both::{given, Outcome};
 use reference::generator::{report, Case};
 use reference::vectors::text::{joined, written_with, W1};
-use reference::{rewrite, Answer, LineEnds, Separators, SEGMENT_NUMBERS};
+use reference::{rewrite, Answer, LineEnds, Profile, Separators, SEGMENT_NUMBERS};
 use std::collections::BTreeMap;
 use words::words;
 
 const STANDARD: Separators = Separators::STANDARD;
+const REPORT: Profile = Profile::Report;
 
 /// How many numbers the tables have where that is more than enough.
 const ROOM: (usize, usize) = (SEGMENT_NUMBERS * 20, 12);
@@ -23,7 +24,7 @@ fn accepted(outcome: &Outcome) -> Vec<(usize, usize)> {
 
 /// The answers by both choices with the standard separators and room enough: skipped, strict.
 fn answers(text: &str) -> [[u64; 4]; 2] {
-    LineEnds::BOTH.map(|line_ends| given(text.as_bytes(), STANDARD, line_ends, ROOM).answer)
+    LineEnds::BOTH.map(|line_ends| given(text.as_bytes(), STANDARD, (line_ends, REPORT), ROOM).answer)
 }
 
 /// How many bytes are skipped behind a terminator: the longest of CR LF, CR and LF that stands there and
@@ -35,8 +36,8 @@ fn skipped(rest: &[u8], set: Separators) -> usize {
 
 /// Reads with line ends skipped and holds what comes to the words: between two segments exactly what is
 /// to be skipped is left out, and without it a strict reading gives the same but for the starts.
-fn held_to_the_words(input: &[u8], set: Separators, rooms: (usize, usize)) -> Outcome {
-    let outcome = given(input, set, LineEnds::Skipped, rooms);
+fn held_to_the_words(input: &[u8], set: Separators, profile: Profile, rooms: (usize, usize)) -> Outcome {
+    let outcome = given(input, set, (LineEnds::Skipped, profile), rooms);
     let told = || format!("{} {set:?}", input.escape_ascii());
     let [number, _, refused_at, _] = outcome.answer;
     let mut expected = outcome.clone();
@@ -59,7 +60,7 @@ fn held_to_the_words(input: &[u8], set: Separators, rooms: (usize, usize)) -> Ou
     } else {
         without.extend_from_slice(input);
     }
-    assert_eq!(given(&without, set, LineEnds::Strict, rooms), expected, "{}", told());
+    assert_eq!(given(&without, set, (LineEnds::Strict, profile), rooms), expected, "{}", told());
     outcome
 }
 
@@ -72,7 +73,7 @@ fn w1_in_lines(end: &str) -> String {
 fn line_ends_behind_each_segment_of_w1() {
     for end in ["\r\n", "\n", "\r", ""] {
         let text = w1_in_lines(end);
-        let outcome = held_to_the_words(text.as_bytes(), STANDARD, (SEGMENT_NUMBERS * 7, 8));
+        let outcome = held_to_the_words(text.as_bytes(), STANDARD, REPORT, (SEGMENT_NUMBERS * 7, 8));
         let length = end.len() as u64;
         assert_eq!(outcome.answer, [0, 7, 2, 78 + 6 * length]);
         let starts: Vec<u64> = outcome.segments.chunks(SEGMENT_NUMBERS).map(|record| record[0]).collect();
@@ -144,7 +145,7 @@ fn line_ends_around_and_within_a_bin() {
         let length = end.len() as u64;
         let text = format!("{before}{end}BIN*4*~\r\n~~{end}SE*7*0001~");
         assert_eq!(answers(&text), [[0, 7, 1, 59 + 2 * length], [5, 6, 38, 0]]);
-        let outcome = held_to_the_words(text.as_bytes(), STANDARD, (SEGMENT_NUMBERS * 7, 4));
+        let outcome = held_to_the_words(text.as_bytes(), STANDARD, REPORT, (SEGMENT_NUMBERS * 7, 4));
         assert_eq!(
             outcome.segments[SEGMENT_NUMBERS * 5..],
             [38 + length, 10, 55, 1, 49 + 2 * length, 9, 79, 0]
@@ -165,18 +166,23 @@ fn line_ends_around_and_within_a_bin() {
 fn room_is_asked_for_behind_the_line_end() {
     let text = w1_in_lines("\r\n");
     for (whole, start) in [0, 14, 36, 49, 62, 70, 80].into_iter().enumerate() {
-        let outcome = held_to_the_words(text.as_bytes(), STANDARD, (SEGMENT_NUMBERS * (whole + 1) - 1, 8));
+        let outcome =
+            held_to_the_words(text.as_bytes(), STANDARD, REPORT, (SEGMENT_NUMBERS * (whole + 1) - 1, 8));
         assert_eq!(outcome.answer, [17, whole as u64 + 1, start, 0]);
     }
-    assert_eq!(held_to_the_words(text.as_bytes(), STANDARD, (SEGMENT_NUMBERS * 7, 4)).answer, [17, 4, 49, 0]);
+    assert_eq!(
+        held_to_the_words(text.as_bytes(), STANDARD, REPORT, (SEGMENT_NUMBERS * 7, 4)).answer,
+        [17, 4, 49, 0]
+    );
 }
 
 #[test]
 fn a_separator_is_no_line_end() {
     // Terminator CR: the LF behind it is skipped, a second CR is not.
     let cr = Separators::new(b'*', b':', b'\r');
-    let ends =
-        |text: &str, set| LineEnds::BOTH.map(|line_ends| given(text.as_bytes(), set, line_ends, ROOM).answer);
+    let ends = |text: &str, set| {
+        LineEnds::BOTH.map(|line_ends| given(text.as_bytes(), set, (line_ends, REPORT), ROOM).answer)
+    };
     let report = "ST*842*0001\r\nBNR*1\r\nHL*1**I\r\nSE*4*0001\r\n";
     assert_eq!(ends(report, cr), [[0, 4, 1, 39], [5, 2, 12, 0]]);
     assert_eq!(ends(&report.replace('\n', ""), cr), [[0, 4, 1, 36]; 2]);
@@ -227,7 +233,7 @@ fn every_short_word_behind_a_terminator() {
         let set = Separators::new(element, component, terminator);
         for word in words(&[b'\r', b'\n', terminator, element, b'S', b'T'], longest) {
             for input in with_word(set, &word) {
-                let outcome = held_to_the_words(&input, set, ROOM);
+                let outcome = held_to_the_words(&input, set, REPORT, ROOM);
                 *came.entry(outcome.answer[0]).or_default() += 1;
             }
         }
@@ -240,8 +246,8 @@ fn every_short_word_behind_a_terminator() {
 /// The answer of a generated case with line ends skipped, and strictly.
 fn by_both(case: &Case) -> [Outcome; 2] {
     let rooms = (case.segment_numbers, case.level_numbers);
-    let strictly = given(&case.input, case.separators, LineEnds::Strict, rooms);
-    [held_to_the_words(&case.input, case.separators, rooms), strictly]
+    let strictly = given(&case.input, case.separators, (LineEnds::Strict, case.profile), rooms);
+    [held_to_the_words(&case.input, case.separators, case.profile, rooms), strictly]
 }
 
 const CASES: u64 = 12_000;
@@ -275,7 +281,7 @@ fn generated_reports_are_held_to_the_words() {
             && undamaged > 400
             && with_separator > 500
     );
-    for number in [0, 3, 4, 5, 6, 7, 8, 9, 10, 11, 12, 13, 14, 15, 16, 17] {
+    for number in [0, 3, 4, 5, 6, 7, 8, 9, 10, 11, 12, 13, 14, 15, 16, 17, 24] {
         assert!(told_apart.contains_key(&number), "answer {number} never came behind a line end");
     }
 }
@@ -300,7 +306,7 @@ fn line_ends_come_at_every_place() {
     for seed in 0..CASES {
         let case = report(seed);
         let (set, rooms) = (case.separators, (case.segment_numbers, case.level_numbers));
-        let outcome = given(&case.input, set, LineEnds::Skipped, rooms);
+        let outcome = given(&case.input, set, (LineEnds::Skipped, case.profile), rooms);
         let between = between(&case, &outcome);
         let used = if outcome.answer[0] == 0 { outcome.answer[3] as usize } else { case.input.len() };
         let bad = match outcome.answer {
@@ -333,7 +339,7 @@ fn rewriting_reads_strictly() {
     let new = Separators::new(b'|', b'^', b'\'');
     let rewritten = |text: &str| {
         let (mut segments, mut levels, mut output) = (vec![7; ROOM.0], vec![8; ROOM.1], vec![b'?'; 200]);
-        let answer = rewrite(text.as_bytes(), STANDARD, new, &mut segments, &mut levels, &mut output);
+        let answer = rewrite(text.as_bytes(), STANDARD, REPORT, new, &mut segments, &mut levels, &mut output);
         let touched = output.iter().any(|byte| *byte != b'?');
         (answer, touched)
     };

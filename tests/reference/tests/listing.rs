@@ -3,7 +3,7 @@
 use reference::listing::{listing, PROGRAM_BYTES, PROGRAM_LEVELS, PROGRAM_SEGMENTS};
 use reference::reports::{reports, Report};
 use reference::vectors::text::{joined, w1_with, W1};
-use reference::{read, LineEnds, Separators, CODES, LEVEL_NUMBERS, SEGMENT_NUMBERS};
+use reference::{read, LineEnds, Profile, Separators, CODES, LEVEL_NUMBERS, SEGMENT_NUMBERS};
 use std::collections::BTreeSet;
 
 /// The listing of W1 as document 01 prints it, with the level behind each segment (document 02, Item 5).
@@ -73,8 +73,8 @@ fn both_readers_list_the_same() {
         }
         let (mut segments, mut levels) =
             (vec![0; SEGMENT_NUMBERS * PROGRAM_SEGMENTS], vec![0; LEVEL_NUMBERS * PROGRAM_LEVELS]);
-        let answer =
-            read(&input, Separators::STANDARD, LineEnds::Skipped, &mut segments, &mut levels).numbers();
+        let (set, line_ends) = (Separators::STANDARD, LineEnds::Skipped);
+        let answer = read(&input, set, line_ends, Profile::Report, &mut segments, &mut levels).numbers();
         let mut lines = vec![first_line(answer)];
         if answer[0] == 0 {
             let records = segments.chunks(SEGMENT_NUMBERS).take(answer[1] as usize);
@@ -123,7 +123,7 @@ fn every_kind_of_answer_is_there() {
         assert!(came.contains(&kind), "no report with answer {kind:?}");
     }
     let listed: String = reports().iter().map(|report| listing(&report.input)).collect();
-    for code in CODES {
+    for code in Profile::Report.codes() {
         assert!(listed.lines().any(|line| line.starts_with("level ") && line.ends_with(&format!(" {code}"))));
     }
     let segment_lines = || listed.lines().map(|line| line.split(' ').collect()).filter(is_segment_line);

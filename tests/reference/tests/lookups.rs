@@ -160,7 +160,10 @@ fn rewritten(case: &Case) -> Vec<[Vec<u8>; 2]> {
     let (mut segments, mut levels) = (vec![0; case.segment_numbers], vec![0; case.level_numbers]);
     let mut output = vec![0; case.output_length];
     let sets = [case.separators, case.new];
-    let answer = plainly::rewrite(&case.input, sets[0], sets[1], &mut segments, &mut levels, &mut output);
+    let (segments_lent, levels_lent) = (&mut segments, &mut levels);
+    let answer = plainly::rewrite(
+        &case.input, sets[0], case.profile, sets[1], segments_lent, levels_lent, &mut output,
+    );
     let Answer::Accepted { segments: count, .. } = answer else { return Vec::new() };
     let records = segments.chunks(SEGMENT_NUMBERS).take(count);
     records

@@ -9,7 +9,7 @@ use reference::plain::{forms, number_plain};
 use reference::vectors::numbers::{FIT, UNFIT};
 use reference::vectors::text::in_fault;
 use reference::vectors::{groups, Case};
-use reference::{number, LineEnds, Number, Separators, LEVEL_NUMBERS, SEGMENT_NUMBERS};
+use reference::{number, LineEnds, Number, Profile, Separators, LEVEL_NUMBERS, SEGMENT_NUMBERS};
 use std::collections::BTreeSet;
 use words::words;
 
@@ -231,11 +231,16 @@ fn moving_the_point_and_the_exponent_together_changes_nothing() {
     assert_ne!(meant(of("5")), meant(of("-5")));
 }
 
-/// The answer's number and element for a report with this NCA, by both readers.
+/// The answer's number and element for a report with this NCA, by both readers and by both profiles, which it
+/// keeps to.
 fn answered(nca: &str) -> (u64, u64) {
     let rooms = (SEGMENT_NUMBERS * 6, LEVEL_NUMBERS);
     let input = in_fault(&[nca]);
-    match both::given(input.as_bytes(), Separators::STANDARD, LineEnds::Skipped, rooms) {
+    let read =
+        |profile| both::given(input.as_bytes(), Separators::STANDARD, (LineEnds::Skipped, profile), rooms);
+    let [report, reply] = Profile::BOTH.map(read);
+    assert_eq!(report, reply, "{nca}");
+    match report {
         both::Outcome { answer: [0, 6, 1, _], .. } => (0, 0),
         both::Outcome { answer: [number, 5, _, element], .. } => (number, element),
         other => panic!("{nca}: {other:?}"),

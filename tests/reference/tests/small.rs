@@ -1,7 +1,7 @@
 //! Separators and rewriting, each by itself.
 
 use reference::vectors::text::{in_fault, joined, W1};
-use reference::{rewrite, Answer, Separators};
+use reference::{rewrite, Answer, Profile, Separators};
 
 #[test]
 fn the_standard_set() {
@@ -36,7 +36,8 @@ fn the_three_differ() {
 /// Rewrites W1 or another text and gives the answer's numbers and the output.
 fn rewritten(text: &str, new: Separators, length: usize) -> ([u64; 4], Vec<u8>) {
     let (mut segments, mut levels, mut output) = (vec![0; 90], vec![0; 40], vec![b'?'; length]);
-    let answer = rewrite(text.as_bytes(), Separators::STANDARD, new, &mut segments, &mut levels, &mut output);
+    let (old, profile) = (Separators::STANDARD, Profile::Report);
+    let answer = rewrite(text.as_bytes(), old, profile, new, &mut segments, &mut levels, &mut output);
     (answer.numbers(), output)
 }
 
@@ -72,7 +73,8 @@ fn rewriting_refuses_in_order() {
     );
     let (mut segments, mut levels, mut output) = (vec![5; 90], vec![6; 40], vec![7; 99]);
     let unfit = Separators::new(0, 1, 2);
-    let answer = rewrite(text.as_bytes(), unfit, unfit, &mut segments, &mut levels, &mut output);
+    let (input, profile) = (text.as_bytes(), Profile::Report);
+    let answer = rewrite(input, unfit, profile, unfit, &mut segments, &mut levels, &mut output);
     assert_eq!(answer, Answer::Refused { number: 1, segment: 0, byte: 0, element: 0 });
     assert_eq!((segments, levels, output), (vec![5; 90], vec![6; 40], vec![7; 99]));
 }

@@ -4,7 +4,7 @@ mod plainly;
 
 use reference::plain::{number_plain, read_plain};
 use reference::vectors::{generated, groups, Case, How, FILE_BYTES, OUTPUT_BYTES, TABLE_NUMBERS};
-use reference::{rewrite, LineEnds, Separators};
+use reference::{rewrite, LineEnds, Profile, Separators};
 use std::collections::BTreeSet;
 
 #[test]
@@ -32,8 +32,8 @@ fn names_and_limits() {
         names,
         [
             "answers", "astray", "attached", "bounds", "levels", "lines", "long", "lookups", "numbers",
-            "pairs", "quantities", "rewriting", "rooms", "rowsa", "rowsb", "rowsc", "rowsd", "separators",
-            "truncated", "worked"
+            "pairs", "quantities", "replies", "replyrows", "rewriting", "rooms", "rowsa", "rowsb", "rowsc",
+            "rowsd", "separators", "truncated", "worked"
         ]
     );
     let mut names: Vec<String> = Vec::new();
@@ -104,17 +104,22 @@ fn played(name: &str, mut file: &[u8]) -> String {
         let mut segments: Vec<u64> = (0..number(&header[7..9]) as u64).map(|at| 700_000 + at).collect();
         let mut levels: Vec<u64> = (0..number(&header[9..11]) as u64).map(|at| 800_000 + at).collect();
         let mut output: Vec<u8> = (0..asked).map(|at| ((at * 7 + 3) % 256) as u8).collect();
-        let how = if header[11] % 2 == 1 { LineEnds::Strict } else { LineEnds::Skipped };
-        assert!(header[0] == 2 || header[12] == 0);
+        let line_ends = if header[11] % 2 == 1 { LineEnds::Strict } else { LineEnds::Skipped };
+        let profile = if header[11] / 2 % 2 == 1 { Profile::Reply } else { Profile::Report };
+        assert!([2, 6].contains(&header[0]) || header[12] == 0);
         let answer = match header[0] {
             1 => {
                 assert_eq!(header[4..7], [0; 3]);
-                read_plain(input, old, how, &mut segments, &mut levels)
+                read_plain(input, old, line_ends, profile, &mut segments, &mut levels)
             }
-            2 => plainly::rewrite(input, old, new, &mut segments, &mut levels, &mut output),
+            2 | 6 => {
+                let profile = if header[0] == 6 { Profile::Reply } else { Profile::Report };
+                plainly::rewrite(input, old, profile, new, &mut segments, &mut levels, &mut output)
+            }
             4 => {
                 let behind = vec![b'~'; number(&header[4..7]) - input.len()];
-                read_plain(&[input, &behind].concat(), old, how, &mut segments, &mut levels)
+                let input = [input, &behind].concat();
+                read_plain(&input, old, line_ends, profile, &mut segments, &mut levels)
             }
             kind => panic!("no kind {kind}"),
         };
@@ -122,7 +127,7 @@ fn played(name: &str, mut file: &[u8]) -> String {
         out += "\n";
         out += &line("segments", segments.into_iter());
         out += &line("levels", levels.into_iter());
-        if header[0] == 2 {
+        if [2, 6].contains(&header[0]) {
             out += &line("output", output.into_iter().map(u64::from));
         }
     }
@@ -156,8 +161,9 @@ fn plain_rewriting_agrees_on_generated_reports() {
             (segments, levels, vec![0xA5; case.output_length])
         };
         let (mut a, mut b) = (lent(), lent());
-        let fast = rewrite(&case.input, case.separators, case.new, &mut a.0, &mut a.1, &mut a.2);
-        let plain = plainly::rewrite(&case.input, case.separators, case.new, &mut b.0, &mut b.1, &mut b.2);
+        let (input, old, profile, new) = (&case.input, case.separators, case.profile, case.new);
+        let fast = rewrite(input, old, profile, new, &mut a.0, &mut a.1, &mut a.2);
+        let plain = plainly::rewrite(input, old, profile, new, &mut b.0, &mut b.1, &mut b.2);
         assert_eq!((fast, a), (plain, b), "seed {seed}");
     }
 }
@@ -181,6 +187,34 @@ fn the_answers_file_has_every_answer_of_a_reading_with_each_of_its_elements() {
     wanted
         .extend([2, 3, 4, 5, 6, 8, 10, 12, 14, 16, 18, 20, 22, 24, 26, 28, 30].map(|element| (11, element)));
     assert_eq!(came, wanted.into_iter().collect());
+}
+
+#[test]
+fn the_replies_files_have_every_answer_of_a_reply_and_every_row_that_it_has() {
+    let groups = groups();
+    let group = |name: &str| groups.iter().find(|group| group.name == name).unwrap();
+    let mut came = BTreeSet::new();
+    let mut rewritten = BTreeSet::new();
+    for told in &group("replies").cases {
+        match told.case {
+            Case::Read { how, .. } | Case::Long { how, .. } if how.profile() == Profile::Reply => {
+                came.extend(told.answer.map(|answer| (answer[0], if answer[0] == 0 { 0 } else { answer[3] })))
+            }
+            Case::Rewrite { profile: Profile::Reply, .. } => {
+                rewritten.extend(told.answer.map(|answer| answer[0]))
+            }
+            _ => {}
+        }
+    }
+    let numbers: BTreeSet<u64> = came.iter().map(|(number, _)| *number).collect();
+    let wanted = (0..=12).chain([14, 16, 17, 24]).collect();
+    assert_eq!(numbers, wanted);
+    for key in [(9, 2), (9, 4), (9, 5), (14, 3), (16, 1), (16, 2), (24, 0)] {
+        assert!(came.contains(&key), "no case with {key:?}");
+    }
+    assert_eq!(rewritten, [0, 1, 5, 9, 12, 14, 17, 18, 19, 24].into());
+    // Every tag before ST and after each of twenty rows; after SE nothing is looked at.
+    assert_eq!(group("replyrows").cases.len(), 21 * 34);
 }
 
 #[test]

@@ -1,7 +1,7 @@
 //! The worked reports of document 01 with their tables, and the points where readers went astray.
 
 use reference::vectors::text::{after_bnr, in_fault, in_heading, joined, w1_with, EVERY_ROW, W1};
-use reference::{read, Answer, LineEnds, Separators, LEVEL_NUMBERS, SEGMENT_NUMBERS};
+use reference::{read, Answer, LineEnds, Profile, Separators, LEVEL_NUMBERS, SEGMENT_NUMBERS};
 
 /// The record of a segment: start, length, row, level.
 type Segment = [u64; SEGMENT_NUMBERS];
@@ -24,10 +24,12 @@ fn lent((segments, levels): (usize, usize)) -> (Vec<u64>, Vec<u64>) {
 /// has line ends: a strict reading gives the same.
 fn given(text: &str, rooms: (usize, usize)) -> (Answer, Vec<Segment>, Vec<Level>) {
     let (mut segments, mut levels) = lent(rooms);
-    let answer = read(text.as_bytes(), Separators::STANDARD, LineEnds::Skipped, &mut segments, &mut levels);
+    let read = |line_ends, segments: &mut [u64], levels: &mut [u64]| {
+        read(text.as_bytes(), Separators::STANDARD, line_ends, Profile::Report, segments, levels)
+    };
+    let answer = read(LineEnds::Skipped, &mut segments, &mut levels);
     let mut strict = lent(rooms);
-    let strictly =
-        read(text.as_bytes(), Separators::STANDARD, LineEnds::Strict, &mut strict.0, &mut strict.1);
+    let strictly = read(LineEnds::Strict, &mut strict.0, &mut strict.1);
     assert_eq!((answer, &segments, &levels), (strictly, &strict.0, &strict.1));
     let (untouched, untouched_levels) = lent(rooms);
     let count = match answer {
@@ -181,7 +183,8 @@ fn answers_1_and_2_write_nothing() {
         input.resize(length, b'~');
         for line_ends in LineEnds::BOTH {
             let (mut segments, mut levels) = lent(ROOM);
-            assert_eq!(read(&input, set, line_ends, &mut segments, &mut levels).numbers(), answer);
+            let read = read(&input, set, line_ends, Profile::Report, &mut segments, &mut levels);
+            assert_eq!(read.numbers(), answer);
             assert_eq!((segments, levels) == lent(ROOM), answer[0] != 0);
         }
     }
@@ -194,7 +197,8 @@ fn a_long_report_counts_in_many_digits() {
     segments.push("SE*80004*0001".to_string());
     let text = joined(&segments);
     let (mut table, mut levels) = lent((SEGMENT_NUMBERS * 80_004, LEVEL_NUMBERS));
-    let answer = read(text.as_bytes(), Separators::STANDARD, LineEnds::Skipped, &mut table, &mut levels);
+    let (set, line_ends) = (Separators::STANDARD, LineEnds::Skipped);
+    let answer = read(text.as_bytes(), set, line_ends, Profile::Report, &mut table, &mut levels);
     assert_eq!(answer.numbers(), [0, 80_004, 1, text.len() as u64]);
     assert_eq!(table[SEGMENT_NUMBERS * 80_003..], [text.len() as u64 - 14, 13, 79, 0]);
 }

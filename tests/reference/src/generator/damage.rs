@@ -2,8 +2,11 @@
 
 use super::draft::{Draft, Segment, Style};
 use super::{attached, numbers, Random};
-use crate::rows::{Tag, TAGS};
-use crate::{Separators, CODES};
+use crate::rows::{tag_number, Tag, NEXT, TAGS};
+use crate::{Profile, Separators, CODES};
+
+/// So many damages of a hundred to a reply are a row that it may not have.
+const FOREIGN: usize = 15;
 
 /// Damages segments and elements so many times. Mostly SE01 is counted anew afterwards, so that
 /// the report fails for the damage and not for the count.
@@ -11,6 +14,10 @@ pub fn segments(random: &mut Random, draft: &mut Draft, times: usize) {
     let style = Style { separators: draft.separators, mixed: random.chance(50) };
     let mut closing_hit = false;
     for _ in 0..times {
+        if draft.profile == Profile::Reply && random.chance(FOREIGN) {
+            insert_foreign(random, &style, draft);
+            continue;
+        }
         match random.below(18) {
             0 => copy_segment(random, draft),
             1 => remove_segment(random, draft),
@@ -82,6 +89,34 @@ fn insert_segment(random: &mut Random, style: &Style, draft: &mut Draft) {
     };
     let at = random.below(draft.segments.len() + 1);
     draft.segments.insert(at, segment);
+}
+
+/// A segment comes in where the list has a row for it and the profile has not; where no such place is, any.
+fn insert_foreign(random: &mut Random, style: &Style, draft: &mut Draft) {
+    let places = foreign_places(draft);
+    if places.is_empty() {
+        return insert_segment(random, style, draft);
+    }
+    let (at, tag) = *random.pick(&places);
+    draft.segments.insert(at, style.segment(random, tag));
+}
+
+/// All such places with their tags, up to the first segment for which the list has no row.
+fn foreign_places(draft: &Draft) -> Vec<(usize, Tag)> {
+    let mut places = Vec::new();
+    let mut row = 0;
+    for (at, segment) in draft.segments.iter().enumerate() {
+        let foreign = |tag: &Tag| {
+            let next = usize::from(NEXT[row][*tag as usize]);
+            next != 0 && !draft.profile.has(next)
+        };
+        places.extend(TAGS.iter().map(|(tag, _)| *tag).filter(foreign).map(|tag| (at, tag)));
+        row = tag_number(&segment[0]).map_or(0, |tag| usize::from(NEXT[row][tag]));
+        if row == 0 {
+            break;
+        }
+    }
+    places
 }
 
 fn change_tag(random: &mut Random, style: &Style, draft: &mut Draft) {

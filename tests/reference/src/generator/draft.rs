@@ -3,7 +3,7 @@
 use super::lines::Lines;
 use super::{attached, numbers, Random};
 use crate::rows::{Tag, MOST, NEXT, TAGS};
-use crate::{Separators, CODES};
+use crate::{Profile, Separators, CODES};
 
 /// A segment as pieces: the tag, then the elements.
 pub type Segment = Vec<Vec<u8>>;
@@ -11,6 +11,8 @@ pub type Segment = Vec<Vec<u8>>;
 /// A report as pieces.
 pub struct Draft {
     pub separators: Separators,
+    /// The profile that it keeps to.
+    pub profile: Profile,
     pub segments: Vec<Segment>,
 }
 
@@ -30,17 +32,20 @@ struct Plan {
 }
 
 impl Draft {
-    /// A valid report.
-    pub fn new(random: &mut Random, separators: Separators) -> Draft {
+    /// A valid report of this profile.
+    pub fn new(random: &mut Random, separators: Separators, profile: Profile) -> Draft {
         let style = Style { separators, mixed: random.chance(60) };
         let levels = match random.below(60) {
             0 => 20 + random.below(40),
             1..=20 => 1,
             _ => 1 + random.below(8),
         };
-        let plans = plan_levels(random, &style, levels);
+        let plans = match profile {
+            Profile::Report => plan_levels(random, &style, levels),
+            Profile::Reply => plan_replies(random, &style, levels),
+        };
         let control = style.text(random, 4, 9);
-        let mut draft = Draft { separators, segments: Vec::new() };
+        let mut draft = Draft { separators, profile, segments: Vec::new() };
         draft.walk(random, &style, &plans, &control);
         draft
     }
@@ -53,7 +58,7 @@ impl Draft {
         let mut repeated = 0;
         let mut level = 0;
         loop {
-            let tags = open_tags(row, repeated, level < plans.len());
+            let tags = open_tags(self.profile, row, repeated, level < plans.len());
             let tag = choose(random, &tags, budget);
             let next = usize::from(NEXT[row][tag as usize]);
             repeated = if next == row { repeated + 1 } else { 1 };
@@ -94,8 +99,8 @@ impl Draft {
     }
 }
 
-/// The tags that may come next. HL only while levels are left, SE only when none is.
-fn open_tags(row: usize, repeated: usize, levels_left: bool) -> Vec<Tag> {
+/// The tags that may come next in the profile. HL only while levels are left, SE only when none is.
+fn open_tags(profile: Profile, row: usize, repeated: usize, levels_left: bool) -> Vec<Tag> {
     let open = |tag: Tag| {
         let next = usize::from(NEXT[row][tag as usize]);
         let full = next == row && MOST[row] == 2 && repeated == 2;
@@ -104,7 +109,7 @@ fn open_tags(row: usize, repeated: usize, levels_left: bool) -> Vec<Tag> {
             Tag::SE => !levels_left,
             _ => true,
         };
-        next != 0 && !full && due
+        profile.has(next) && !full && due
     };
     TAGS.iter().map(|(tag, _)| *tag).filter(|tag| open(*tag)).collect()
 }
@@ -157,6 +162,17 @@ fn plan_levels(random: &mut Random, style: &Style, count: usize) -> Vec<Plan> {
     for at in 0..plans.len() {
         let has_child = plans.iter().any(|plan| plan.parent == Some(at));
         plans[at].mark = *random.pick(if has_child { &["", "1", "1"] } else { &["", "0", "0"] });
+    }
+    plans
+}
+
+/// Plans levels of a reply, each of any of its codes.
+fn plan_replies(random: &mut Random, style: &Style, count: usize) -> Vec<Plan> {
+    let mut plans: Vec<Plan> = Vec::new();
+    for _ in 0..count {
+        let name = new_name(random, style, &plans);
+        let code = *random.pick(Profile::Reply.codes());
+        plans.push(Plan { name, parent: None, code, mark: "" });
     }
     plans
 }

@@ -12,7 +12,7 @@ pub use attached::counted_segment;
 pub use numbers::number_text;
 pub use random::Random;
 
-use crate::{Separators, LEVEL_NUMBERS, LONGEST, SEGMENT_NUMBERS};
+use crate::{Profile, Separators, LEVEL_NUMBERS, LONGEST, SEGMENT_NUMBERS};
 use draft::Draft;
 use lines::Lines;
 
@@ -25,6 +25,8 @@ pub struct Case {
     pub input: Vec<u8>,
     /// The separators to read with.
     pub separators: Separators,
+    /// The profile to read by.
+    pub profile: Profile,
     /// The separators to rewrite with.
     pub new: Separators,
     /// How many numbers the segment table has.
@@ -42,11 +44,17 @@ pub struct Case {
 /// One seed in so many gives an input about as long as the limit.
 const LONG_ONE_IN: u64 = 4096;
 
+/// So many reports of a hundred are replies.
+const REPLIES: usize = 35;
+/// So many of a hundred are read by the profile that they are not made for.
+const BY_THE_OTHER: usize = 6;
+
 /// The case of a seed.
 pub fn report(seed: u64) -> Case {
     let mut random = Random::new(seed);
     let separators = fit_set(&mut random);
-    let mut draft = Draft::new(&mut random, separators);
+    let profile = if random.chance(REPLIES) { Profile::Reply } else { Profile::Report };
+    let mut draft = Draft::new(&mut random, separators, profile);
     let needed = draft.needed();
     let damages = number_of_damages(&mut random);
     // Most damage is done to segments and elements, some to bytes.
@@ -68,13 +76,16 @@ pub fn report(seed: u64) -> Case {
         valid &= length <= LONGEST;
     }
     let read_with = if random.chance(2) { any_set(&mut random) } else { separators };
+    let read_by = if random.chance(BY_THE_OTHER) { profile.other() } else { profile };
     let (segment_numbers, level_numbers) = rooms(&mut random, needed);
     valid &= read_with == separators
+        && read_by == profile
         && segment_numbers / SEGMENT_NUMBERS >= needed.0
         && level_numbers / LEVEL_NUMBERS >= needed.1;
     Case {
         seed,
         separators: read_with,
+        profile: read_by,
         new: new_set(&mut random, separators),
         segment_numbers,
         level_numbers,

@@ -1,7 +1,9 @@
 //! The element rules as the paper prints them, and the tests 9, 8, 10 and 11.
 
 use super::number::number_plain;
+use super::profile::absent_in_hl;
 use super::Fault;
+use crate::Profile;
 
 /// The rules that the paper prints element by element.
 const PAPER: [&str; 6] = [
@@ -63,6 +65,8 @@ pub struct Rules {
     pub tag: String,
     /// The elements' rules, element 1 first.
     pub elements: Vec<Rule>,
+    /// Those that may not be there, although they have a rule.
+    pub absent: Vec<usize>,
     /// The notes in the order printed.
     pub notes: Vec<Note>,
 }
@@ -87,11 +91,14 @@ impl Piece {
     }
 }
 
-/// The rules of the eight ruled segments.
-pub fn rules() -> Vec<Rules> {
+/// The rules of the eight ruled segments in a profile.
+pub fn rules(profile: Profile) -> Vec<Rules> {
     let mut all: Vec<Rules> = PAPER.iter().map(|line| parse(line)).collect();
     all.push(lin());
     all.push(nca());
+    for hl in all.iter_mut().filter(|rules| rules.tag == "HL") {
+        hl.absent = absent_in_hl(profile);
+    }
     all
 }
 
@@ -102,6 +109,7 @@ fn parse(line: &str) -> Rules {
     Rules {
         tag: tag.to_string(),
         elements: elements.split("; ").map(numbered_rule).collect(),
+        absent: Vec::new(),
         notes: notes.split([',', '.', ' ']).filter(|note| !note.is_empty()).map(note).collect(),
     }
 }
@@ -154,7 +162,7 @@ fn lin() -> Rules {
     elements[2 - 1].mandatory = true;
     elements[3 - 1].mandatory = true;
     let notes = (4..=30).step_by(2).map(|first| note(&format!("P{first:02}{:02}", first + 1))).collect();
-    Rules { tag: "LIN".to_string(), elements, notes }
+    Rules { tag: "LIN".to_string(), elements, absent: Vec::new(), notes }
 }
 
 /// NCA: 1 AN 1/20; 2 ID 1/2; 3 AN 1/80; 4 R 1/15; 5 composite of up to fifteen components: five
@@ -170,6 +178,7 @@ fn nca() -> Rules {
     Rules {
         tag: "NCA".to_string(),
         elements: vec![rule("AN 1/20"), rule("ID 1/2"), rule("AN 1/80"), rule("R 1/15"), composite],
+        absent: Vec::new(),
         notes: vec![note("R0203"), note("P0405")],
     }
 }
@@ -183,12 +192,15 @@ impl Rules {
         self.broken(pieces)
     }
 
-    /// 9: too many elements or components; the first such.
+    /// 9: too many elements or components; the first such. One that may not be there is one too many.
     fn too_many(&self, pieces: &[Piece]) -> Result<(), Fault> {
         for (number, piece) in pieces.iter().enumerate().skip(1) {
             let Some(rule) = self.elements.get(number - 1) else {
                 return Err((9, number));
             };
+            if self.absent.contains(&number) && present(pieces, number) {
+                return Err((9, number));
+            }
             if matches!(&rule.kind, Kind::Composite(rules) if piece.components.len() > rules.len()) {
                 return Err((9, number));
             }
@@ -306,7 +318,7 @@ mod tests {
 
     #[test]
     fn the_paper_is_read_as_printed() {
-        let all = rules();
+        let all = rules(Profile::Report);
         let count = |tag: &str| all.iter().find(|rules| rules.tag == tag).map(|rules| rules.elements.len());
         assert_eq!(count("ST"), Some(2));
         assert_eq!(count("N1"), Some(6));
@@ -328,5 +340,7 @@ mod tests {
             ]
         );
         assert_eq!(all[0].notes, []);
+        let absent = |profile| rules(profile).into_iter().flat_map(|rules| rules.absent).collect::<Vec<_>>();
+        assert_eq!(Profile::BOTH.map(absent), [vec![], vec![2, 4]]);
     }
 }

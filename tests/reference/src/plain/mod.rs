@@ -1,13 +1,14 @@
 //! The same reading in the plainest way: slow, allocating, and taken from the words of document 01 and
-//! of document 02, Items 1, 3, 5 and 6.
+//! of document 02, Items 1, 3, 5, 6 and 9.
 //!
 //! It shares with the fast reader only the types of the separators, of the choice between readings, of
-//! the answer and of a number. The row list and the element rules are read from the paper's text at run
+//! the profile, of the answer and of a number. The row list and the element rules are read from the paper's text at run
 //! time, rows are found from the bracketed list itself by keeping every way in which the list may still
 //! go on, and numbers in a list of all forms that one may have.
 
 mod elements;
 mod number;
+mod profile;
 mod rows;
 mod segment;
 
@@ -15,7 +16,7 @@ pub use elements::{rules, Kind, Note, Rule, Rules};
 pub use number::{forms, number_plain, Form};
 pub use rows::{candidates, first_ways, parse, Part, Ways, PAPER};
 
-use crate::{Answer, LineEnds, Separators};
+use crate::{Answer, LineEnds, Profile, Separators};
 use segment::Segment;
 
 /// A fault: the answer's number and the element.
@@ -29,6 +30,7 @@ pub fn read_plain(
     input: &[u8],
     separators: Separators,
     line_ends: LineEnds,
+    profile: Profile,
     segments: &mut [u64],
     levels: &mut [u64],
 ) -> Answer {
@@ -38,7 +40,7 @@ pub fn read_plain(
     if input.len() > 1_048_576 {
         return refusal(2, 0, 0, 0);
     }
-    let mut reading = Reading::new(separators);
+    let mut reading = Reading::new(separators, profile);
     let mut start = 0;
     loop {
         let number = reading.accepted.len() + 1;
@@ -97,6 +99,7 @@ struct Level {
 /// A reading under way.
 struct Reading {
     separators: Separators,
+    profile: Profile,
     rules: Vec<Rules>,
     ways: Ways,
     /// Start, length, row and level of every accepted segment.
@@ -105,15 +108,17 @@ struct Reading {
     control: Vec<u8>,
 }
 
-const CODES: [&str; 5] = ["RP", "I", "F", "PC", "SN"];
+/// Every code, in the order of their numbers.
+const CODES: [&str; 6] = ["RP", "I", "F", "PC", "SN", "RB"];
 const PAIRS: [(&str, &str); 6] =
     [("RP", "I"), ("I", "F"), ("I", "PC"), ("F", "PC"), ("I", "SN"), ("F", "SN")];
 
 impl Reading {
-    fn new(separators: Separators) -> Reading {
+    fn new(separators: Separators, profile: Profile) -> Reading {
         Reading {
             separators,
-            rules: rules(),
+            profile,
+            rules: rules(profile),
             ways: first_ways(),
             accepted: Vec::new(),
             levels: Vec::new(),
@@ -127,6 +132,7 @@ impl Reading {
         unknown_tag(&segment)?;
         empty_ends(&segment)?;
         let (row, ways) = self.row(&segment)?;
+        self.foreign(row)?;
         if let Some(rules) = self.rules.iter().find(|rules| rules.tag.as_bytes() == segment.tag()) {
             rules.check(&segment.pieces, self.separators.component)?;
         }
@@ -166,6 +172,15 @@ impl Reading {
         Ok((row, found.into_iter().map(|(_, way)| way).collect()))
     }
 
+    /// 24: the row is not in the profile.
+    fn foreign(&self, row: usize) -> Result<(), Fault> {
+        if profile::has_row(self.profile, row) {
+            Ok(())
+        } else {
+            Err((24, 0))
+        }
+    }
+
     /// 12 to 15 at an HL.
     fn level(&self, segment: &Segment) -> Result<Level, Fault> {
         let (name, parent, code, mark) = (segment.text(1), segment.text(2), segment.text(3), segment.text(4));
@@ -176,9 +191,10 @@ impl Reading {
         if !parent.is_empty() && found.is_none() {
             return Err((13, 2));
         }
-        let code = CODES.into_iter().find(|known| known.as_bytes() == code).ok_or((14, 3))?;
+        let code = profile::code(self.profile, code).ok_or((14, 3))?;
+        let asked_for_a_parent = self.profile == Profile::Report && code != "RP" && code != "I";
         match found {
-            None if code != "RP" && code != "I" => return Err((14, 3)),
+            None if asked_for_a_parent => return Err((14, 3)),
             Some(at) if !PAIRS.contains(&(self.levels[at].code, code)) => return Err((14, 2)),
             Some(at) if self.levels[at].mark == b"0" => return Err((15, 2)),
             _ => {}

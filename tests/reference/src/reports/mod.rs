@@ -11,7 +11,8 @@ use crate::vectors::{groups, Case, Group, How, Told};
 use crate::Separators;
 
 /// The groups of vectors that the program is given.
-const TAKEN: [&str; 7] = ["answers", "astray", "attached", "levels", "lines", "quantities", "worked"];
+const TAKEN: [&str; 8] =
+    ["answers", "astray", "attached", "levels", "lines", "quantities", "replies", "worked"];
 
 /// How many generated reports there are.
 const GENERATED: usize = 100;

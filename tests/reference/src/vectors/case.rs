@@ -1,8 +1,8 @@
 //! One case: how it is written into a file, and what is printed for it.
 
-use crate::{lookup_span, number, read, rewrite, Answer, LineEnds, Number, Separators};
+use crate::{lookup_span, number, read, rewrite, Answer, LineEnds, Number, Profile, Separators};
 
-/// How a report is read: the byte of a case that says so. Only its lowest bit is looked at.
+/// How a report is read: the byte of a case that says so. Only its two lowest bits are looked at.
 #[derive(Clone, Copy, Debug, PartialEq, Eq)]
 pub struct How(pub u8);
 
@@ -11,12 +11,24 @@ impl How {
     pub const DEFAULT: How = How(0);
     /// Line ends belong to the segment that they stand before.
     pub const STRICT: How = How(1);
+    /// By the profile of replies, line ends skipped.
+    pub const REPLY: How = How(2);
+    /// By the profile of replies, strictly.
+    pub const STRICT_REPLY: How = How(3);
 
     /// What becomes of line ends.
     pub const fn line_ends(self) -> LineEnds {
         match self.0 & 1 {
             0 => LineEnds::Skipped,
             _ => LineEnds::Strict,
+        }
+    }
+
+    /// The profile.
+    pub const fn profile(self) -> Profile {
+        match self.0 & 2 {
+            0 => Profile::Report,
+            _ => Profile::Reply,
         }
     }
 }
@@ -35,12 +47,14 @@ pub enum Case {
         /// How many numbers each table has, segments first.
         rooms: (usize, usize),
     },
-    /// Kind 2.
+    /// Kind 2, and kind 6 by the profile of replies.
     Rewrite {
         /// The lent bytes.
         input: Vec<u8>,
         /// The separators to read with.
         separators: Separators,
+        /// The profile.
+        profile: Profile,
         /// The separators to write with.
         new: Separators,
         /// How many numbers each table has, segments first.
@@ -95,7 +109,7 @@ pub struct Told {
 }
 
 impl Told {
-    /// The same reading by that choice.
+    /// The same reading in that way.
     pub fn by(mut self, choice: How) -> Told {
         match &mut self.case {
             Case::Read { how, .. } | Case::Long { how, .. } => *how = choice,
@@ -146,8 +160,9 @@ impl Case {
             Case::Read { input, separators, how, rooms } => {
                 (1, *separators, none, *rooms, usize::from(how.0), input)
             }
-            Case::Rewrite { input, separators, new, rooms, output } => {
-                (2, *separators, *new, *rooms, *output, input)
+            Case::Rewrite { input, separators, profile, new, rooms, output } => {
+                let kind = if *profile == Profile::Reply { 6 } else { 2 };
+                (kind, *separators, *new, *rooms, *output, input)
             }
             Case::Lookup { segment, element, component, number, part } => {
                 (3, Separators::new(*element, *component, 0), none, (*number, *part), 0, segment)
@@ -172,11 +187,11 @@ impl Case {
             Case::Read { input, separators, how, rooms } => {
                 print_reading(out, input, *separators, *how, *rooms);
             }
-            Case::Rewrite { input, separators, new, rooms, output } => {
+            Case::Rewrite { input, separators, profile, new, rooms, output } => {
                 let mut tables = Tables::lent(*rooms);
                 let mut output = lent_bytes(*output);
                 let (segments, levels) = (&mut tables.segments, &mut tables.levels);
-                let answer = rewrite(input, *separators, *new, segments, levels, &mut output);
+                let answer = rewrite(input, *separators, *profile, *new, segments, levels, &mut output);
                 print_answer(out, answer, &tables);
                 print_line(out, "output", &output);
             }
@@ -208,7 +223,8 @@ impl Tables {
 /// Reads and prints what comes of it.
 fn print_reading(out: &mut String, input: &[u8], separators: Separators, how: How, rooms: (usize, usize)) {
     let mut tables = Tables::lent(rooms);
-    let answer = read(input, separators, how.line_ends(), &mut tables.segments, &mut tables.levels);
+    let (segments, levels) = (&mut tables.segments, &mut tables.levels);
+    let answer = read(input, separators, how.line_ends(), how.profile(), segments, levels);
     print_answer(out, answer, &tables);
 }
 

@@ -2,7 +2,7 @@
 
 use super::case::{Case, How, Told};
 use super::{Group, FILE_BYTES, OUTPUT_BYTES, TABLE_NUMBERS};
-use crate::generator;
+use crate::{generator, Profile};
 
 /// Longer inputs are left out.
 const INPUT_BYTES: usize = 12_000;
@@ -34,16 +34,17 @@ pub fn generated(first: u64, count: u64) -> Vec<Group> {
 
 /// The readings and the rewriting of a report.
 fn all(report: generator::Case) -> [Told; 3] {
-    let generator::Case { input, separators, new, .. } = report;
+    let generator::Case { input, separators, profile, new, .. } = report;
     let rooms = (report.segment_numbers.min(TABLE_NUMBERS), report.level_numbers.min(TABLE_NUMBERS));
     let output = report.output_length.min(OUTPUT_BYTES);
     let read = Told::from(Case::read(input.clone(), separators, rooms));
-    // Bits that have no name, and that nothing looks at.
+    // Bits that have no name, and that nothing looks at; then the profile.
     let unnamed = report.seed as u8 & !3;
+    let how = unnamed | if profile == Profile::Reply { How::REPLY.0 } else { 0 };
     [
-        read.clone().by(How(unnamed)),
-        read.by(How(unnamed | 1)),
-        Case::Rewrite { input, separators, new, rooms, output }.into(),
+        read.clone().by(How(how)),
+        read.by(How(how | 1)),
+        Case::Rewrite { input, separators, profile, new, rooms, output }.into(),
     ]
 }
 

@@ -14,6 +14,7 @@ pub mod numbers;
 mod pairs;
 mod places;
 mod quantities;
+pub mod replies;
 mod rewriting;
 mod sets;
 pub mod text;
@@ -56,6 +57,8 @@ pub fn groups() -> Vec<Group> {
         ("numbers", numbers::cases()),
         ("pairs", pairs::cases()),
         ("quantities", quantities::cases()),
+        ("replies", replies::cases()),
+        ("replyrows", places::replies()),
         ("rewriting", rewriting::cases()),
         ("rooms", whole::rooms()),
         ("separators", sets::cases()),

@@ -2,7 +2,7 @@
 
 use super::case::Told;
 use super::text::{accepted, after_bnr, refused};
-use crate::CODES;
+use crate::Profile;
 
 const MARKS: [&str; 3] = ["", "*0", "*1"];
 
@@ -62,8 +62,9 @@ fn alone(code: &str, mark: &str) -> Told {
 
 pub fn cases() -> Vec<Told> {
     let mut cases = Vec::new();
-    for parent in CODES {
-        for child in CODES {
+    let codes = Profile::Report.codes();
+    for parent in codes {
+        for child in codes {
             for mark in MARKS {
                 for child_mark in MARKS {
                     cases.push(pair(parent, mark, child, child_mark));
@@ -71,7 +72,7 @@ pub fn cases() -> Vec<Told> {
             }
         }
     }
-    for code in CODES {
+    for code in codes {
         for mark in MARKS {
             cases.push(alone(code, mark));
         }

@@ -1,11 +1,11 @@
 //! Every tag after every row: the shortest way to the row, then a segment with the tag. Where a row
 //! takes it, its record shows which, and the reading then finds no further terminator, or was
-//! accepted at SE.
+//! accepted at SE. The same by the profile of replies, after each of its rows.
 
-use super::case::{Case, Told};
+use super::case::{Case, How, Told};
 use super::text::joined;
 use crate::rows::{Tag, NEXT, ROW_COUNT, TAGS};
-use crate::{Separators, LEVEL_NUMBERS, SEGMENT_NUMBERS};
+use crate::{Profile, Separators, LEVEL_NUMBERS, SEGMENT_NUMBERS};
 
 /// How many files the cases are spread over, so that each stays short.
 const FILES: usize = 4;
@@ -18,6 +18,12 @@ pub fn files() -> Vec<(String, Vec<Told>)> {
         .zip('a'..)
         .map(|(rows, letter)| (format!("rows{letter}"), rows.iter().flat_map(|row| after(*row)).collect()))
         .collect()
+}
+
+/// Every tag before ST and after every row of a reply, read as one.
+pub fn replies() -> Vec<Told> {
+    let rows = (0..ROW_COUNT).filter(|row| *row == 0 || Profile::Reply.has(*row));
+    rows.flat_map(after).map(|told| told.by(How::REPLY)).collect()
 }
 
 /// Every tag after this row.

@@ -3,7 +3,7 @@
 use super::case::{Case, Told};
 use super::text::{closed, enough, in_fault, in_heading, joined, start_of, w1_with, written_with, W1};
 use super::{OUTPUT_BYTES, TABLE_NUMBERS};
-use crate::{Separators, SEGMENT_NUMBERS};
+use crate::{Profile, Separators, SEGMENT_NUMBERS};
 
 const STANDARD: Separators = Separators::STANDARD;
 
@@ -24,7 +24,7 @@ const NEW: [Separators; 9] = [
 pub fn rewriting(input: &[u8], separators: Separators, new: Separators, more: isize) -> Case {
     let rooms = enough(input, separators);
     let output = input.len().saturating_add_signed(more);
-    Case::Rewrite { input: input.to_vec(), separators, new, rooms, output }
+    Case::Rewrite { input: input.to_vec(), separators, profile: Profile::Report, new, rooms, output }
 }
 
 pub fn told(case: Case, answer: [u64; 4]) -> Told {
@@ -162,8 +162,8 @@ fn rooms() -> Vec<Told> {
         ((SEGMENT_NUMBERS * 7, 8), 77, [19, 0, 0, 0]),
         ((TABLE_NUMBERS, TABLE_NUMBERS), OUTPUT_BYTES, [0, 7, 2, 78]),
     ] {
-        let input = input.clone();
-        cases.push(told(Case::Rewrite { input, separators: STANDARD, new, rooms, output }, answer));
+        let (input, profile) = (input.clone(), Profile::Report);
+        cases.push(told(Case::Rewrite { input, separators: STANDARD, profile, new, rooms, output }, answer));
     }
     cases
 }

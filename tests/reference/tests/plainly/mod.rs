@@ -1,7 +1,7 @@
 //! Lookup and rewriting said plainly once more, for the tests to compare with.
 
 use reference::plain::read_plain;
-use reference::{Answer, LineEnds, Separators, SEGMENT_NUMBERS};
+use reference::{Answer, LineEnds, Profile, Separators, SEGMENT_NUMBERS};
 
 /// The components of each element of a segment, the tag's first. In a BIN whose count ends exactly with
 /// the segment's bytes each piece is one; any other segment is cut at every separator.
@@ -52,10 +52,11 @@ fn refused(number: usize, segment: usize, byte: usize, element: usize) -> Answer
     Answer::Refused { number, segment, byte, element }
 }
 
-/// Rewriting, segment by segment and element by element. It reads strictly.
+/// Rewriting, segment by segment and element by element. It reads strictly, by the profile.
 pub fn rewrite(
     input: &[u8],
     old: Separators,
+    profile: Profile,
     new: Separators,
     segments: &mut [u64],
     levels: &mut [u64],
@@ -67,7 +68,7 @@ pub fn rewrite(
     if !new.fit() {
         return refused(1, 0, 0, 1);
     }
-    let answer = read_plain(input, old, LineEnds::Strict, segments, levels);
+    let answer = read_plain(input, old, LineEnds::Strict, profile, segments, levels);
     let Answer::Accepted { segments: count, .. } = answer else { return answer };
     let mut written = Vec::new();
     for (at, record) in segments.chunks(SEGMENT_NUMBERS).take(count).enumerate() {

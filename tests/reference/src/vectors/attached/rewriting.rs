@@ -3,7 +3,7 @@
 use super::{around, ending, BEFORE};
 use crate::vectors::case::{Case, Told};
 use crate::vectors::text::{enough, written_with};
-use crate::Separators;
+use crate::{Profile, Separators};
 
 const STANDARD: Separators = Separators::STANDARD;
 const NEW: Separators = Separators::new(b'|', b'^', b'\'');
@@ -12,7 +12,8 @@ const NEW: Separators = Separators::new(b'|', b'^', b'\'');
 fn rewriting(input: Vec<u8>, sets: [Separators; 2], more: isize, answer: [u64; 4]) -> Told {
     let rooms = enough(&input, sets[0]);
     let output = input.len().saturating_add_signed(more);
-    let case = Case::Rewrite { input, separators: sets[0], new: sets[1], rooms, output };
+    let profile = Profile::Report;
+    let case = Case::Rewrite { input, separators: sets[0], profile, new: sets[1], rooms, output };
     Told { case, answer: Some(answer) }
 }
 

@@ -1,4 +1,4 @@
-//! Every line end at every place, behind each segment, and cut at every byte; every byte that says how.
+//! Every line end at every place, behind each segment, and cut at every byte; bytes that say how.
 
 use super::{by_both, told, ENDS};
 use crate::vectors::case::{Case, How, Told};
@@ -93,14 +93,19 @@ fn cut_everywhere() -> Vec<Told> {
     (0..whole.len()).map(cut).chain([accepted(whole, 4, 1)]).collect()
 }
 
-/// Only the lowest bit of the byte that says how is looked at.
+/// Only the two lowest bits of the byte that says how are looked at: strictly, and by the profile of replies,
+/// in which the mark of W1's first HL is one element too many.
 fn how() -> Vec<Told> {
     let text = joined(&W1).replace('~', "~\r\n");
     let read = |how: u8| {
-        let answer = if how.is_multiple_of(2) { [0, 7, 2, 90] } else { [5, 2, 12, 0] };
+        let answer = match how % 4 {
+            0 => [0, 7, 2, 90],
+            2 => [9, 3, 36, 4],
+            _ => [5, 2, 12, 0],
+        };
         Told { case: reading(text.as_bytes()), answer: Some(answer) }.by(How(how))
     };
-    [0, 1, 2, 3, 4, 5, 127, 128, 129, 254, 255].map(read).into()
+    [0, 1, 2, 3, 4, 5, 6, 7, 127, 128, 129, 130, 252, 253, 254, 255].map(read).into()
 }
 
 /// Inputs of the greatest length and one byte more, filled up with `~`.
@@ -116,8 +121,12 @@ fn long() -> Vec<Told> {
         by_both(filled("ST*842*0001~\r\n", longest), [[4, 2, 14, 0], [5, 2, 12, 0]]),
     ]
     .concat();
-    for how in [2_u8, 254, 255] {
-        let answer = if how.is_multiple_of(2) { [0, 7, 2, 84] } else { [5, 2, 12, 0] };
+    for how in [2_u8, 252, 253, 254, 255] {
+        let answer = match how % 4 {
+            0 => [0, 7, 2, 84],
+            2 => [9, 3, 34, 4],
+            _ => [5, 2, 12, 0],
+        };
         cases.push(Told { case: filled(&in_lines, longest), answer: Some(answer) }.by(How(how)));
     }
     cases

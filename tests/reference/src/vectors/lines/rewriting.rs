@@ -2,7 +2,7 @@
 
 use crate::vectors::case::{Case, Told};
 use crate::vectors::text::{enough, joined, written_with, W1};
-use crate::Separators;
+use crate::{Profile, Separators};
 
 const STANDARD: Separators = Separators::STANDARD;
 const NEW: Separators = Separators::new(b'|', b'^', b'\'');
@@ -11,7 +11,8 @@ const LINES: Separators = Separators::new(b'*', b':', b'\n');
 /// A rewriting with an output as long as the input.
 fn rewriting(input: &[u8], sets: [Separators; 2], answer: [u64; 4]) -> Told {
     let (input, rooms, output) = (input.to_vec(), enough(input, sets[0]), input.len());
-    let case = Case::Rewrite { input, separators: sets[0], new: sets[1], rooms, output };
+    let profile = Profile::Report;
+    let case = Case::Rewrite { input, separators: sets[0], profile, new: sets[1], rooms, output };
     Told { case, answer: Some(answer) }
 }
 
