@@ -39,8 +39,7 @@ extern "C" {
 #define STORMHLAW_LONGEST 1048576
 
 /*
-** How a report is read: `how` is the sum of the flags named here, and 0 is the default. Bits without a name are not looked at; 2 is
-** kept for a profile.
+** How a report is read: `how` is the sum of the flags named here, and 0 is the default. Bits without a name are not looked at.
 **
 ** By default line ends between segments are skipped: behind a terminator and before the next segment at most one CR (13) and then
 ** at most one LF (10), each unless it is itself a separator. Nothing is skipped before the first segment or behind the SE, and what
@@ -51,6 +50,23 @@ extern "C" {
 ** element 0, unless it is 3. stormhlaw_rewrite reads so with this flag and without.
 */
 #define STORMHLAW_STRICT 1
+
+/*
+** By default a report is read by the first profile: it may have all 79 rows, and its levels have the codes RP, I, F, PC and SN.
+**
+** With STORMHLAW_REPLY it is read as a storage-quality reply, by the second profile:
+**
+**   - Its rows are 1, 2, 12, 17 to 19, 23 to 26, 30, 31, 46 to 49, 51, 56, 64, 71 and 79. A segment gets its row among all 79, or is
+**     refused with 7; where that row is none of these the answer is 24, right behind 7. So a reply has no BIN: the EFI before it,
+**     row 54, is refused.
+**   - HL02 and HL04 are absent. Where they are not, the answer is 9 with the first element that is too many: 2, 4 or 5.
+**   - HL03 is I, RB or RP, and no level asks for a parent. Any other code is refused with 14, element 3.
+**   - No HL01 repeats. Every level has parent 0 and depth 1.
+**
+** So 13 and 15 are not given then. Every other rule is the same in both profiles, those of line ends, of BIN and of the SE too, and so
+** is what the tables hold. stormhlaw_rewrite heeds this flag.
+*/
+#define STORMHLAW_REPLY 2
 
 /*
 ** The four numbers of an answer.
@@ -100,7 +116,8 @@ extern "C" {
 #define STORMHLAW_NO_ROW_FITS 7
 /* The mandatory element named is missing, or the first component of NCA05 is. */
 #define STORMHLAW_ELEMENT_MISSING 8
-/* Too many elements, or too many components in NCA05: the first that is too many. */
+/* Too many elements, or too many components in NCA05: the first that is too many. In a reply HL02 and HL04 are too many: element 2 or
+** 4. */
 #define STORMHLAW_TOO_MANY 9
 /* Type or length of the element named does not fit, or ST01 is not 842. A quantity, type R, is an optional '-', 1 to 15 digits with
 ** at most one '.', and optionally an exponent: 'E', an optional '-' and one or two digits, which do not count for the length. See "How
@@ -113,7 +130,8 @@ extern "C" {
 #define STORMHLAW_LEVEL_USED_BEFORE 12
 /* HL02 names no earlier level; it is the text of an earlier HL01 and not a position. Element 2. */
 #define STORMHLAW_PARENT_UNKNOWN 13
-/* Element 3: no such code, or the level needs a parent. Element 2: the level may not hang under that parent. */
+/* Element 3: no such code, or the level needs a parent. Element 2: the level may not hang under that parent. In a reply only that the
+** code is none of I, RB and RP: element 3. */
 #define STORMHLAW_LEVEL_NOT_PERMITTED 14
 /* Element 2: the parent is marked 0. Element 4: the level's own mark does not fit. Element 0, at the SE: a level marked 1
 ** has no child. */
@@ -126,6 +144,8 @@ extern "C" {
 #define STORMHLAW_DATA_EQUALS_SEPARATOR 18
 /* Rewriting only: the output is shorter than the bytes that the transaction takes. */
 #define STORMHLAW_OUTPUT_TOO_SHORT 19
+/* Replies only: the segment has a row of the table, and it is no row of this profile. Element 0. Tested right behind 7. */
+#define STORMHLAW_ROW_NOT_IN_PROFILE 24
 
 /*
 ** The segment table holds four numbers a segment, one record behind the other:
@@ -141,9 +161,10 @@ extern "C" {
 ** The level table holds four numbers a level:
 **
 **   levels[4 * k]        the segment of the HL that makes level k + 1
-**   levels[4 * k + 1]    the level number of its parent; 0 for none
-**   levels[4 * k + 2]    its depth, 1 to 4
-**   levels[4 * k + 3]    its code: 1 RP report, 2 I item, 3 F component, 4 PC product characteristic, 5 SN serial number
+**   levels[4 * k + 1]    the level number of its parent; 0 for none, as in every reply
+**   levels[4 * k + 2]    its depth, 1 to 4; 1 in every reply
+**   levels[4 * k + 3]    its code: 1 RP report, 2 I item, 3 F component, 4 PC product characteristic, 5 SN serial number, 6 RB response;
+**                        3 to 5 in no reply, 6 only there
 **
 ** A report of n bytes has at most n / 5 segments, and fewer levels than that. Tables may be of any size; with too little room the
 ** answer is STORMHLAW_NO_ROOM.
@@ -173,11 +194,11 @@ extern "C" {
 **   levels, levels_length      the level table; it has room for levels_length / 4 levels
 **   answer                     the four numbers of the answer, always written
 **
-** Answers 0 to 17. Acceptance leaves the records of all segments and levels in the tables. A refusal at segment k leaves
+** Answers 0 to 17 and 24. Acceptance leaves the records of all segments and levels in the tables. A refusal at segment k leaves
 ** the records of segments 1 to k - 1, and of their levels, as an acceptance would. Refusals 1 and 2 write to neither
 ** table. In every case, every other number of both tables keeps what it held.
 **
-** A refusal 4 to 16 is final: it stands whatever bytes follow that segment, up to STORMHLAW_LONGEST in all, and however much
+** A refusal 4 to 16 or 24 is final: it stands whatever bytes follow that segment, up to STORMHLAW_LONGEST in all, and however much
 ** larger the tables are; that of a BIN whose count or end is broken, whatever follows the byte that breaks it. Acceptance stands
 ** likewise. This holds of readings with the same `how`.
 */
@@ -196,19 +217,19 @@ void stormhlaw_read(
 **
 **   input, input_length        the bytes
 **   element, component, terminator   the separators of the input
-**   how                        as for stormhlaw_read, but STORMHLAW_STRICT is not looked at
+**   how                        as for stormhlaw_read: STORMHLAW_REPLY is heeded, but STORMHLAW_STRICT is not looked at
 **   new_element, new_component, new_terminator   those of the output
 **   segments, segments_length  the segment table, as for stormhlaw_read
 **   levels, levels_length      the level table, as for stormhlaw_read
 **   output, output_length      where the bytes go; as many are needed as the transaction takes
 **   answer                     the four numbers of the answer, always written
 **
-** Tested in this order: the old set (1, element 0), the new set (1, element 1), the reading (its answers 2 to 17 as they
+** Tested in this order: the old set (1, element 0), the new set (1, element 1), the reading (its answers 2 to 17 and 24 as they
 ** are), then 18 and 19. Acceptance writes exactly answer[STORMHLAW_BYTES] bytes of the output; on any refusal the output keeps
 ** its bytes. What lies beyond in the output keeps what it held.
 **
-** The tables are left as a strict stormhlaw_read would leave them, also at 18 and 19, and are not touched at 1. With the old
-** separators given again the output is the same bytes as the input.
+** The tables are left as a strict stormhlaw_read by the same profile would leave them, also at 18 and 19, and are not touched at 1.
+** With the old separators given again the output is the same bytes as the input.
 */
 void stormhlaw_rewrite(
     const uint8_t *input, size_t input_length,
@@ -222,8 +243,8 @@ void stormhlaw_rewrite(
 
 /*
 ** How many segment records, and how many level records, are valid after stormhlaw_read or stormhlaw_rewrite gave `answer` and left
-** `segments`: all after an acceptance and after answers 18 and 19, those before the segment named after answers 3 to 17, none after
-** 1 and 2. `segments` is the table that was lent in that call, as the call left it.
+** `segments`: all after an acceptance and after answers 18 and 19, those before the segment named after answers 3 to 17 and 24, none
+** after 1 and 2. `segments` is the table that was lent in that call, as the call left it.
 */
 static inline size_t stormhlaw_valid_segments(const uint64_t answer[4], const uint64_t *segments)
 {
@@ -233,7 +254,7 @@ static inline size_t stormhlaw_valid_segments(const uint64_t answer[4], const ui
         return (size_t)answer[STORMHLAW_SEGMENTS];
     if (answer[STORMHLAW_NUMBER] <= STORMHLAW_INPUT_TOO_LONG)
         return 0;
-    if (answer[STORMHLAW_NUMBER] <= STORMHLAW_NO_ROOM)
+    if (answer[STORMHLAW_NUMBER] <= STORMHLAW_NO_ROOM || answer[STORMHLAW_NUMBER] == STORMHLAW_ROW_NOT_IN_PROFILE)
         return (size_t)answer[STORMHLAW_SEGMENT] - 1;
     while (segments[STORMHLAW_SEGMENT_NUMBERS * k + 2] != row_of_se)
         k++;

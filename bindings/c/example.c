@@ -9,7 +9,7 @@
 #define SEGMENTS (STORMHLAW_LONGEST / 5)
 #define LEVELS STORMHLAW_LEVEL_ROOM
 
-static const char *const codes[] = {"?", "RP", "I", "F", "PC", "SN"};
+static const char *const codes[] = {"?", "RP", "I", "F", "PC", "SN", "RB"};
 
 /* The row of NCA in the table of 79. */
 #define NCA 64
@@ -103,7 +103,7 @@ int main(int count, char **words)
         }
         fclose(file);
     }
-    /* No flags: line ends between segments are skipped. */
+    /* No flags: line ends between segments are skipped, and the report is no reply. */
     stormhlaw_read(input, length, '*', ':', '~', 0, segments, STORMHLAW_SEGMENT_NUMBERS * SEGMENTS, levels,
                    STORMHLAW_LEVEL_NUMBERS * LEVELS, answer);
     if (answer[STORMHLAW_NUMBER] != STORMHLAW_ACCEPTED) {

@@ -1,5 +1,5 @@
-/* The worked reports of document 01, the lookup, the levels of segments, an attachment, line ends and quantities, through the header
-** alone. Says what differs and ends with status 1. */
+/* The worked reports of document 01, the lookup, the levels of segments, an attachment, line ends, storage-quality replies and
+** quantities, through the header alone. Says what differs and ends with status 1. */
 #include <stdio.h>
 #include <string.h>
 
@@ -23,6 +23,11 @@
 #define TREE                                                                                                                \
     "ST*842*0001~BNR*11*NR7*20240301~DTM*002*20240301~HL*30**RP*1~DTM*002*20240302~HL*20*30*I*1~HL*10*20*F*1~HL*5*10*PC*0~" \
     "NCD*1~HL*40*30*I*0~NCD*1~NCA**R1~SE*13*0001~"
+
+/* A storage-quality reply; its heading, 32 bytes and two segments; and its heading with the report level, 41 bytes and three. */
+#define HEADING "ST*842*0001~BNR*11*NR7*20240301~"
+#define REPORT_LEVEL HEADING "HL*1**RP~"
+#define REPLY REPORT_LEVEL "HL*2**RB~HL*3**I~NCD*1~NCA**R1~SE*8*0001~"
 
 /* How many numbers a segment table with room for ten has. */
 #define TEN (10 * STORMHLAW_SEGMENT_NUMBERS)
@@ -403,6 +408,80 @@ static void expect_lines_not_rewritten(void)
     }
 }
 
+static void expect_reply(void)
+{
+    static const uint64_t wanted_segments[32] = {0,  11, 1,  0, 12, 19, 2,  0, 32, 8, 18, 1, 41, 8, 18, 2,
+                                                 50, 7,  18, 3, 58, 5,  46, 3, 64, 7, 64, 3, 72, 9, 79, 0};
+    static const uint64_t wanted_levels[12] = {3, 0, 1, 1, 4, 0, 1, 6, 5, 0, 1, 2};
+    for (uint64_t how = STORMHLAW_REPLY; how <= (STORMHLAW_REPLY | STORMHLAW_STRICT); how++) {
+        uint64_t segments[32] = {0}, levels[12] = {0}, answer[4];
+        stormhlaw_read(BYTES(REPLY), '*', ':', '~', how, segments, 32, levels, 12, answer);
+        expect("a reply", answer, (const uint64_t[]){0, 8, 3, 82}, 4);
+        expect("segments of a reply", segments, wanted_segments, 32);
+        expect("levels of a reply", levels, wanted_levels, 12);
+    }
+    expect_how("a reply, with bits without a name", BYTES(REPLY), ~(uint64_t)STORMHLAW_STRICT, (const uint64_t[]){0, 8, 3, 82});
+}
+
+/* The answer for the bytes of a reply. */
+static void expect_replied(const char *what, const uint8_t *report, size_t length, const uint64_t wanted[4])
+{
+    expect_how(what, report, length, STORMHLAW_REPLY, wanted);
+}
+
+/* Rows 3, 54, 62 and 77 are not in the profile. Of a BIN without an EFI no row fits. */
+static void expect_other_rows(void)
+{
+    expect_replied("a REF in the heading", BYTES(HEADING "REF*TN*S17~"), (const uint64_t[]){24, 3, 32, 0});
+    expect_replied("an EFI", BYTES(REPORT_LEVEL "NCD*1~EFI*00~BIN*1*A~"), (const uint64_t[]){24, 5, 47, 0});
+    expect_replied("an LM of a fault", BYTES(REPORT_LEVEL "NCD*1~LM*DF~"), (const uint64_t[]){24, 5, 47, 0});
+    expect_replied("an LM of an action", BYTES(REPORT_LEVEL "NCD*1~NCA**R1~LM*DF~"), (const uint64_t[]){24, 6, 55, 0});
+    expect_replied("a BIN", BYTES(REPORT_LEVEL "NCD*1~BIN*1*A~"), (const uint64_t[]){7, 5, 47, 0});
+}
+
+/* In a reply no level has a parent or a mark; its codes are I, RB and RP, and RB is none in other reports. */
+static void expect_levels_of_replies(void)
+{
+    expect_replied("an HL02", BYTES(REPORT_LEVEL "HL*2*1*RB~"), (const uint64_t[]){9, 4, 41, 2});
+    expect_replied("an HL04", BYTES(REPORT_LEVEL "HL*2**RB*0~"), (const uint64_t[]){9, 4, 41, 4});
+    expect_replied("both", BYTES(REPORT_LEVEL "HL*2*1*RB*0~"), (const uint64_t[]){9, 4, 41, 2});
+    expect_replied("a fifth element", BYTES(REPORT_LEVEL "HL*2**RB**X~"), (const uint64_t[]){9, 4, 41, 5});
+    expect_replied("F", BYTES(REPORT_LEVEL "HL*2**F~"), (const uint64_t[]){14, 4, 41, 3});
+    expect_replied("an HL01 again", BYTES(REPORT_LEVEL "HL*1**RB~"), (const uint64_t[]){12, 4, 41, 1});
+    expect_answer("RB in the first profile", BYTES(REPLY), (const uint64_t[]){14, 4, 41, 3});
+    expect_how("RB in the first profile, strictly", BYTES(REPLY), STORMHLAW_STRICT, (const uint64_t[]){14, 4, 41, 3});
+    expect_replied("W1 as a reply", BYTES(W1), (const uint64_t[]){9, 3, 32, 4});
+    expect_replied("line ends in a reply", BYTES("ST*842*0001~\r\nBNR*11*NR7*20240301~\nHL*1**RB~SE*4*0001~"),
+                   (const uint64_t[]){0, 4, 1, 54});
+    expect_how("line ends in a reply, strictly", BYTES("ST*842*0001~\r\n" REPLY), STORMHLAW_REPLY | STORMHLAW_STRICT,
+               (const uint64_t[]){5, 2, 12, 0});
+}
+
+/* The answer for a rewriting with these flags, how many records are valid after it, and what the output begins with. */
+static void expect_reply_rewritten(const uint8_t *report, size_t length, uint64_t how, const uint64_t wanted[6], const char *begins)
+{
+    uint64_t segments[TEN] = {0}, levels[20] = {0}, found[6];
+    uint8_t output[82] = "kept";
+    stormhlaw_rewrite(report, length, '*', ':', '~', how, '|', '^', '\'', segments, TEN, levels, 20, output, 82, found);
+    found[4] = stormhlaw_valid_segments(found, segments);
+    found[5] = stormhlaw_valid_levels(found, segments);
+    expect("a reply rewritten", found, wanted, 6);
+    expect_bytes("a reply rewritten", output, begins, strlen(begins));
+}
+
+/* A rewriting looks at the profile, and not at whether it is to be strict. */
+static void expect_replies_rewritten(void)
+{
+    for (uint64_t strict = 0; strict <= STORMHLAW_STRICT; strict++) {
+        const uint64_t reply = STORMHLAW_REPLY | strict;
+        expect_reply_rewritten(BYTES(REPLY), reply, (const uint64_t[]){0, 8, 3, 82, 8, 3},
+                               "ST|842|0001'BNR|11|NR7|20240301'HL|1||RP'HL|2||RB'HL|3||I'NCD|1'NCA||R1'SE|8|0001'");
+        expect_reply_rewritten(BYTES(REPLY), strict, (const uint64_t[]){14, 4, 41, 3, 3, 1}, "kept");
+        expect_reply_rewritten(BYTES(W1), reply, (const uint64_t[]){9, 3, 32, 4, 2, 0}, "kept");
+        expect_reply_rewritten(BYTES(REPORT_LEVEL "NCD*1~NCA**R1~LM*DF~"), reply, (const uint64_t[]){24, 6, 55, 0, 5, 1}, "kept");
+    }
+}
+
 /* The five numbers of so many bytes; what stands around them stays. */
 static void expect_numbers(const char *what, const uint8_t *text, size_t length, const int64_t wanted[5])
 {
@@ -523,6 +602,10 @@ int main(void)
     expect_lines_skipped();
     expect_lines_refused();
     expect_lines_not_rewritten();
+    expect_reply();
+    expect_other_rows();
+    expect_levels_of_replies();
+    expect_replies_rewritten();
     expect_quantities();
     expect_no_quantities();
     expect_first_bytes();

@@ -31,6 +31,12 @@ comes behind them. STRICT asks for a reading that refuses them, and rewrite() al
 
     stormhlaw.read(data, how=stormhlaw.STRICT)
 
+A storage-quality reply has a profile of its own, by which it is read and rewritten where REPLY asks for it. A How names
+both choices.
+
+    stormhlaw.read(data, how=stormhlaw.REPLY)
+    stormhlaw.read(data, how=stormhlaw.How(stormhlaw.LineEnds.STRICT, stormhlaw.Profile.STORAGE_REPLY))
+
 A BIN, row 55, carries an attachment: its element 1 is a count, and element 2 is exactly so many bytes of any kind. They
 are one component.
 
@@ -54,7 +60,7 @@ the message names the argument. Any number of threads may call at once.
 from stormhlaw._library import LONGEST
 from stormhlaw._version import __version__
 from stormhlaw.answers import Reason, Refusal, Refused, Report
-from stormhlaw.how import STRICT, How, LineEnds
+from stormhlaw.how import REPLY, STRICT, How, LineEnds, Profile
 from stormhlaw.lookup import Segment
 from stormhlaw.quantities import Number, number
 from stormhlaw.reading import read
@@ -64,6 +70,7 @@ from stormhlaw.separators import Separators
 
 __all__ = [
     "LONGEST",
+    "REPLY",
     "STRICT",
     "Code",
     "How",
@@ -71,6 +78,7 @@ __all__ = [
     "Levels",
     "LineEnds",
     "Number",
+    "Profile",
     "Reason",
     "Refusal",
     "Refused",

@@ -13,6 +13,9 @@ LONGEST = 1_048_576
 STRICT_FLAG = 1
 """The flag of a strict reading, in the sum that tells how a report is read."""
 
+REPLY_FLAG = 2
+"""The flag of a reading as a storage-quality reply, in the same sum."""
+
 SEGMENT_NUMBERS, LEVEL_NUMBERS = 4, 4
 """How many numbers a segment's record has in its table, and a level's."""
 

@@ -56,7 +56,7 @@ class Tables:
     def _segments_left(self, number: int, segment: int) -> int:
         """How many segments a refusal leaves in the table: those before the segment that is refused; where only the
         rewriting is refused, all, up to the SE."""
-        if number < Reason.DATA_EQUALS_SEPARATOR:
+        if number not in (Reason.DATA_EQUALS_SEPARATOR, Reason.OUTPUT_TOO_SHORT):
             return max(segment - 1, 0)
         rows = self._segments[_ROW::_SEGMENT]
         return rows.index(_SE) + 1

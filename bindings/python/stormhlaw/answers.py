@@ -29,7 +29,7 @@ class Reason(IntEnum):
     NO_ROW_FITS = 7
     # The mandatory element named is missing.
     ELEMENT_MISSING = 8
-    # The element named is the first that is too many.
+    # The element named is the first that is too many. In a storage-quality reply HL02 and HL04 are too many.
     TOO_MANY = 9
     # Type or length of the element named does not fit, or ST01 is not 842; what a quantity may be says number(). Of a
     # BIN, element 1: BIN01 is no count, or no element separator follows it; element 2: no terminator stands where it is
@@ -41,7 +41,7 @@ class Reason(IntEnum):
     LEVEL_USED_BEFORE = 12
     # HL02 names no earlier level.
     PARENT_UNKNOWN = 13
-    # Element 3: no such code, or the level needs a parent. Element 2: it may not hang under that parent.
+    # Element 3: no such code in this profile, or the level needs a parent. Element 2: it may not hang under that one.
     LEVEL_NOT_PERMITTED = 14
     # Element 2: the parent is marked 0. Element 4: the own mark does not fit. Element 0: a level marked 1 has no child.
     MARK_UNFIT = 15
@@ -53,6 +53,8 @@ class Reason(IntEnum):
     DATA_EQUALS_SEPARATOR = 18
     # Rewriting: the output is shorter than the bytes that the transaction takes.
     OUTPUT_TOO_SHORT = 19
+    # The segment has a row of the table, and it is no row of a storage-quality reply.
+    ROW_NOT_IN_PROFILE = 24
 
 
 @dataclass(frozen=True)
@@ -91,8 +93,8 @@ class Refusal:
     element: int
     """The element that is meant; 0 for the tag or for no element in particular."""
     segments: Segments
-    """What was read before: nothing (reasons 1 and 2), the segments before the one that is refused (3 to 17), or all
-    of them, since the reading was accepted (18 and 19)."""
+    """What was read before: nothing (reasons 1 and 2), the segments before the one that is refused (3 to 17 and 24), or
+    all of them, since the reading was accepted (18 and 19)."""
     levels: Levels
     """The levels of those segments."""
 

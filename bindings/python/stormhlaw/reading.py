@@ -25,7 +25,8 @@ def read(
     a memoryview of bytes without gaps, are read where they are, and other threads run meanwhile; what can be written
     to is copied first.
 
-    Line ends between segments are skipped; with `how=STRICT` they are refused.
+    Line ends between segments are skipped; with `how=STRICT` they are refused. With `how=REPLY` the report is read as a
+    storage-quality reply, and a How names both choices.
 
     `segment_room` and `level_room` are how many records there is room for; a report with more is refused with
     Reason.NO_ROOM. Without `segment_room` there is always enough. Without `level_room` there is room for 4,096 levels,

@@ -38,11 +38,13 @@ class Code(IntEnum):
     COMPONENT = 3
     PRODUCT_CHARACTERISTIC = 4
     SERIAL_NUMBER = 5
+    # In storage-quality replies alone.
+    RESPONSE = 6
 
     @property
     def text(self) -> str:
         """The code as HL03 says it."""
-        return ("RP", "I", "F", "PC", "SN")[self - 1]
+        return ("RP", "I", "F", "PC", "SN", "RB")[self - 1]
 
 
 class SegmentRecord(NamedTuple):
@@ -70,7 +72,7 @@ class Level(NamedTuple):
     segment: int
     """The number of the HL's segment, from 1."""
     parent: int
-    """The number of its parent's level, from 1; 0 for none."""
+    """The number of its parent's level, from 1; 0 for none, as in every storage-quality reply."""
     depth: int
     """Its depth, 1 to 4."""
     code: Code

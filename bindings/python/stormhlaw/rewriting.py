@@ -30,7 +30,7 @@ def rewrite(
     Without it there is always enough. The other arguments are those of read().
 
     The reading is strict, whatever `how` says of line ends: a report that has them between its segments is refused with
-    Reason.BYTE_UNFIT.
+    Reason.BYTE_UNFIT. It is by the profile that `how` names: `how=REPLY` for a storage-quality reply.
     """
     start, size, _owner = lend("data", data, TOO_LONG)
     three, flags, new_three = numbers_of("separators", separators), flags_of("how", how), numbers_of("new", new)

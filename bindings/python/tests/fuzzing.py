@@ -19,9 +19,9 @@ from typing import Any, NamedTuple
 from unittest.mock import Mock
 
 import stormhlaw
-from stormhlaw import How, LineEnds, Refused, Segment, SegmentRecord, Separators, number, read, rewrite
+from stormhlaw import How, LineEnds, Profile, Refused, Segment, SegmentRecord, Separators, number, read, rewrite
 from stormhlaw._library import library
-from tests.reports import ATTACHED, W1, WITH_BIN, joined, with_items, with_segment
+from tests.reports import ATTACHED, REPLY_SEGMENTS, W1, WITH_BIN, joined, with_items, with_segment
 
 UNFIT = object()
 
@@ -102,7 +102,7 @@ class Odd(metaclass=Nameless):
 OBJECTS = (
     None, True, False, 1.5, float("nan"), float("inf"), 2j, Decimal(7), Fraction(7), "", "ST*842*0001~", "*", chr(298),
     "\udcff", [], [42], (), (b"*", b":", b"~"), {}, {b"*"}, range(7), object(), bytes, Separators, How, LineEnds,
-    Liar(), Odd(), Mock(spec=bytes), Mock(spec=Separators), Mock(spec=How), Mock(spec=int),
+    Profile, Liar(), Odd(), Mock(spec=bytes), Mock(spec=Separators), Mock(spec=How), Mock(spec=int),
     array.array("B", b"ST*842"), (ctypes.c_char * 6)(), mmap.mmap(-1, 16), ctypes.c_void_p(8), lambda: b"",
     NotImplemented,
 )  # fmt: skip
@@ -115,7 +115,9 @@ REPORTS = [
     joined(W1), joined(W1) + b"\r\nGE*1*1~", 2 * joined(W1), joined(W1[:4]), with_segment(4, "HL*2*1*F*0"),
     with_segment(2, "BNR*11*N|7*20240301"), with_items(3), with_items(40), b"", WITH_BIN, b"BIN*8*" + ATTACHED,
     b"BIN|08|" + ATTACHED, joined(W1).replace(b"~", b"~\r\n"), WITH_BIN.replace(b"~", b"~\n", 5),
-    with_items(3).replace(b"~", b"~\r"), joined(W1).replace(b"~", b"~\r\n\r\n", 3),
+    with_items(3).replace(b"~", b"~\r"), joined(W1).replace(b"~", b"~\r\n\r\n", 3), joined(REPLY_SEGMENTS),
+    joined(REPLY_SEGMENTS).replace(b"~", b"~\r\n"), joined(REPLY_SEGMENTS[:7] + ["LM*DF"]),
+    joined(REPLY_SEGMENTS[:2] + ["REF*TN*S17"]), joined(REPLY_SEGMENTS[:4] + ["HL*3*1*I"]),
 ]  # fmt: skip
 LARGE_REPORTS = [with_items(1500), *(joined(W1).ljust(stormhlaw.LONGEST + more, b"~") for more in (0, 1))]
 
@@ -279,31 +281,43 @@ def any_separators(chance):
     return Given(separators, tuple(field.plain for field in fields) if fit else UNFIT)
 
 
-def any_line_ends(chance):
-    """What may become of line ends, or something else."""
+def any_choice(chance, kinds, others):
+    """One of the choices of that enumeration, or something else."""
     kind = chance.random()
     if kind < 0.8:
-        value = chance.choice(list(LineEnds))
+        value = chance.choice(list(kinds))
         return Given(value, value)
     if kind < 0.9:
-        return Given(chance.choice((0, 1, 2, "strict", "STRICT", How())), UNFIT)
+        return Given(chance.choice((0, 1, 2, How(), *others)), UNFIT)
     return any_object(chance)
 
 
+def any_line_ends(chance):
+    """What may become of line ends, or something else."""
+    return any_choice(chance, LineEnds, ("strict", "STRICT", *Profile))
+
+
+def any_profile(chance):
+    """What a report may hold, or something else."""
+    return any_choice(chance, Profile, ("storage reply", "STORAGE_REPLY", *LineEnds))
+
+
 def any_how(chance):
-    """A choice of how to read, made as it should be or written to afterwards; plainly, what becomes of line ends."""
+    """A choice of how to read, made as it should be or written to afterwards; plainly, both of its fields."""
     kind = chance.random()
     if kind < 0.05:
         return any_object(chance)
     if kind < 0.1:
-        return Given(chance.choice((*LineEnds, Separators(), *NUMBERS, *HUGE)), UNFIT)
+        return Given(chance.choice((*LineEnds, *Profile, Separators(), *NUMBERS, *HUGE)), UNFIT)
     if kind < 0.7:
-        value = chance.choice(list(LineEnds))
-        return Given(How(value), value)
-    line_ends = any_line_ends(chance)
+        values = chance.choice(list(LineEnds)), chance.choice(list(Profile))
+        return Given(How(*values), values)
+    fields = any_line_ends(chance), any_profile(chance)
     how = chance.choice((How, LyingHow))()
-    object.__setattr__(how, "line_ends", line_ends.value)
-    return Given(how, line_ends.plain)
+    for name, field in zip(("line_ends", "profile"), fields):
+        object.__setattr__(how, name, field.value)
+    fit = all(field.plain is not UNFIT for field in fields)
+    return Given(how, tuple(field.plain for field in fields) if fit else UNFIT)
 
 
 def looked_up(data, separators, number, part):
@@ -331,7 +345,7 @@ FUNCTIONS = {
     taken: {"start": any_room, "length": any_room, "data": any_data, "separators": any_separators},
     number: {"text": any_text},
     Separators: {"element": any_byte, "component": any_byte, "terminator": any_byte},
-    How: {"line_ends": any_line_ends},
+    How: {"line_ends": any_line_ends, "profile": any_profile},
 }  # fmt: skip
 
 
@@ -347,7 +361,8 @@ def expected_reading(data, separators, how, segment_room, level_room, **rewritin
     segments = table(enough if segment_room is None else segment_room, 4)
     levels = table(min(enough, 4096) if level_room is None else level_room, 4)
     answer = (ctypes.c_uint64 * 4)()
-    old, flags = [separator[0] for separator in separators], int(how is LineEnds.STRICT)
+    old = [separator[0] for separator in separators]
+    flags = (how[0] is LineEnds.STRICT) + 2 * (how[1] is Profile.STORAGE_REPLY)
     if not rewriting:
         library.stormhlaw_read(data, len(data), *old, flags, *segments, *levels, answer)
         return list(answer), segments[0], levels[0], None
@@ -378,7 +393,7 @@ def check_refusal(refusal, expected):
     answer, segments, levels, _ = expected
     assert [refusal.reason, refusal.segment, refusal.byte, refusal.element] == answer, (refusal, answer)
     check_records(refusal, segments, levels)
-    if refusal.reason < 18:
+    if refusal.reason not in (18, 19):
         assert len(refusal.segments) == max(refusal.segment - 1, 0)
     else:
         assert [segment.row for segment in refusal.segments].index(79) == len(refusal.segments) - 1
@@ -434,7 +449,8 @@ def check_answer(function, plain, call):
     elif function is Separators:
         assert call().numbers() == tuple(value[0] for value in plain.values())
     elif function is How:
-        assert call().line_ends is plain["line_ends"]
+        found = call()
+        assert found.line_ends is plain["line_ends"] and found.profile is plain["profile"]
     else:
         check_reading(function, expected_reading(**plain), call)
 
@@ -456,7 +472,8 @@ def check_raises(names, call):
     except (TypeError, ValueError) as error:
         assert type(error) in (TypeError, ValueError), type(error)
         assert error.__cause__ is None
-        found = re.fullmatch(r"(\w+)(\.(element|component|terminator|line_ends))?: .+ wanted.*, not .+", str(error))
+        field = r"(\.(element|component|terminator|line_ends|profile))?"
+        found = re.fullmatch(rf"(\w+){field}: .+ wanted.*, not .+", str(error))
         assert found, str(error)
         assert found[1] in names or (found[1] in ("separators", "how") and found[3] in names), (str(error), names)
         return

@@ -21,6 +21,17 @@ BEHIND_BIN = b"~NCA**R1~SE*9*0001~"
 WITH_BIN = BEFORE_BIN + b"BIN*8*" + ATTACHED + BEHIND_BIN
 
 
+# A storage-quality reply, and what is known of it: its levels have no parents.
+REPLY_SEGMENTS = [
+    "ST*842*0001", "BNR*11*NR7*20240301", "HL*1**RP", "HL*2**RB", "HL*3**I", "NCD*1", "NCA**R1", "SE*8*0001",
+]  # fmt: skip
+REPLY_RECORDS = [
+    SegmentRecord(0, 11, 1, 0), SegmentRecord(12, 19, 2, 0), SegmentRecord(32, 8, 18, 1), SegmentRecord(41, 8, 18, 2),
+    SegmentRecord(50, 7, 18, 3), SegmentRecord(58, 5, 46, 3), SegmentRecord(64, 7, 64, 3), SegmentRecord(72, 9, 79, 0),
+]  # fmt: skip
+REPLY_LEVELS = [Level(3, 0, 1, Code.REPORT), Level(4, 0, 1, Code.RESPONSE), Level(5, 0, 1, Code.ITEM)]
+
+
 def joined(segments):
     return "".join(segment + "~" for segment in segments).encode()
 

@@ -4,7 +4,7 @@ import unittest
 from enum import IntEnum
 from unittest.mock import Mock
 
-from stormhlaw import STRICT, How, LineEnds, Segment, SegmentRecord, Separators, number, read, rewrite
+from stormhlaw import STRICT, How, LineEnds, Profile, Segment, SegmentRecord, Separators, number, read, rewrite
 from tests.reports import W1, joined
 
 REPORT = joined(W1)
@@ -39,10 +39,10 @@ def tampered(value):
     return separators
 
 
-def written_to(value):
+def written_to(value, field="line_ends"):
     """A choice that was written to behind its back."""
     how = How()
-    object.__setattr__(how, "line_ends", value)
+    object.__setattr__(how, field, value)
     return how
 
 
@@ -113,7 +113,8 @@ class Arguments(unittest.TestCase):
     def test_how(self):
         kinds = (
             (None, "None"), (0, "int"), (1, "int"), (7, "int"), (True, "bool"), ("strict", "str"),
-            (LineEnds.STRICT, "LineEnds"), (Separators(), "Separators"), (How, "type"), (Mock(spec=How), "Mock"),
+            (LineEnds.STRICT, "LineEnds"), (Profile.STORAGE_REPLY, "Profile"), (Separators(), "Separators"),
+            (How, "type"), (Mock(spec=How), "Mock"),
         )  # fmt: skip
         for value, kind in kinds:
             message = f"how: How wanted, not {kind}"
@@ -125,13 +126,25 @@ class Arguments(unittest.TestCase):
     def test_line_ends(self):
         kinds = (
             (None, "None"), (0, "int"), (1, "int"), (True, "bool"), ("strict", "str"), (STRICT, "How"),
-            (Mock(spec=LineEnds.STRICT), "Mock"),
+            (Profile.STORAGE_REPLY, "Profile"), (Mock(spec=LineEnds.STRICT), "Mock"),
         )  # fmt: skip
         for value, kind in kinds:
             message = f"how.line_ends: LineEnds wanted, not {kind}"
             self.refused(TypeError, message, How, value)
             self.refused(TypeError, message, read, REPORT, how=written_to(value))
             self.refused(TypeError, message, rewrite, REPORT, NEW, how=written_to(value))
+
+    def test_profile(self):
+        kinds = (
+            (None, "None"), (0, "int"), (2, "int"), (True, "bool"), ("storage reply", "str"), (How(), "How"),
+            (LineEnds.STRICT, "LineEnds"), (Mock(spec=Profile.STORAGE_REPLY), "Mock"),
+        )  # fmt: skip
+        for value, kind in kinds:
+            message = f"how.profile: Profile wanted, not {kind}"
+            self.refused(TypeError, message, How, LineEnds.SKIPPED, value)
+            self.refused(TypeError, message, How, profile=value)
+            self.refused(TypeError, message, read, REPORT, how=written_to(value, "profile"))
+            self.refused(TypeError, message, rewrite, REPORT, NEW, how=written_to(value, "profile"))
 
     def test_number_and_part(self):
         segment = Segment(b"HL*1")

@@ -133,7 +133,7 @@ class Records(unittest.TestCase):
                 setattr(record, field, 1)
 
     def test_codes(self):
-        self.assertEqual([code.text for code in Code], ["RP", "I", "F", "PC", "SN"])
+        self.assertEqual([code.text for code in Code], ["RP", "I", "F", "PC", "SN", "RB"])
         self.assertIs(read(REPORT).levels[1].code, Code.ITEM)
 
     def test_threads(self):

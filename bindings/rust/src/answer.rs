@@ -49,7 +49,7 @@ pub enum Reason {
     NoRowFits = 7,
     /// A mandatory element is missing.
     ElementMissing = 8,
-    /// Too many elements or components.
+    /// Too many elements or components. In a storage-quality reply HL02 and HL04 are too many.
     TooMany = 9,
     /// Type or length does not fit, or ST01 is not `842`; what a quantity may be says [`number`](crate::number). Of a BIN,
     /// element 1: BIN01 is no count, or no element separator follows it; element 2: no terminator stands where it is due.
@@ -60,7 +60,7 @@ pub enum Reason {
     LevelUsedBefore = 12,
     /// HL02 names no earlier level.
     ParentUnknown = 13,
-    /// Element 3: no such code, or the level needs a parent. Element 2: it may not hang under that parent.
+    /// Element 3: no such code in this profile, or the level needs a parent. Element 2: it may not hang under that parent.
     LevelNotPermitted = 14,
     /// Element 2: the parent is marked 0. Element 4: the own mark does not fit. Element 0: a mark 1 has no child.
     MarkUnfit = 15,
@@ -72,11 +72,13 @@ pub enum Reason {
     DataEqualsSeparator = 18,
     /// Rewriting: the output is shorter than the bytes used.
     OutputTooShort = 19,
+    /// The segment has a row of the table, and it is no row of a storage-quality reply.
+    RowNotInProfile = 24,
 }
 
 impl Reason {
     /// The reasons in the order of their numbers.
-    pub const ALL: [Reason; 19] = [
+    pub const ALL: [Reason; 20] = [
         Reason::SeparatorsUnfit,
         Reason::InputTooLong,
         Reason::NoTerminator,
@@ -96,9 +98,10 @@ impl Reason {
         Reason::NoRoom,
         Reason::DataEqualsSeparator,
         Reason::OutputTooShort,
+        Reason::RowNotInProfile,
     ];
 
-    /// The answer's number, 1 to 19.
+    /// The answer's number, 1 to 19 or 24.
     pub const fn number(self) -> u8 {
         self as u8
     }
@@ -113,14 +116,18 @@ impl fmt::Display for Refusal {
 
 impl Error for Refusal {}
 
-/// The answer that four numbers tell of. The library answers 0 to 19, and no count and no place exceeds the limit of the
-/// input.
+/// The answer that four numbers tell of. The library answers 0 to 19 and 24, and no count and no place exceeds the limit of
+/// the input.
 pub(crate) fn told(numbers: [u64; 4]) -> Result<Accepted, Refusal> {
     let [number, first, second, third] = numbers.map(|number| number as usize);
-    match number.checked_sub(1) {
-        None => Ok(Accepted { segments: first, levels: second, bytes: third }),
-        Some(before) => {
-            Err(Refusal { reason: Reason::ALL[before], segment: first, byte: second, element: third })
-        }
+    match number {
+        0 => Ok(Accepted { segments: first, levels: second, bytes: third }),
+        _ => Err(Refusal { reason: numbered(number), segment: first, byte: second, element: third }),
     }
+}
+
+/// The reason with that number.
+fn numbered(number: usize) -> Reason {
+    let found = Reason::ALL.into_iter().find(|reason| usize::from(reason.number()) == number);
+    found.expect("the library gives an answer that the header names")
 }

@@ -16,8 +16,20 @@ pub enum LineEnds {
     Strict,
 }
 
-/// How a report is read: by default line ends between segments are skipped. [`rewrite`](crate::rewrite) reads strictly,
-/// whatever it is told.
+/// What a report may hold.
+#[derive(Clone, Copy, Debug, Default, PartialEq, Eq, Hash)]
+pub enum Profile {
+    /// A nonconformance report: all 79 rows, and levels with the codes RP, I, F, PC and SN under their parents.
+    #[default]
+    Nonconformance,
+    /// A storage-quality reply: rows 1, 2, 12, 17 to 19, 23 to 26, 30, 31, 46 to 49, 51, 56, 64, 71 and 79 alone, any other
+    /// being refused with [`Reason::RowNotInProfile`](crate::Reason::RowNotInProfile); HL02 and HL04 absent; HL03 one of I,
+    /// RB and RP. No level has a parent, and all have depth 1.
+    StorageReply,
+}
+
+/// How a report is read: by default line ends between segments are skipped, and it is a nonconformance report.
+/// [`rewrite`](crate::rewrite) reads strictly, whatever it is told of line ends, and by the profile that it is told.
 ///
 /// ```
 /// use stormhlaw::{How, Separators, Tables};
@@ -31,29 +43,64 @@ pub enum LineEnds {
 /// assert_eq!(refusal.to_string(), "refused 5 segment 2 byte 12 element 0");
 /// # Ok::<(), stormhlaw::Refusal>(())
 /// ```
+///
+/// A storage-quality reply is read as one:
+///
+/// ```
+/// use stormhlaw::{Code, How, Profile, Reason, Separators, Tables};
+///
+/// let reply = b"ST*842*0001~BNR*11*NR7*20240301~HL*1**RP~HL*2**RB~SE*5*0001~";
+/// let mut tables = Tables::for_input(reply);
+/// tables.read(reply, Separators::STANDARD, How::reply())?;
+/// assert_eq!(tables.levels()[1].code(), Some(Code::Response));
+///
+/// let strictly = How::strict().with_profile(Profile::StorageReply);
+/// assert!(tables.read(reply, Separators::STANDARD, strictly).is_ok());
+///
+/// let refusal = tables.read(reply, Separators::STANDARD, How::new()).unwrap_err();
+/// assert_eq!((refusal.reason, refusal.segment), (Reason::LevelNotPermitted, 4));
+/// # Ok::<(), stormhlaw::Refusal>(())
+/// ```
 #[derive(Clone, Copy, Debug, Default, PartialEq, Eq, Hash)]
 #[non_exhaustive]
 pub struct How {
     /// What becomes of line ends between segments.
     pub line_ends: LineEnds,
+    /// What the report may hold.
+    pub profile: Profile,
 }
 
 impl How {
-    /// The default: line ends between segments are skipped.
+    /// The default: line ends between segments are skipped, and it is a nonconformance report.
     pub const fn new() -> How {
-        How { line_ends: LineEnds::Skipped }
+        How { line_ends: LineEnds::Skipped, profile: Profile::Nonconformance }
     }
 
     /// Nothing is skipped.
     pub const fn strict() -> How {
-        How { line_ends: LineEnds::Strict }
+        How { line_ends: LineEnds::Strict, ..How::new() }
+    }
+
+    /// A storage-quality reply.
+    pub const fn reply() -> How {
+        How::new().with_profile(Profile::StorageReply)
+    }
+
+    /// The same by that profile.
+    pub const fn with_profile(self, profile: Profile) -> How {
+        How { profile, ..self }
     }
 
     /// What the library is told: the sum of the flags that `include/stormhlaw.h` names.
     pub const fn flags(self) -> u64 {
-        match self.line_ends {
+        let line_ends = match self.line_ends {
             LineEnds::Skipped => 0,
             LineEnds::Strict => raw::STRICT,
-        }
+        };
+        let profile = match self.profile {
+            Profile::Nonconformance => 0,
+            Profile::StorageReply => raw::REPLY,
+        };
+        line_ends + profile
     }
 }

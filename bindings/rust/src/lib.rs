@@ -73,6 +73,8 @@
 //! ```
 //!
 //! Line ends between segments are skipped, or refused where [`How`] asks for a strict reading. A rewriting is always strict.
+//! A report is read as a nonconformance report, or as a storage-quality reply where [`How`] names that [`Profile`], and so it
+//! is rewritten.
 //!
 //! [`read`] and [`rewrite`] do the same in records that the caller lends, and allocate nothing; nor do [`Segment`], which
 //! looks up parts of a segment, and [`number`], which reads a quantity. Nothing is kept between calls, no input makes a
@@ -94,7 +96,7 @@ mod tables;
 mod valid;
 
 pub use answer::{Accepted, Reason, Refusal};
-pub use how::{How, LineEnds};
+pub use how::{How, LineEnds, Profile};
 pub use lookup::Segment;
 pub use quantities::{number, Number};
 pub use reading::{read, LONGEST};

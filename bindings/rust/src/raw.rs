@@ -64,6 +64,9 @@ const UNWRITTEN: u64 = u64::MAX;
 /// The flag of a strict reading, in the sum `how`. Bits of the sum without a name are not looked at.
 pub const STRICT: u64 = 1;
 
+/// The flag of a reading as a storage-quality reply.
+pub const REPLY: u64 = 2;
+
 /// Reads one transaction: fills both tables and gives the four numbers of the answer.
 pub fn read(
     input: &[u8],
@@ -93,8 +96,8 @@ pub fn read(
     answer
 }
 
-/// Reads one transaction strictly, with or without that flag, and writes it with other separators: fills both tables and
-/// the output and gives the four numbers of the answer.
+/// Reads one transaction, strictly with that flag or without it, and as a reply where its flag is set, and writes it with
+/// other separators: fills both tables and the output and gives the four numbers of the answer.
 pub fn rewrite(
     input: &[u8],
     separators: Separators,

@@ -26,11 +26,11 @@ pub struct SegmentRecord {
 pub struct Level {
     /// The number of its HL segment, from 1.
     pub segment: u64,
-    /// The number of its parent's level, from 1; 0 for none.
+    /// The number of its parent's level, from 1; 0 for none, as in every storage-quality reply.
     pub parent: u64,
     /// 1 without a parent, else the parent's plus one; at most 4.
     pub depth: u64,
-    /// Its code, 1 to 5: see `code`.
+    /// Its code, 1 to 6: see `code`.
     pub code: u64,
 }
 
@@ -47,6 +47,8 @@ pub enum Code {
     ProductCharacteristic,
     /// `SN`
     SerialNumber,
+    /// `RB`, in storage-quality replies alone.
+    Response,
 }
 
 impl SegmentRecord {
@@ -84,6 +86,7 @@ impl Level {
             3 => Some(Code::Component),
             4 => Some(Code::ProductCharacteristic),
             5 => Some(Code::SerialNumber),
+            6 => Some(Code::Response),
             _ => None,
         }
     }

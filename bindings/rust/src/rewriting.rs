@@ -13,7 +13,7 @@ use crate::separators::Separators;
 /// The bytes of BIN02 are copied as they are.
 ///
 /// The reading is strict, whatever `how` says of line ends: a report that has them between its segments is refused with
-/// [`Reason::ByteUnfit`](crate::Reason::ByteUnfit).
+/// [`Reason::ByteUnfit`](crate::Reason::ByteUnfit). It is by the profile that `how` names.
 ///
 /// ```
 /// use stormhlaw::{rewrite, How, Level, SegmentRecord, Separators};

@@ -19,8 +19,8 @@ pub struct Valid {
 
 impl Refusal {
     /// How many records are valid, where `segments` is the segment table that was lent to the call: none after answers 1
-    /// and 2, those before the refused segment after 3 to 17, all up to the SE after 18 and 19, which a rewriting gives
-    /// once the report is accepted. A table that no such call filled makes the counts wrong, and nothing else.
+    /// and 2, those before the refused segment after 3 to 17 and 24, all up to the SE after 18 and 19, which a rewriting
+    /// gives once the report is accepted. A table that no such call filled makes the counts wrong, and nothing else.
     pub fn valid(&self, segments: &[SegmentRecord]) -> Valid {
         let count = match self.reason {
             Reason::SeparatorsUnfit | Reason::InputTooLong => 0,

@@ -125,9 +125,7 @@ fn answers_1_and_2_point_at_no_segment() {
 fn a_refusal_reads_as_the_program_prints_it() {
     let answer = answer(&with(4, "HL*2*1*F*0"), ROOM, (3, 1)).unwrap_err();
     assert_eq!(answer.to_string(), "refused 14 segment 4 byte 43 element 2");
-    for (at, reason) in Reason::ALL.iter().enumerate() {
-        assert_eq!(usize::from(reason.number()), at + 1);
-    }
+    assert!(Reason::ALL.map(Reason::number).into_iter().eq((1..=19).chain([24])));
 }
 
 #[test]
