@@ -27,9 +27,9 @@ impl Contest {
     }
 
     fn round(&mut self, lent: &mut Lent) {
-        self.reading.round(&self.input.bytes, lent);
+        self.reading.round(&self.input, lent);
         if let Some(race) = &mut self.rewriting {
-            race.round(&self.input.bytes, lent);
+            race.round(&self.input, lent);
         }
     }
 

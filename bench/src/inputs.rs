@@ -1,6 +1,6 @@
 //! The reports whose bytes are timed.
 
-use crate::lines::{Values, FAULT, LONG, QUANTITIES, SHORT};
+use crate::lines::{Values, FAULT, LONG, QUANTITIES, REPLY, SHORT};
 use crate::report::{Input, Report};
 
 /// About 1 MB, less than the limit of 1,048,576 bytes.
@@ -54,6 +54,16 @@ fn scattered(size: usize, levels: usize, lines: &[&str]) -> Vec<u8> {
     report.close()
 }
 
+/// A storage-quality reply of about so many bytes with so many levels, none under another.
+fn reply(size: usize, levels: usize) -> Vec<u8> {
+    let mut reply = Report::new();
+    for level in 1..=levels {
+        reply.add(&format!("HL*{level}**RB"));
+        reply.fill(level * (size / levels), |turn| REPLY[turn % REPLY.len()].to_string());
+    }
+    reply.close()
+}
+
 /// A BIN of so many bytes, all of them separators.
 fn bin(length: usize) -> String {
     let bytes: String = SEPARATORS.chars().cycle().take(length).collect();
@@ -97,6 +107,7 @@ pub fn inputs() -> Vec<Input> {
         Input::new("1 MB, short plain, varied", varied(LARGE, 50, Values::short)),
         Input::new("1 MB, long elements", repeated(LARGE, 50, &LONG)),
         Input::new("1 MB, quantities", repeated(LARGE, 50, &QUANTITIES)),
+        Input::reply("1 MB, reply, 50 levels", reply(LARGE, 50)),
         Input::new("1 MB, 2,000 small BINs", small_bins(2_000, 50)),
         Input::new("900 KB, one BIN", one_bin(900_000)),
         Input::new("100 bytes", repeated(100, 1, &FAULT[5..6])),

@@ -72,7 +72,7 @@ fn time(input: &Input, sides: [&Side; 2], rounds: usize, lent: &mut Lent) {
     let mut race = Race::new(sides.map(|side| side.read).to_vec());
     let [_, _, levels, bytes] = race.agreed(input);
     for _ in 0..rounds {
-        race.round(&input.bytes, lent);
+        race.round(input, lent);
     }
     let [library, by_hand] = [race.best()[0], race.best()[1]];
     println!(

@@ -12,6 +12,18 @@ pub const FAULT: [&str; 8] = [
     "N1*ST*QUALITY DESK NORTH*92*A17",
 ];
 
+/// What a reply says of a finding, in rows of its profile.
+pub const REPLY: [&str; 8] = [
+    "NCD*1*A*0001*SOLDER*BRIDGE",
+    "NTE*GEN*SOLDER JOINT OPEN PIN 7",
+    "DTM*002*20240301*1530",
+    "REF*SE*M24-000178542",
+    "AMT*1*25.50",
+    "N1*SU*DEPOT SOUTH*92*B03",
+    "NCA*1*R1**25*EA",
+    "N1*ST*QUALITY DESK NORTH*92*A17",
+];
+
 /// Short plain segments.
 pub const SHORT: [&str; 6] = ["NCD*1*A", "REF*A1*7", "REF*B*12", "QTY*1*25", "AMT*1*9", "RC*4*12"];
 

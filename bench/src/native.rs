@@ -2,7 +2,8 @@
 
 #![allow(unsafe_code)]
 
-use crate::sides::{Lent, HOW, NEW, OLD};
+use crate::sides::{Lent, NEW, OLD};
+use stormhlaw::How;
 
 extern "C" {
     fn native_stormhlaw_read(
@@ -40,7 +41,7 @@ extern "C" {
 }
 
 /// Reads with the standard separators.
-pub fn read(input: &[u8], lent: &mut Lent) -> [u64; 4] {
+pub fn read(input: &[u8], how: How, lent: &mut Lent) -> [u64; 4] {
     let mut answer = [u64::MAX; 4];
     // SAFETY: every pointer and length is of a slice or an array that lives until the call returns, and those that are
     // written are borrowed for it alone.
@@ -51,7 +52,7 @@ pub fn read(input: &[u8], lent: &mut Lent) -> [u64; 4] {
             OLD.element,
             OLD.component,
             OLD.terminator,
-            HOW.flags(),
+            how.flags(),
             lent.segments.as_mut_ptr(),
             lent.segments.len(),
             lent.levels.as_mut_ptr(),
@@ -63,7 +64,7 @@ pub fn read(input: &[u8], lent: &mut Lent) -> [u64; 4] {
 }
 
 /// Rewrites from the standard separators to the new ones.
-pub fn rewrite(input: &[u8], lent: &mut Lent) -> [u64; 4] {
+pub fn rewrite(input: &[u8], how: How, lent: &mut Lent) -> [u64; 4] {
     let mut answer = [u64::MAX; 4];
     // SAFETY: as for `read`; the output too is borrowed for the call alone.
     unsafe {
@@ -73,7 +74,7 @@ pub fn rewrite(input: &[u8], lent: &mut Lent) -> [u64; 4] {
             OLD.element,
             OLD.component,
             OLD.terminator,
-            HOW.flags(),
+            how.flags(),
             NEW.element,
             NEW.component,
             NEW.terminator,

@@ -27,7 +27,7 @@ impl Race {
     pub fn agreed(&self, input: &Input) -> [u64; 4] {
         let mut outcomes = self.calls.iter().map(|call| {
             let mut lent = Lent::new();
-            (call(&input.bytes, &mut lent), lent)
+            (call(&input.bytes, input.how, &mut lent), lent)
         });
         let (answer, lent) = outcomes.next().expect("a side");
         assert_eq!(answer[0], 0, "{}: refused {answer:?}", input.name);
@@ -39,7 +39,7 @@ impl Race {
     }
 
     /// Times every side once.
-    pub fn round(&mut self, input: &[u8], lent: &mut Lent) {
+    pub fn round(&mut self, input: &Input, lent: &mut Lent) {
         for (call, best) in self.calls.iter().zip(&mut self.best) {
             *best = best.min(nanoseconds(*call, input, lent));
         }
@@ -58,12 +58,12 @@ impl Race {
 }
 
 /// How long one call takes.
-fn nanoseconds(call: Call, input: &[u8], lent: &mut Lent) -> f64 {
-    let mut times = BYTES_A_MEASUREMENT.div_ceil(input.len());
+fn nanoseconds(call: Call, input: &Input, lent: &mut Lent) -> f64 {
+    let mut times = BYTES_A_MEASUREMENT.div_ceil(input.bytes.len());
     loop {
         let start = Instant::now();
         for _ in 0..times {
-            black_box(call(black_box(input), lent));
+            black_box(call(black_box(&input.bytes), input.how, lent));
         }
         let taken = start.elapsed();
         if taken >= LEAST {

@@ -1,23 +1,32 @@
 //! A report under its name, and how it is put together.
 
+use stormhlaw::How;
+
 /// A report under its name.
 pub struct Input {
     pub name: &'static str,
     pub bytes: Vec<u8>,
     /// Line ends stand between its segments: it can be read and not rewritten.
     pub in_lines: bool,
+    /// How it is read: as callers do by default, past line ends.
+    pub how: How,
 }
 
 impl Input {
     /// A report without line ends.
     pub fn new(name: &'static str, bytes: Vec<u8>) -> Input {
-        Input { name, bytes, in_lines: false }
+        Input { name, bytes, in_lines: false, how: How::new() }
+    }
+
+    /// A storage-quality reply without line ends.
+    pub fn reply(name: &'static str, bytes: Vec<u8>) -> Input {
+        Input { how: How::reply(), ..Input::new(name, bytes) }
     }
 
     /// That report, which has no BIN, with CR LF behind each segment but the last.
     pub fn in_lines(name: &'static str, report: &[u8]) -> Input {
         let segments: Vec<&[u8]> = report.split_inclusive(|byte| *byte == b'~').collect();
-        Input { name, bytes: segments.join(&b"\r\n"[..]), in_lines: true }
+        Input { name, bytes: segments.join(&b"\r\n"[..]), in_lines: true, how: How::new() }
     }
 }
 

@@ -2,15 +2,12 @@
 
 use reference::{LineEnds, Separators, LEVEL_NUMBERS, SEGMENT_NUMBERS};
 use std::hint::black_box;
-use stormhlaw::{raw, How, LONGEST};
+use stormhlaw::{raw, How, Profile, LONGEST};
 
 /// The separators of every input, and those that it is rewritten to.
 pub const OLD: stormhlaw::Separators = stormhlaw::Separators::STANDARD;
 pub const NEW: stormhlaw::Separators =
     stormhlaw::Separators { element: b'|', component: b'^', terminator: b'\'' };
-
-/// Every input is read by the default, as callers do: line ends are skipped.
-pub const HOW: How = How::new();
 
 /// Room for every segment and every level that is timed, in numbers.
 const SEGMENT_TABLE: usize = SEGMENT_NUMBERS * (LONGEST / 5);
@@ -30,8 +27,8 @@ impl Lent {
     }
 }
 
-/// A call: an input, what is lent, and the four numbers of the answer.
-pub type Call = fn(&[u8], &mut Lent) -> [u64; 4];
+/// A call: an input and how it is read, what is lent, and the four numbers of the answer.
+pub type Call = fn(&[u8], How, &mut Lent) -> [u64; 4];
 
 /// What one side calls.
 pub struct Side {
@@ -50,22 +47,30 @@ pub fn sides() -> Vec<Side> {
     ]
 }
 
-fn library_read(input: &[u8], lent: &mut Lent) -> [u64; 4] {
-    raw::read(input, OLD, HOW.flags(), &mut lent.segments, &mut lent.levels)
+fn library_read(input: &[u8], how: How, lent: &mut Lent) -> [u64; 4] {
+    raw::read(input, OLD, how.flags(), &mut lent.segments, &mut lent.levels)
 }
 
-fn library_rewrite(input: &[u8], lent: &mut Lent) -> [u64; 4] {
-    raw::rewrite(input, OLD, HOW.flags(), NEW, &mut lent.segments, &mut lent.levels, &mut lent.output)
+fn library_rewrite(input: &[u8], how: How, lent: &mut Lent) -> [u64; 4] {
+    raw::rewrite(input, OLD, how.flags(), NEW, &mut lent.segments, &mut lent.levels, &mut lent.output)
 }
 
-fn read_by_hand(input: &[u8], lent: &mut Lent) -> [u64; 4] {
+fn read_by_hand(input: &[u8], how: How, lent: &mut Lent) -> [u64; 4] {
     let line_ends = black_box(LineEnds::Skipped);
-    reference::read(input, told(OLD), line_ends, &mut lent.segments, &mut lent.levels).numbers()
+    reference::read(input, told(OLD), line_ends, named(how), &mut lent.segments, &mut lent.levels).numbers()
 }
 
-fn rewrite_by_hand(input: &[u8], lent: &mut Lent) -> [u64; 4] {
+fn rewrite_by_hand(input: &[u8], how: How, lent: &mut Lent) -> [u64; 4] {
     let Lent { segments, levels, output } = lent;
-    reference::rewrite(input, told(OLD), told(NEW), segments, levels, output).numbers()
+    reference::rewrite(input, told(OLD), named(how), told(NEW), segments, levels, output).numbers()
+}
+
+/// The profile as the hand-written reader takes it, known only when it is called.
+fn named(how: How) -> reference::Profile {
+    black_box(match how.profile {
+        Profile::Nonconformance => reference::Profile::Report,
+        Profile::StorageReply => reference::Profile::Reply,
+    })
 }
 
 /// The set as the hand-written reader takes it, known only when it is called, as the library's is.
