@@ -9,4 +9,5 @@ pub mod TakenOut
 pub mod Shown
 pub mod Worked
 pub mod Replies
+pub mod ReplyLevels
 pub mod ReplyReports

@@ -30,7 +30,7 @@ pub record Condition1 : Type 0 where
   -- gets an answer
   pub answered : (how : How) (s : Bytes) (before : Tables) → (r : Answer) × (after : Tables) × Reads how s before r after
   -- from the list,
-  pub listed : (how : How) (s : Bytes) (before : Tables) (r : Answer) (after : Tables) → Reads how s before r after → Listed r
+  pub listed : (how : How) (s : Bytes) (before : Tables) (r : Answer) (after : Tables) → Reads how s before r after → Listed (how .profile) r
   -- and its numbers, and what it leaves in the lent tables, are exactly those
   pub once : (how : How) (s : Bytes) (before : Tables) (r r′ : Answer) (after after′ : Tables) → Reads how s before r after
       → Reads how s before r′ after′ → (r ≡ r′) × (after ≡ after′)

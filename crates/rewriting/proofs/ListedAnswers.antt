@@ -56,33 +56,33 @@ module _ (profile : ProfileName) (old new : Separators) (s : Bytes) (before : Ta
           (f .0, a .1, f .1, record { answer = a .0; reads = a .2; follows = f .2 })
 
 -- an answer of reading's list is one of rewriting's
-wider : (r : Answer) → Listed r → RewritingListed r
-wider (Accepted a l b) x = tt
-wider (Refused n k b e) x = (omega (arith, x .0), ⊎-elim (λ u. inl (omega (arith, u))) (λ u. inr u) (x .1))
+wider : (profile : ProfileName) (r : Answer) → Listed profile r → RewritingListed profile r
+wider profile (Accepted a l b) x = tt
+wider profile (Refused n k b e) x = (omega (arith, x .0), ⊎-elim (λ u. inl (omega (arith, u))) (λ u. inr u) (x .1))
 
-outcome-listed : (x : Clash) (room : Bool) (accepted : Answer) (new output : Bytes) (r : Answer) (after : Bytes) → RewritingListed accepted
-    → Outcome x room accepted new output r after → RewritingListed r
+outcome-listed : (profile : ProfileName) (x : Clash) (room : Bool) (accepted : Answer) (new output : Bytes) (r : Answer) (after : Bytes) → RewritingListed profile accepted
+    → Outcome x room accepted new output r after → RewritingListed profile r
 unfolding Outcome
-outcome-listed (At k b e) room accepted new output r after l x =
+outcome-listed profile (At k b e) room accepted new output r after l x =
     rw (refusal-of r 18 k b e (omega arith) (x .0)) (omega arith, inl (omega arith))
-outcome-listed Nowhere false accepted new output r after l x = rw (refusal-of r 19 0 0 0 (omega arith) (x .0)) (omega arith, inl (omega arith))
-outcome-listed Nowhere true accepted new output r after l x = rw (x .0) l
+outcome-listed profile Nowhere false accepted new output r after l x = rw (refusal-of r 19 0 0 0 (omega arith) (x .0)) (omega arith, inl (omega arith))
+outcome-listed profile Nowhere true accepted new output r after l x = rw (x .0) l
 
 module _ (profile : ProfileName) (old new : Separators) (s : Bytes) (before : Tables) (output : Bytes) (r : Answer) (tables : Tables) (after : Bytes) where
-  reading-listed : (answer : Answer) → RewritingListed answer → AfterReading profile old new s answer output r after → RewritingListed r
+  reading-listed : (answer : Answer) → RewritingListed profile answer → AfterReading profile old new s answer output r after → RewritingListed profile r
   reading-listed (Accepted a l b) h x =
-      outcome-listed (collision old new 1 (x .gs)) (leb b (length output)) (Accepted a l b) (rewritten old new (x .gs)) output r after h (x .outcome)
+      outcome-listed profile (collision old new 1 (x .gs)) (leb b (length output)) (Accepted a l b) (rewritten old new (x .gs)) output r after h (x .outcome)
   reading-listed (Refused n k b e) h x = rw (x .0) h
 
   -- every answer is one of the list
-  pub rewriting-listed : Rewrites profile old new s before output r tables after → RewritingListed r
+  pub rewriting-listed : Rewrites profile old new s before output r tables after → RewritingListed profile r
   unfolding Rewrites
   rewriting-listed x = fit (fitSeparators old) (fitSeparators new) x
     where
-      unfit : (e : ℕ) → Unfit e before output r tables after → RewritingListed r
+      unfit : (e : ℕ) → Unfit e before output r tables after → RewritingListed profile r
       unfit e x = rw (refusal-of r 1 0 0 e (omega arith) (x .answer)) (omega arith, inl (omega arith))
 
-      fit : (old-fit new-fit : Bool) → RewritesFit old-fit new-fit profile old new s before output r tables after → RewritingListed r
+      fit : (old-fit new-fit : Bool) → RewritesFit old-fit new-fit profile old new s before output r tables after → RewritingListed profile r
       fit false new-fit x = unfit 0 x
       fit true false x = unfit 1 x
-      fit true true x = reading-listed (x .answer) (wider (x .answer) (listed (strictly profile old) s before (x .answer) tables (x .reads))) (x .follows)
+      fit true true x = reading-listed (x .answer) (wider profile (x .answer) (listed (strictly profile old) s before (x .answer) tables (x .reads))) (x .follows)

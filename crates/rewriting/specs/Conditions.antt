@@ -10,6 +10,7 @@ use Rattle.text.specs.Cut.{Placed}
 use Rattle.text.specs.declared.separators.Separators.{Separators}
 use Rattle.rows.specs.declared.profile.ProfileName.{ProfileName}
 use Rattle.gate.specs.Segments.{seen}
+use Rattle.gate.specs.Answers.{RowNotInProfile}
 use Rattle.gate.specs.Records.{Tables}
 use Rattle.gate.specs.Reads.{Reads}
 use Rattle.gate.specs.Conditions.{Numbering}
@@ -19,10 +20,10 @@ use Rattle.gate.specs.declared.how.How.{How}
 use Rattle.rewriting.specs.Rewrites.{strictly, Rewrites}
 
 -- Condition 1
--- the list of rewriting's answers: acceptance, and refusals 1 to 19 and 24
-abbrev pub RewritingListed : Answer → Type 0
-RewritingListed (Accepted segments levels bytes) = Unit {0}
-RewritingListed (Refused number segment byte element) = (1 ≤ number) × ((number ≤ 19) ⊎ (number ≡ 24))
+-- the list of rewriting's answers: acceptance, and refusals 1 to 19, of a reply 24 too
+abbrev pub RewritingListed : ProfileName → Answer → Type 0
+RewritingListed profile (Accepted segments levels bytes) = Unit {0}
+RewritingListed profile (Refused number segment byte element) = (1 ≤ number) × ((number ≤ 19) ⊎ RowNotInProfile profile number)
 
 -- every input, either profile, every choice of separators, every table size and every output's length
 pub record Condition1Rewriting : Type 0 where
@@ -31,7 +32,7 @@ pub record Condition1Rewriting : Type 0 where
       → (r : Answer) × (tables : Tables) × (after : Bytes) × Rewrites profile old new s before output r tables after
   -- from the list,
   pub listed : (profile : ProfileName) (old new : Separators) (s : Bytes) (before : Tables) (output : Bytes) (r : Answer) (tables : Tables) (after : Bytes)
-      → Rewrites profile old new s before output r tables after → RewritingListed r
+      → Rewrites profile old new s before output r tables after → RewritingListed profile r
   -- and its numbers, and what it leaves in the lent tables and the lent output, are exactly those
   pub once : (profile : ProfileName) (old new : Separators) (s : Bytes) (before : Tables) (output : Bytes) (r r′ : Answer) (tables tables′ : Tables) (after after′ : Bytes)
       → Rewrites profile old new s before output r tables after → Rewrites profile old new s before output r′ tables′ after′

@@ -70,8 +70,8 @@ fn write_accepted(
     }
 }
 
-// Reads one transaction by the profile and writes it to the output with the new separators. Where it is refused the output keeps its bytes; the tables are
-// left as reading alone leaves them.
+// Reads one transaction by the profile and writes it to the output with the new separators. Where it is refused the output keeps its bytes;
+// the tables are left as reading alone leaves them.
 pub fn rewrite(
     s: &[u8],
     profile: ProfileName,

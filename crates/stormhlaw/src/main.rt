@@ -1,7 +1,7 @@
-// The gate as a program: reads one report, from the file that the first argument names or from standard input, with the standard
-// separators, by the profile of nonconformance reports and past line ends between segments, and lists its segments and levels on standard output, or says there in one line why it is
-// refused. Standard error gets a hint where the bytes show what was sent instead, and why an input could not be read; then nothing is on
-// standard output.
+// The gate as a program: reads one report, from the file that the first argument names or from standard input, with the standard separators,
+// by the profile of nonconformance reports and past line ends between segments, and lists its segments and levels on standard output, or says
+// there in one line why it is refused. Standard error gets a hint where the bytes show what was sent instead, and why an input could not be
+// read; then nothing is on standard output.
 // What decides is `reading::read`; this crate only prints. The script `stormhlaw` runs it, once for each report.
 mod hints;
 mod input;
