@@ -10,4 +10,5 @@ pub mod Shown
 pub mod Worked
 pub mod Replies
 pub mod ReplyLevels
+pub mod ReplyAnswers
 pub mod ReplyReports

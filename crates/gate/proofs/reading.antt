@@ -10,4 +10,5 @@ pub mod LastSegment
 pub mod ElementTexts
 pub mod Reference
 pub mod SideBySide
+pub mod Blaming
 pub mod Listing

@@ -31,8 +31,7 @@ law-behind t c d front h s (Stop n e u m) (inl x) = inl x
 law-behind t c d front h s (Stop n e u m) (inr k) =
     inr
     (record {
-      from-4 = k .from-4;
-      to-16 = k .to-16;
+      is-10 = k .is-10;
       whole = ap (λ (x : Bytes). front ++ x) (k .whole) ∙ sym (append-assoc front u m);
       some = rw (length-append front u) (omega (arith, k .some));
       still = λ x. ap c (append-assoc front u x) ∙ h (u ++ x) ∙ ap (behind front) (k .still x);
@@ -41,7 +40,7 @@ law-behind t c d front h s (Stop n e u m) (inr k) =
 -- a byte that breaks
 law-broken : (t : ℕ) (c : Bytes → Cut) (b element : ℕ) → ((x : Bytes) → c (b ∷ x) ≡ Stop 10 element (b ∷ []) x) → (s : Bytes)
     → CutLaw t c (b ∷ s) (Stop 10 element (b ∷ []) s)
-law-broken t c b element h s = inr (record { from-4 = omega arith; to-16 = omega arith; whole = refl; some = omega arith; still = h })
+law-broken t c b element h s = inr (record { is-10 = refl; whole = refl; some = omega arith; still = h })
 
 -- a test picks one of two cuts
 law-either : (t : ℕ) (c : Bytes → Cut) (b : ℕ) (s : Bytes) (i : Bool) (f g : Bytes → Cut) → ((x : Bytes) → c (b ∷ x) ≡ cond i (f x) (g x))
@@ -129,8 +128,7 @@ module _ (q : Separators) where
           rw (attached-broken p b x w)
           (inr
           (record {
-            from-4 = omega arith;
-            to-16 = omega arith;
+            is-10 = refl;
             whole = sym (append-snoc p b x);
             some = simp length-append (omega arith);
             still = λ y. ap (cutAttached q (length p)) (append-snoc p b y) ∙ attached-broken p b y w;

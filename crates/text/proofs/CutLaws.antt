@@ -13,10 +13,9 @@ use Rattle.text.specs.Bytes.{Bytes}
 use Rattle.text.specs.Separators.{isCapital}
 use Rattle.text.specs.Cut.{Cut, Whole, Stop, Placed, Leads}
 
--- a stop that blames a fault: it is numbered as one, and is made whatever follows the bytes that were looked at, of which there is one at least
+-- a stop that blames a fault: it is numbered 10, and is made whatever follows the bytes that were looked at, of which there is one at least
 pub record Faulty (cut : Bytes → Cut) (s : Bytes) (number element : ℕ) (upto more : Bytes) : Type 0 where
-  pub from-4 : 4 ≤ number
-  pub to-16 : number ≤ 16
+  pub is-10 : number ≡ 10
   pub whole : s ≡ upto ++ more
   pub some : 0 < length upto
   pub still : (x : Bytes) → cut (upto ++ x) ≡ Stop number element upto x

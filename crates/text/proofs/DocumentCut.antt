@@ -1,12 +1,11 @@
 -- The cut of the documents has the two laws. In plain words, of bytes that do not begin like a BIN: a whole segment is what stands before the first
 -- terminator, and the only stop is 3, where there is none.
 -- Assumes nothing.
-use Prim.Native.Nat.{ℕ, _≤_}
+use Prim.Native.Nat.{ℕ}
 use mathlib.Core.Path.{_≡_, refl, sym, ap, subst, _∙_}
-use mathlib.Core.Logic.{inl, inr}
+use mathlib.Core.Logic.{_⊎_, inl, inr}
 use mathlib.Core.Bool.{Bool, true, false, cond}
 use mathlib.Core.List.{[], _∷_, _++_}
-use native.Mathlib.Omega.{arith}
 use lib.Dec.{T, eqb, eqb→eq}
 use lib.ListN.{take, drop}
 use borrow.Author.Tests.{eq-eqb, ne-eqb, eqb-true, eqb-false}
@@ -78,22 +77,22 @@ module _ (q : Separators) where
       (rw (cut-marked (drop 4 s))
       (law-behind (q .terminator) (cutOf q) (cutCounted q 0 0) (binMark (q .element)) cut-marked (drop 4 s) (cutCounted q 0 0 (drop 4 s)) (counted-law q 0 0 (drop 4 s))))
 
-  -- with any separators: a segment and its terminator stand there; a stop is numbered 3, or as a fault
+  -- with any separators: a segment and its terminator stand there; a stop is numbered 3 or 10
   abbrev pub Splits : Bytes → Cut → Type 0
   Splits s (Whole segment more) = s ≡ segment ++ q .terminator ∷ more
-  Splits s (Stop number element upto more) = (3 ≤ number) × (number ≤ 16)
+  Splits s (Stop number element upto more) = (number ≡ 3) ⊎ (number ≡ 10)
 
   pub cut-splits : (s : Bytes) → Splits s (cutOf q s)
   cut-splits s = by (beginsBin (q .element) s) refl
     where
       of-law : (c : Cut) → CutLaw (q .terminator) (cutOf q) s c → Splits s c
       of-law (Whole segment more) w = w .0
-      of-law (Stop number element upto more) (inl z) = (omega arith, omega arith)
-      of-law (Stop number element upto more) (inr f) = (omega (arith, f .from-4), f .to-16)
+      of-law (Stop number element upto more) (inl z) = inl z
+      of-law (Stop number element upto more) (inr f) = inr (f .is-10)
 
       of-says : (c : Cut) → Says s c → Splits s c
       of-says (Whole segment more) w = w .0
-      of-says (Stop number element upto more) w = (omega (arith, w .0), omega (arith, w .0))
+      of-says (Stop number element upto more) w = inl (w .0)
 
       by : (b : Bool) → beginsBin (q .element) s ≡ b → Splits s (cutOf q s)
       by true h = of-law (cutOf q s) (marked-law s (rw h tt))

@@ -1,7 +1,7 @@
 -- Laws of rules in order, of segments with those before them, and of their rows; and the prefix form of condition 2.
 -- Assumes nothing.
 use Prim.Native.Nat.{ℕ, zero, suc, _+_, _≤_, _<_}
-use mathlib.Core.Path.{_≡_, refl, sym, _∙_}
+use mathlib.Core.Path.{_≡_, refl, sym, ap, _∙_}
 use mathlib.Core.Logic.{inl, inr, by-cases}
 use mathlib.Core.Bool.{Bool}
 use mathlib.Core.List.{List, [], _∷_, _++_, map}
@@ -30,6 +30,11 @@ keeps-split (c ∷ a) b k = let i = keeps-split a b (k .1) in ((k .0, i .0), i .
 pub keeps-both : (a b : List Check) → Keeps a → Keeps b → Keeps (a ++ b)
 keeps-both [] b x y = y
 keeps-both (c ∷ a) b x y = (x .0, keeps-both a b (x .1) y)
+
+-- and their rules
+pub as-rules-append : (a b : List Check) → asRules (a ++ b) ≡ asRules a ++ asRules b
+as-rules-append [] b = refl
+as-rules-append (c ∷ a) b = ap (λ (l : List Rule). record { number = c .number; element = c .element; Holds = T (c .holds) } ∷ l) (as-rules-append a b)
 
 -- the same test of n elements holds at each
 pub keeps-at : (number a n : ℕ) (test : ℕ → Bool) → Keeps (each number a n test) → (k : ℕ) → a ≤ k → k < a + n → T (test k)

@@ -21,6 +21,7 @@ use Rattle.levels.specs.Rules.{levelChecks}
 use Rattle.gate.specs.Profile.{Profile}
 use Rattle.gate.specs.Segments.{tagIn, isHL, isSE, levelsIn}
 use Rattle.gate.specs.Rules.{tagChecks, hlChecks, closingChecks, seChecks, Rule, asRules, Admitted, rowRules, rules, FirstBroken, Kept}
+use Rattle.gate.proofs.reading.Laws.{as-rules-append}
 
 -- the first of some tests that fails is the first of the rules that is broken, whatever rules follow
 pub first-here : (cs : List Check) (rest : List Rule) (n e : ℕ) → firstBroken cs ≡ Broken n e → FirstBroken (asRules cs ++ rest) n e
@@ -43,11 +44,6 @@ first-here (c ∷ cs) rest n e q = by (c .holds) q (first-here cs rest n e)
 pub first-after : (cs : List Check) (rest : List Rule) (n e : ℕ) → Keeps cs → FirstBroken rest n e → FirstBroken (asRules cs ++ rest) n e
 first-after [] rest n e k f = f
 first-after (c ∷ cs) rest n e k f = inr (k .0, first-after cs rest n e (k .1) f)
-
--- tests and then more tests
-pub as-rules-append : (a b : List Check) → asRules (a ++ b) ≡ asRules a ++ asRules b
-as-rules-append [] b = refl
-as-rules-append (c ∷ a) b = ap (λ (l : List Rule). record { number = c .number; element = c .element; Holds = T (c .holds) } ∷ l) (as-rules-append a b)
 
 module _ (profile : Profile) (w : List ℕ) (h : List View) (v : View) where
   abbrev ruled : List Check
