@@ -1,6 +1,7 @@
 // The rules of elements, by tag and element number.
 ghost use mathlib.Core.Path.{_≡_};
 ghost use mathlib.Core.Bool.{false};
+ghost use lib.Dec.{eqb};
 ghost use lib.ListN.{length, getD};
 ghost use Rattle.text.specs.Bytes.{bytes};
 ghost use Rattle.rows.specs.Tags.{tagNumber};
@@ -132,6 +133,23 @@ pub(crate) fn extent_of(tag: u8) -> Extent
         tags::NCA => stretch(20, 5, 0),
         tags::SE => stretch(25, 2, 2),
         _ => stretch(27, 0, 0),
+    }
+}
+
+// Whether a segment with that tag is plain: no element of it has a rule.
+pub fn is_plain(tag: u8) -> bool
+    ensures { λ r. ⌜ r ≡ eqb (length (rulesOf tag .elements)) 0 ⌝ }
+{
+    match tag {
+        tags::ST => false,
+        tags::N1 => false,
+        tags::DTM => false,
+        tags::HL => false,
+        tags::LIN => false,
+        tags::NTE => false,
+        tags::NCA => false,
+        tags::SE => false,
+        _ => true,
     }
 }
 

@@ -7,6 +7,7 @@ pub mod RuleOrder
 pub mod ClosingTests
 pub mod Placings
 pub mod OpeningControl
+pub mod PlainSegments
 pub mod JudgeSteps
 pub mod Settles
 pub mod Going

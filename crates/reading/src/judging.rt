@@ -12,6 +12,7 @@ use crate::placing;
 use crate::storing::NewLevel;
 use elements::layout;
 use elements::layout::Layout;
+use elements::rules;
 use elements::segment;
 use elements::verdict::Verdict;
 use finding::filling;
@@ -186,7 +187,8 @@ fn judge_late(
     Judgement::Other(row)
 }
 
-// The rules of rows and of elements, then the late ones, for a segment of a known tag of which rule 6 holds.
+// The rules of rows, then those of elements and the late ones, which a plain segment does not have, for a segment of a known tag of which
+// rule 6 holds.
 fn judge_known(
     s: &[u8],
     how: How,
@@ -209,6 +211,9 @@ fn judge_known(
     let chosen = how.profile;
     if !profile::admits(chosen, row) {
         return Judgement::Broken(24, 0);
+    }
+    if rules::is_plain(tag) {
+        return Judgement::Other(row);
     }
     match ruled::ruled_verdict(s, starts, layout, how.separators.component, chosen, tag) {
         Verdict::Broken(number, element) => Judgement::Broken(number, element),

@@ -205,7 +205,7 @@ pub fn ruled_verdict(
         (layoutView (now (s .entry)) (now (starts .entry)) layout component))
         ⌝ }
 {
-    if rules::last_ruled(tag) == 0 {
+    if rules::is_plain(tag) {
         return Verdict::Holds;
     }
     if let Verdict::Broken(n, e) = early_verdict(s, starts, layout, component, profile, tag) {

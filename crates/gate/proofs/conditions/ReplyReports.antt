@@ -2,14 +2,14 @@
 -- same answer and the same tables.
 -- Assumes nothing.
 use Prim.Native.Nat.{ℕ, zero, suc}
-use mathlib.Core.Path.{_≡_, refl, sym, ap, _∙_}
+use mathlib.Core.Path.{_≡_, refl, sym, _∙_}
 use mathlib.Core.Bool.{Bool, true, false, not, cond, _&&_, _||_}
 use mathlib.Core.List.{List, [], _∷_, _++_}
 use native.Mathlib.Omega.{arith}
 use borrow.Author.Tests.{ne-eqb}
 use lib.Dec.{T, T-not, eqb}
 use Rattle.text.specs.Bytes.{Bytes, bytes, every, same}
-use Rattle.text.specs.View.{View, viewOf, elementOf, elementCount}
+use Rattle.text.specs.View.{View, elementOf, elementCount}
 use Rattle.text.specs.Cut.{Placed}
 use Rattle.text.specs.declared.lines.LineEnds.{LineEnds}
 use Rattle.text.specs.declared.separators.Separators.{Separators}
@@ -27,13 +27,13 @@ use Rattle.levels.proofs.LevelTests.{Passes, keeps-passes, passes-keeps}
 use Rattle.gate.specs.Profile.{profileNamed}
 use Rattle.gate.specs.Segments.{tagIn, isHL, seen, onto, levelsIn}
 use Rattle.gate.specs.Rules.{hlChecks, seChecks, Kept, From}
-use Rattle.gate.specs.Records.{Tables, segmentRecord, segmentRecords}
+use Rattle.gate.specs.Records.{Tables}
 use Rattle.gate.specs.Reads.{Reads}
 use Rattle.gate.specs.Conditions.{Numbering, HasRoom}
 use Rattle.gate.specs.declared.answer.Answer.{Answer}
 use Rattle.gate.specs.declared.answer.Answer.the-variants.{Accepted}
 use Rattle.gate.proofs.reading.Laws.{keeps-split, keeps-both}
-use Rattle.gate.proofs.reading.Moved.{reading}
+use Rattle.gate.proofs.reading.Moved.{reading, records-same}
 use Rattle.gate.proofs.whole.AllRules.{meets-from, from-meets}
 use Rattle.gate.proofs.continuing.AddedSegments.{levels}
 use Rattle.gate.proofs.continuing.LevelNames.{levels-hl, levels-other}
@@ -197,14 +197,6 @@ none-alike : levels Reply [] ≡ levels Report []
 unfolding levelsIn
 none-alike = refl
 
--- the records of segments do not hang on the profile
-records-named : (q : Separators) (lines : LineEnds) (h : List View) (gs : List Placed) (rows : List ℕ)
-    → segmentRecords (reading Report q lines) h gs rows ≡ segmentRecords (reading Reply q lines) h gs rows
-records-named q lines h [] rows = refl
-records-named q lines h (g ∷ gs) [] = refl
-records-named q lines h (g ∷ gs) (r ∷ rows) =
-    ap (λ (l : List ℕ). segmentRecord h (viewOf q (g .segment)) g r ++ l) (records-named q lines (viewOf q (g .segment) ∷ h) gs rows)
-
 module _ (q : Separators) (lines : LineEnds) (s : Bytes) (gs : List Placed) (rows : List ℕ) (n : Numbering (reading Reply q lines) s gs rows)
     (plain : NoResponse (seen (reading Reply q lines) gs)) where
   abbrev vs : List View
@@ -240,5 +232,5 @@ module _ (q : Separators) (lines : LineEnds) (s : Bytes) (gs : List Placed) (row
       let first = meets-accepted how s before gs rows (p .fit) (p .short) n room (Accepted a l b) after x in
       let second = meets-accepted (reading Report q lines) s before gs rows (p .fit) (p .short) numbering-wider wider r shown y in (
         second .answer ∙ rw (← whole .1) (sym (first .answer)),
-        second .tables ∙ rw (records-named q lines [] gs rows, ← whole .1) (sym (first .tables)),
+        second .tables ∙ rw (records-same Report Reply q lines lines [] gs rows, ← whole .1) (sym (first .tables)),
       )

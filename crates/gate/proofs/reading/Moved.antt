@@ -22,18 +22,18 @@ use Rattle.gate.proofs.reading.Once.{Fails}
 abbrev pub reading : ProfileName → Separators → LineEnds → How
 reading name q lines = record { separators = q; lines = lines; profile = name }
 
--- the records of segments do not hang on the choice
-records-same : (name : ProfileName) (q : Separators) (lines lines′ : LineEnds) (h : List View) (gs : List Placed) (rows : List ℕ)
-    → segmentRecords (reading name q lines) h gs rows ≡ segmentRecords (reading name q lines′) h gs rows
-records-same name q lines lines′ h [] rows = refl
-records-same name q lines lines′ h (g ∷ gs) [] = refl
-records-same name q lines lines′ h (g ∷ gs) (r ∷ rows) =
-    ap (λ (l : List ℕ). segmentRecord h (viewOf q (g .segment)) g r ++ l) (records-same name q lines lines′ (viewOf q (g .segment) ∷ h) gs rows)
+-- the records of segments hang on neither choice
+pub records-same : (name name′ : ProfileName) (q : Separators) (lines lines′ : LineEnds) (h : List View) (gs : List Placed) (rows : List ℕ)
+    → segmentRecords (reading name q lines) h gs rows ≡ segmentRecords (reading name′ q lines′) h gs rows
+records-same name name′ q lines lines′ h [] rows = refl
+records-same name name′ q lines lines′ h (g ∷ gs) [] = refl
+records-same name name′ q lines lines′ h (g ∷ gs) (r ∷ rows) =
+    ap (λ (l : List ℕ). segmentRecord h (viewOf q (g .segment)) g r ++ l) (records-same name name′ q lines lines′ (viewOf q (g .segment) ∷ h) gs rows)
 
 pub recorded-same : (profile : Profile) (name : ProfileName) (q : Separators) (lines lines′ : LineEnds) (t : Tables) (gs : List Placed) (rows : List ℕ)
     → recorded profile (reading name q lines) t gs rows ≡ recorded profile (reading name q lines′) t gs rows
 recorded-same profile name q lines lines′ t gs rows = λ i. record {
-  segments = over (t .segments) (records-same name q lines lines′ [] gs rows i);
+  segments = over (t .segments) (records-same name name q lines lines′ [] gs rows i);
   levels = over (t .levels) (levelRecords profile (reading name q lines) gs);
 }
 

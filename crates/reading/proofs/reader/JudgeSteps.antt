@@ -31,6 +31,7 @@ use Rattle.elements.specs.Data.{elementProfile}
 use Rattle.elements.specs.Checks.{Check, Keeps, firstBroken}
 use Rattle.elements.specs.Rules.{endChecks, ruledChecks}
 use Rattle.elements.specs.internal.Layouts.{layoutView, elementIn}
+use Rattle.elements.specs.internal.Verdicts.{rulesOf}
 use Rattle.elements.specs.declared.verdict.Verdict.{Verdict}
 use Rattle.elements.specs.declared.verdict.Verdict.the-variants.{Holds, Broken as Faulty}
 use Rattle.elements.proofs.FirstBroken.{keeps-holds}
@@ -55,6 +56,7 @@ use Rattle.reading.specs.declared.judging.Judgement.{Judgement}
 use Rattle.reading.specs.declared.judging.Judgement.the-variants.{Broken, Other}
 use Rattle.elements.specs.declared.layout.Layout.{Layout}
 use Rattle.reading.specs.declared.judging.State.{State}
+use Rattle.reading.proofs.reader.PlainSegments.{plain-holds, plain-late}
 use Rattle.reading.proofs.reader.RuleOrder.{unknown-tag, bad-end, no-row, not-in-profile, bad-element, bad-level, bad-closing, no-level, no-closing, its-level, its-closing, all-kept}
 use Rattle.gate.proofs.reading.ElementTexts.{bin-tag, other-tag, hl-no-bin, se-no-bin, tag-of-view, hl-claim, se-count, se-control}
 use Rattle.reading.proofs.cut.BinCuts.{bin-ends}
@@ -301,3 +303,9 @@ module _ {how : How} {before : Tables} {s : Bytes} {segments levels : List ℕ} 
             rw (st .tells .levels-are) (st .knows) in
             let elements = keeps-holds (ruledChecks (profileOf how .elements) (tagIn v) v) .0 (sym ruled-is ∙ sym is ∙ q) in
             subst (λ (j : Judgement). Judges (profileOf how) rows h v j) (sym (says knows)) (judges-late elements few)
+
+        -- none of these is asked of a plain segment
+        pub judges-plain : length (rulesOf t .elements) ≡ 0 → state .known .levels ≤ mostLevels → Judges (profileOf how) rows h v (Other x)
+        judges-plain plain few =
+            judges-rest Holds (plain-holds t plain (how .profile) (layoutView s starts layout (how .separators .component))) refl few (Other x)
+            (plain-late t plain how s starts layout state segments levels x)

@@ -1,11 +1,11 @@
--- `judge_known` meets its contract: the row, the profile, the elements, then the late rules, as `JudgeSteps` says.
+-- `judge_known` meets its contract: the row, the profile, and, where the segment is not plain, the elements and the late rules, as `JudgeSteps` says.
 -- Assumes nothing.
-use Rattle.reading.proofs.reader.JudgeSteps.{judges-row, judges-outside, judges-element, judges-rest}
+use Rattle.reading.proofs.reader.JudgeSteps.{judges-row, judges-outside, judges-plain, judges-element, judges-rest}
 use Prim.Native.Nat.{ℕ, _/_, _≤_}
 use mathlib.Core.Path.{sym, _∙_}
 use native.Mathlib.Omega.{arith}
 use lib.ListN.{length}
-use borrow.Author.Tests.{not-true, not-false}
+use borrow.Author.Tests.{not-true, not-false, eqb-true}
 use Rattle.levels.specs.Widths.{levelWidth}
 use Rattle.gate.specs.Profile.{profileOf}
 use Rattle.gate.specs.Rules.{Admitted}
@@ -45,6 +45,19 @@ returns-2 c = λ before gs rows g more fit nt st.
     judges-outside fit nt st _ (pre .1 .tagged) (pre .1 .listed) (pre .1 .ended) _ (pre .0) (rowed .before .row-after .ensures) (rowed .if1 .left)
     (λ a. rw (sym (asked .admits .ensures) ∙ not-true (asked .admits .result) (c .if2 .taken)) at a)
 
+is-plain-requires : tie.Need-is-plain-requires
+is-plain-requires c κs = search needs
+
+returns-3 : tie.Need-returns-3
+returns-3 c = λ before gs rows g more fit nt st.
+    let asked = c .before in
+    let admitted = asked .before in
+    let rowed = admitted .before .before in
+    let at = start (rowed .before) in
+    let pre = at .pre in
+    judges-plain fit nt st _ (pre .1 .tagged) (pre .1 .listed) (pre .1 .ended) _ (pre .0) (rowed .before .row-after .ensures) (rowed .if1 .left)
+    (inside admitted) (eqb-true _ 0 (sym (asked .is-plain .ensures) ∙ c .if3 .taken)) (few at _ (st .tells .room))
+
 ruled-verdict-requires : tie.Need-ruled-verdict-requires
 ruled-verdict-requires c κs = search needs
 
@@ -57,19 +70,19 @@ enum-told c = search needs
 judge-late-requires : tie.Need-judge-late-requires
 judge-late-requires c κs = search needs
 
-returns-3 : tie.Need-returns-3
-returns-3 c = λ before gs rows g more fit nt st.
+returns-4 : tie.Need-returns-4
+returns-4 c = λ before gs rows g more fit nt st.
     let ruled = c .before .before .before in
-    let admitted = ruled .before in
+    let admitted = ruled .before .before .before in
     let rowed = admitted .before .before in
     let pre = start (rowed .before) .pre in
     judges-element fit nt st _ (pre .1 .tagged) (pre .1 .listed) (pre .1 .ended) _ (pre .0) (rowed .before .row-after .ensures) (rowed .if1 .left)
     (inside admitted) _ (ruled .ruled-verdict .ensures) _ _ (c .before .number .given .1)
 
-returns-4 : tie.Need-returns-4
-returns-4 c = λ before gs rows g more fit nt st.
+returns-5 : tie.Need-returns-5
+returns-5 c = λ before gs rows g more fit nt st.
     let ruled = c .before .before .before in
-    let admitted = ruled .before in
+    let admitted = ruled .before .before .before in
     let rowed = admitted .before .before in
     let at = start (rowed .before) in
     let pre = at .pre in
@@ -84,9 +97,11 @@ judge-known-spec =
     returns
     admits-requires
     returns-2
+    is-plain-requires
+    returns-3
     ruled-verdict-requires
     enum-known-number
     enum-told
     judge-late-requires
-    returns-3
-    returns-4)
+    returns-4
+    returns-5)

@@ -1,7 +1,9 @@
 -- `ruled_verdict` meets its contract: no rules, one of 9, 8 and 10, or the notes.
 -- Assumes nothing.
 use mathlib.Core.Path.{_≡_, sym, _∙_}
+use mathlib.Core.Bool.{true≢false}
 use lib.ListN.{length}
+use borrow.Author.Tests.{eq-eqb, eqb-true}
 use denote.Ref.{now}
 use Rattle.elements.specs.internal.Layouts.{thereIn, componentsIn}
 use Rattle.elements.specs.internal.Verdicts.{rulesOf}
@@ -23,16 +25,16 @@ early c =
     (componentsIn (now (c .args .s)) (now (c .args .starts)) (c .args .layout) (c .args .component)) (c .args .layout .count)
 
 ruled : (c : tie.Else1) → length (rulesOf (c .before .before .before .args .tag) .elements) ≡ 0 → ⊥
-ruled c z = c .if1 .left (c .before .last-ruled .ensures ∙ z)
+ruled c z = true≢false (sym (c .before .is-plain .ensures ∙ eq-eqb _ 0 z) ∙ c .if1 .left)
 
 silent : (c : tie.After-enum-told) → Holds ≡ early (c .before .before .before .before .before .before)
 silent c = sym (c .enum-told .given .1) ∙ c .before .before .early-verdict .ensures
 
-last-ruled-requires : tie.Need-last-ruled-requires
-last-ruled-requires c κs = search needs
+is-plain-requires : tie.Need-is-plain-requires
+is-plain-requires c κs = search needs
 
 returns : tie.Need-returns
-returns c = decide-plain _ _ _ _ (c .before .before .before .args .profile) _ (sym (c .before .last-ruled .ensures) ∙ c .if1 .taken)
+returns c = decide-plain _ _ _ _ (c .before .before .before .args .profile) _ (eqb-true _ 0 (sym (c .before .is-plain .ensures) ∙ c .if1 .taken))
 
 early-verdict-requires : tie.Need-early-verdict-requires
 early-verdict-requires c κs = search needs
@@ -64,7 +66,7 @@ pub ruled-verdict-spec : {M : Type 1} → statement M
 ruled-verdict-spec =
     tie.close
     (tie.spec
-    last-ruled-requires
+    is-plain-requires
     returns
     early-verdict-requires
     enum-known-n
