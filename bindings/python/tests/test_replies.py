@@ -94,15 +94,19 @@ class Replies(unittest.TestCase):
         for at_an_action in ("NTE*GEN*A", "DTM*050*20240305", "REF*TN*S17", "PWK*A", "LM*DF"):
             self.other_row(8, 72, with_segments(8, at_an_action))
 
+    def each_refused(self, *cases):
+        """A segment put at its number is refused so: reason, number, byte, element, segment."""
+        for reason, number, byte, element_number, segment in cases:
+            self.refused(reason, number, byte, element_number, read, with_segments(number, segment), how=REPLY)
+
     def test_what_comes_before_the_row(self):
-        for reason, number, byte, element_number, segment in (
+        self.each_refused(
             (Reason.NO_ROW_FITS, 7, 64, 0, "BIN*1*A"),
             (Reason.VALUE_UNFIT, 7, 64, 1, "BIN*0*A"),
             (Reason.EMPTY_AT_THE_END, 3, 32, 1, "REF*"),
             (Reason.BYTE_UNFIT, 3, 32, 1, "REF*\t"),
             (Reason.NO_ROW_FITS, 3, 32, 0, "NCD*1"),
-        ):
-            self.refused(reason, number, byte, element_number, read, with_segments(number, segment), how=REPLY)
+        )
 
     def test_no_parent_and_no_mark(self):
         for hl, element_number in (
@@ -129,14 +133,13 @@ class Replies(unittest.TestCase):
         self.refused(Reason.LEVEL_USED_BEFORE, 5, 50, 1, read, with_segments(5, "HL*2**I"), how=REPLY)
 
     def test_other_rules_stay(self):
-        for reason, number, byte, element_number, segment in (
+        self.each_refused(
             (Reason.ELEMENT_MISSING, 4, 41, 1, "HL***RB"),
             (Reason.VALUE_UNFIT, 4, 41, 3, "HL*2**ABC"),
             (Reason.NOTE_BROKEN, 7, 64, 4, "NCA**R1**5"),
             (Reason.CLOSING_WRONG, 8, 72, 1, "SE*7*0001"),
             (Reason.CLOSING_WRONG, 8, 72, 2, "SE*8*0002"),
-        ):
-            self.refused(reason, number, byte, element_number, read, with_segments(number, segment), how=REPLY)
+        )
         self.refused(Reason.NO_ROOM, 5, 50, 0, read, DATA, how=REPLY, level_room=2)
 
     def test_both_profiles_with_and_without_line_ends(self):

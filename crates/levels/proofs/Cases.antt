@@ -12,7 +12,7 @@ use Rattle.levels.specs.internal.Answers.{judged}
 use Rattle.levels.specs.declared.judging.Judged.{Judged}
 use Rattle.levels.specs.declared.judging.Judged.the-variants.{Entitled, Refused}
 
--- the five codes
+-- the five codes of a report
 abbrev five : List String
 five = "RP" ∷ "I" ∷ "F" ∷ "PC" ∷ "SN" ∷ []
 

@@ -9,7 +9,7 @@ use native.Mathlib.Omega.{arith}
 use lib.Dec.{T, eqb, eqb→eq, eqb-refl, lit<}
 use Rattle.text.specs.Bytes.{every, among}
 use Rattle.text.proofs.Bools.{both, first-of, second-of, or-left, or-right, or-cases, not-or, apart}
-use Rattle.text.proofs.Everys.{every-both, every-append}
+use Rattle.text.proofs.Everys.{every-both, every-append, every-among}
 use Rattle.text.proofs.Tables.{tab, tab-at}
 use Rattle.rows.specs.Tags.{tag, tagNumber}
 use Rattle.rows.specs.Rows.{Viable, list842}
@@ -99,12 +99,6 @@ pub last-among : (x : ℕ) (w : List ℕ) → T (among (x ∷ w) (lastOf x w))
 last-among x [] = or-left (eqb x x) false (eqb-refl x)
 last-among x (y ∷ w) = or-right (eqb (lastOf y w) x) (among (y ∷ w) (lastOf y w)) (last-among y w)
 
--- and passes every test that all rows of the list pass
-pub test-of : (f : ℕ → Bool) (l : List ℕ) (x : ℕ) → T (every f l) → T (among l x) → T (f x)
-test-of f [] x a m = absurd m
-test-of f (y ∷ l) x a m =
-    or-cases (eqb x y) (among l x) (λ e. rw (eqb→eq x y e) (first-of (f y) (every f l) a)) (test-of f l x (second-of (f y) (every f l) a)) m
-
 -- a segment that is pending after a row of the set: one of the set may come there with the tag, and then an HL
 pub record Bridged (set : RowSet) (r t : ℕ) : Type 0 where
   pub admitted : T (set (nextOf r t))
@@ -139,13 +133,13 @@ within-front set w u a = first-of (every set w) (every set u) (rw (every-both se
 module _ (set : RowSet) (ok : Continuable set) where
   -- ST, HL and SE are of the set
   pub st-admitted : T (set 1)
-  st-admitted = test-of set (1 ∷ 18 ∷ 79 ∷ []) 1 (ok .opens) tt
+  st-admitted = every-among set (1 ∷ 18 ∷ 79 ∷ []) 1 (ok .opens) tt
 
   pub hl-admitted : T (set 18)
-  hl-admitted = test-of set (1 ∷ 18 ∷ 79 ∷ []) 18 (ok .opens) tt
+  hl-admitted = every-among set (1 ∷ 18 ∷ 79 ∷ []) 18 (ok .opens) tt
 
   pub se-admitted : T (set 79)
-  se-admitted = test-of set (1 ∷ 18 ∷ 79 ∷ []) 79 (ok .opens) tt
+  se-admitted = every-among set (1 ∷ 18 ∷ 79 ∷ []) 79 (ok .opens) tt
 
   -- the last row of a viable list within it goes on
   pub last-goes-on : (x : ℕ) (w : List ℕ) → Viable list842 (x ∷ w) → Within set (x ∷ w) → T (goesOn set (lastOf x w))
@@ -156,7 +150,7 @@ module _ (set : RowSet) (ok : Continuable set) where
       let same : suc (r - 1) ≡ r = omega arith in
       let here = tab-at 79 (λ k. not (set (suc k)) || goesOn set (suc k)) (λ k. true) (ok .onward) (r - 1) (omega arith) in
       let goes : not (set r) || goesOn set r ≡ true = ap (λ (n : ℕ). not (set n) || goesOn set n) (sym same) ∙ here in
-      not-or (set r) (goesOn set r) (rw goes tt) (test-of set (x ∷ w) r a m)
+      not-or (set r) (goesOn set r) (rw goes tt) (every-among set (x ∷ w) r a m)
 
   -- one row more before what makes a word
   more-before : (w : List ℕ) (x : ℕ) → ViableOver set (w ++ (x ∷ [])) → ViableOver set w

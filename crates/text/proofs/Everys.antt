@@ -7,10 +7,10 @@ use mathlib.Core.Bool.{Bool, _&&_}
 use mathlib.Core.List.{List, [], _∷_, _++_}
 use native.Mathlib.Omega.{arith}
 use native.Mathlib.Decide.{decLt}
-use lib.Dec.{T}
+use lib.Dec.{T, eqb, eqb→eq}
 use lib.ListN.{length, take, drop, getD, List·getD-eq-default}
-use Rattle.text.specs.Bytes.{every}
-use Rattle.text.proofs.Bools.{both, first-of, second-of, and-assoc, and-true}
+use Rattle.text.specs.Bytes.{every, among}
+use Rattle.text.proofs.Bools.{both, first-of, second-of, or-cases, and-assoc, and-true}
 
 module _ {A : Type 0} where
   -- a weaker test passes at every one too
@@ -62,3 +62,9 @@ module _ {A : Type 0} where
   -- one in the middle
   pub every-middle : (f : A → Bool) (l : List A) (x : A) (m : List A) → T (every f (l ++ x ∷ m)) → T (f x)
   every-middle f l x m h = first-of (f x) (every f m) (second-of (every f l) (every f (x ∷ m)) (rw (every-both f l (x ∷ m)) at h))
+
+-- and passes at any that is among them
+pub every-among : (f : ℕ → Bool) (l : List ℕ) (x : ℕ) → T (every f l) → T (among l x) → T (f x)
+every-among f [] x a m = absurd m
+every-among f (y ∷ l) x a m =
+    or-cases (eqb x y) (among l x) (λ e. rw (eqb→eq x y e) (first-of (f y) (every f l) a)) (every-among f l x (second-of (f y) (every f l) a)) m

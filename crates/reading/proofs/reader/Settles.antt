@@ -65,7 +65,7 @@ module _ {how : How} {before : Tables} {s : Bytes} {segments levels : List ℕ} 
   next-at : layout .at + length g + 1 ≡ layout .end + 1
   next-at = omega (arith, t .place)
 
-  -- 4 to 16
+  -- 4 to 16, and 24
   pub settles-broken : (n e : ℕ) → j ≡ Broken n e → (r : Step) → r ≡ refusedAt n layout state e → Settles how before s layout segments levels r
   settles-broken n e q r is =
       rw is
