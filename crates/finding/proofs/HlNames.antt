@@ -11,7 +11,7 @@ use lib.Seq.{getD-drop}
 use Rattle.text.specs.Bytes.{Bytes, same}
 use Rattle.text.specs.internal.Search.{Free}
 use Rattle.finding.specs.internal.Entries.{startOf, levelEntry}
-use Rattle.finding.specs.internal.TableLevels.{idAt, tableLevel}
+use Rattle.finding.specs.internal.Answers.{idAt}
 use Rattle.finding.specs.internal.PieceEnds.{MayEnd}
 use Rattle.finding.proofs.FirstPiece.{first-met, first-compared, first-other-end, first-other-byte, first-unfree, drop-within}
 use Rattle.text.proofs.Pieces.{firstPiece}
@@ -45,29 +45,6 @@ module _ (s : Bytes) (separator start from : ℕ) (id : Bytes) (place : from ≡
   pub id-other-byte : (j : ℕ) → j < length id → (getD s (from + j) 0 ≡ getD id j 0 → ⊥) → same (idAt s separator start) id ≡ false
   id-other-byte j l h = id-piece ∙ first-other-byte separator (drop from s) id j l (λ e. h (sym (getD-drop from s j 0) ∙ e))
 
--- two bytes may show that the HL01 is another
-module _ (s : Bytes) (separator start : ℕ) (id : Bytes) (room : start + 3 + length id < length s) where
-  begins-there : start + 3 ≡ min (start + 3) (length s)
-  begins-there = omega arith
-
-  -- no separator behind as many bytes
-  pub id-goes-on : (getD s (start + 3 + length id) 0 ≡ separator → ⊥) → same (idAt s separator start) id ≡ false
-  id-goes-on h =
-      id-other-end s separator start (start + 3) id begins-there
-      (inr (rw (length-drop (start + 3) s) (omega arith), λ q. h (sym (getD-drop (start + 3) s (length id) 0) ∙ q)))
-
-  -- another last byte
-  pub id-ends-otherwise : 0 < length id → (getD s (start + 3 + length id - 1) 0 ≡ getD id (length id - 1) 0 → ⊥)
-      → same (idAt s separator start) id ≡ false
-  id-ends-otherwise l h =
-      let same-place : start + 3 + length id - 1 ≡ start + 3 + (length id - 1) = omega arith in
-      id-other-byte s separator start (start + 3) id begins-there (length id - 1) (omega arith) (λ e. h (ap (λ (k : ℕ). getD s k 0) same-place ∙ e))
-
 -- bytes with a separator are no HL01
 pub id-unfree : (s : Bytes) (separator start : ℕ) (id : Bytes) → (Free separator id → ⊥) → same (idAt s separator start) id ≡ false
 id-unfree s separator start id h = first-unfree separator (drop (start + 3) s) id h
-
--- level n's segment starts there, and the HL01 there is another
-pub other-level : (s : Bytes) (separator : ℕ) (segments levels : List ℕ) (n number start : ℕ) (id : Bytes) → number ≡ levelEntry levels n 0
-    → start ≡ startOf segments number → same (idAt s separator start) id ≡ false → same (tableLevel s separator segments levels n .id) id ≡ false
-other-level s separator segments levels n number start id a b e = rw (b, a) at e

@@ -1,12 +1,10 @@
 pub mod TableEntries
 pub mod FirstPiece
 pub mod HlNames
-pub mod TableLevels
+pub mod PlaceLaws
+pub mod PlainTable
+pub mod NoteLaws
 pub mod LevelSearch
-pub mod MarkElement
-pub mod ChildSearch
+pub mod ListSearch
+pub mod HeldLevels
 pub mod StoredLevels
-pub mod KeyLaws
-pub mod NearLevels
-pub mod KnownLevels
-pub mod Once

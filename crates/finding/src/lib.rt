@@ -1,10 +1,7 @@
-// Finding levels in lent bytes and the two lent tables: which level has an HL01, what a parent says to its children, whether all marks
-// are filled.
+// The levels of a report while it is read: which level has an HL01, what a parent says to its children, whether all marks are filled.
 pub mod filling;
-mod keys;
-pub mod known;
-mod marks;
-mod near;
+pub mod lists;
+pub mod notes;
 pub mod parents;
-mod search;
+pub mod search;
 mod tables;

@@ -1,13 +1,13 @@
 // Finding the level that has an HL01.
+use crate::lists;
+use crate::lists::LISTS;
 use crate::tables;
 ghost use mathlib.Core.Path.{_≡_};
-ghost use mathlib.Core.Bool.{true, false};
-ghost use Prim.Native.Nat.{_+_, _≤_, min};
+ghost use Prim.Native.Nat.{_+_, _-_, _≤_, min};
 ghost use lib.ListN.{length, drop};
-ghost use Rattle.text.specs.Bytes.{same};
-ghost use Rattle.levels.specs.Levels.{called};
 ghost use Rattle.finding.specs.internal.Entries.{startOf, levelEntry};
-ghost use Rattle.finding.specs.internal.TableLevels.{tableLevel, tableLevels};
+ghost use Rattle.finding.specs.internal.Notes.{linkIn};
+ghost use Rattle.finding.specs.internal.Answers.{sought};
 ghost use Rattle.finding.specs.internal.PieceEnds.{MayEnd};
 
 // Where the HL01 of level n begins: behind `HL` and a separator, or where the bytes end.
@@ -39,52 +39,35 @@ pub(crate) fn may_end(s: &[u8], separator: u8, from: usize, len: usize) -> bool
     s[from + len] == separator
 }
 
-// Whether two bytes show that level n has another HL01: no separator behind as many bytes, or another last one. Most names differ so.
-fn is_other(s: &[u8], separator: u8, segments: &[u64], levels: &[u64], n: usize, id: &[u8]) -> bool
-    ensures { λ r. ⌜ (r ≡ true → same (tableLevel (now (s .entry)) separator (now (segments .entry)) (now (levels .entry)) n .id) (now (id .entry)) ≡ false) ⌝ }
+// The level before level n in its list, which has a lesser number; 0 where there is none.
+fn before(levels: &[u64], n: usize) -> usize
+    ensures { λ r. ⌜ r ≡ min (linkIn (levelEntry (now (levels .entry)) n 3)) (n - 1) ⌝ }
 {
-    let start = tables::segment_start(segments, tables::level_segment(levels, n));
-    let len = id.len();
-    if s.len() < 3 {
-        return false;
+    if n < 1 {
+        return 0;
     }
-    if s.len() - 3 < len {
-        return false;
-    }
-    if s.len() - 3 - len <= start {
-        return false;
-    }
-    let end = start + 3 + len;
-    if s[end] != separator {
-        return true;
-    }
-    if len == 0 {
-        return false;
-    }
-    s[end - 1] != id[len - 1]
+    tables::lesser(tables::level_note(levels, n) / 32, n - 1)
 }
 
-// The number of the latest level that has the HL01; 0 where none has.
-pub(crate) fn find_level(
+// The number of the level that has the HL01, of the list that it belongs to; 0 where none has. The lengths are compared first.
+pub fn find(
     s: &[u8],
     separator: u8,
     segments: &[u64],
     levels: &[u64],
-    count: usize,
+    lasts: &[u32; LISTS],
+    place: usize,
     id: &[u8],
 ) -> usize
-    ensures { λ r. ⌜ r ≡ called (now (id .entry)) (tableLevels (now (s .entry)) separator (now (segments .entry)) (now (levels .entry)) count) ⌝ }
+    ensures { λ r. ⌜ r ≡ sought (now (s .entry)) separator (now (segments .entry)) (now (levels .entry)) (now (lasts .entry)) place (now (id .entry)) ⌝ }
 {
     if text::search::holds(id, separator) {
         return 0;
     }
-    let mut left = tables::level_count(levels, count);
+    let mut left = lists::last_in(lasts, place);
     'levels: while 0 < left {
         let n = left;
-        left -= 1;
-        if is_other(s, separator, segments, levels, n, id) {
-            continue 'levels;
-        }
+        left = before(levels, n);
         let from = id_start(s, segments, levels, n);
         if !may_end(s, separator, from, id.len()) {
             continue 'levels;

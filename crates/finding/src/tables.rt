@@ -3,8 +3,7 @@ use levels::widths::LEVEL_WIDTH;
 use levels::widths::SEGMENT_WIDTH;
 ghost use mathlib.Core.Path.{_≡_};
 ghost use Prim.Native.Nat.{_<_, min};
-ghost use Rattle.finding.specs.internal.Entries.{entryOf, startOf, lengthOf, levelEntry};
-ghost use Rattle.finding.specs.internal.TableLevels.{deepest, countIn};
+ghost use Rattle.finding.specs.internal.Entries.{entryOf, startOf, levelEntry, deepest, countIn};
 
 // No level lies deeper.
 pub(crate) const DEEPEST: usize = 4;
@@ -37,13 +36,6 @@ pub(crate) fn segment_start(segments: &[u64], n: usize) -> usize
     entry(segments, SEGMENT_WIDTH, n, 0)
 }
 
-// How long segment n is.
-pub(crate) fn segment_length(segments: &[u64], n: usize) -> usize
-    ensures { λ r. ⌜ r ≡ lengthOf (now (segments .entry)) n ⌝ }
-{
-    entry(segments, SEGMENT_WIDTH, n, 1)
-}
-
 // How many levels there are: the count, or as many as the table has room for.
 pub(crate) fn level_count(levels: &[u64], count: usize) -> usize
     ensures { λ r. ⌜ r ≡ countIn (now (levels .entry)) count ⌝ }
@@ -58,13 +50,6 @@ pub(crate) fn level_segment(levels: &[u64], n: usize) -> usize
     entry(levels, LEVEL_WIDTH, n, 0)
 }
 
-// The number of level n's parent; 0 for none.
-pub(crate) fn level_parent(levels: &[u64], n: usize) -> usize
-    ensures { λ r. ⌜ r ≡ levelEntry (now (levels .entry)) n 1 ⌝ }
-{
-    entry(levels, LEVEL_WIDTH, n, 1)
-}
-
 // The depth of level n.
 pub(crate) fn level_depth(levels: &[u64], n: usize) -> usize
     ensures { λ r. ⌜ r ≡ min deepest (levelEntry (now (levels .entry)) n 2) ⌝ }
@@ -72,8 +57,8 @@ pub(crate) fn level_depth(levels: &[u64], n: usize) -> usize
     lesser(DEEPEST, entry(levels, LEVEL_WIDTH, n, 2))
 }
 
-// The number of level n's code.
-pub(crate) fn level_code(levels: &[u64], n: usize) -> usize
+// The note of level n.
+pub(crate) fn level_note(levels: &[u64], n: usize) -> usize
     ensures { λ r. ⌜ r ≡ levelEntry (now (levels .entry)) n 3 ⌝ }
 {
     entry(levels, LEVEL_WIDTH, n, 3)

@@ -10,7 +10,7 @@ use lib.ListN.{length}
 use borrow.Author.Tests.{ne-eqb}
 use Rattle.text.specs.Bytes.{Bytes, same}
 use Rattle.levels.specs.Profile.{LevelProfile}
-use Rattle.levels.specs.Levels.{Claim, Level, nobody, called, levelAt, levelsOf}
+use Rattle.levels.specs.Levels.{Claim, Level, nobody, called, levelAt, parentOf, levelsOf}
 use Rattle.levels.specs.internal.Everyone.{Everyone}
 
 -- what follows from two facts that hold of every level holds of every level
@@ -26,6 +26,14 @@ called-below id (l ∷ ls) = by-value (same (l .id) id) (called-below id ls)
     by-value : (b : Bool) → called id ls ≤ length ls → cond b (suc (length ls)) (called id ls) ≤ suc (length ls)
     by-value true h = omega arith
     by-value false h = omega arith
+
+-- so is a parent's
+pub parent-below : (c : Claim) (ls : List Level) → parentOf c ls ≤ length ls
+parent-below c ls = by-value (eqb (length (c .parent)) 0)
+  where
+    by-value : (b : Bool) → cond b 0 (called (c .parent) ls) ≤ length ls
+    by-value true = omega arith
+    by-value false = called-below (c .parent) ls
 
 -- the level with a number is one of the list, or nobody
 pub level-everyone : (P : Level → Type 0) → P nobody → (n : ℕ) (ls : List Level) → Everyone P ls → P (levelAt n ls)

@@ -1,6 +1,6 @@
 -- Codes by their letters, and pairs by the parent.
 -- Assumes nothing.
-use Prim.Native.Nat.{ℕ}
+use Prim.Native.Nat.{ℕ, _<_}
 use mathlib.Core.Path.{_≡_, refl, sym}
 use mathlib.Core.Logic.{by-cases}
 use mathlib.Core.Bool.{Bool, true, false, cond, _&&_, _||_}
@@ -10,10 +10,10 @@ use native.Mathlib.Decide.{decLt}
 use lib.Dec.{eqb}
 use lib.ListN.{length}
 use borrow.Author.Tests.{ne-eqb, lt-leb}
-use Rattle.text.specs.Bytes.{Bytes, between, among}
+use Rattle.text.specs.Bytes.{Bytes, bytes, between, among, same}
 use Rattle.text.proofs.Tables.{tab, tab-at}
 use Rattle.text.proofs.Bools.{or-assoc, or-false, and-true, eqb-swap, and-false}
-use Rattle.levels.specs.Profile.{sixCodes, codeAmong, nonconformance, storageReply, mayStandAlone, mayBeMarked, mayHang}
+use Rattle.levels.specs.Profile.{LevelProfile, sixCodes, codeAmong, codeOf, nonconformance, storageReply, mayStandAlone, mayBeMarked, mayHang}
 
 -- the codes of one letter are I and F
 pub code-item : (a : ℕ) → a ≡ 73 → 2 ≡ codeAmong sixCodes (a ∷ [])
@@ -38,6 +38,25 @@ code-lengths [] one two = refl
 code-lengths (a ∷ []) one two = absurd (one refl)
 code-lengths (a ∷ (b ∷ [])) one two = absurd (two refl)
 code-lengths (a ∷ (b ∷ (d ∷ s))) one two = simp and-false
+
+-- every code's number is small
+cond-below : (b : Bool) (m n k : ℕ) → m < k → n < k → cond b m n < k
+cond-below true m n k l h = l
+cond-below false m n k l h = h
+
+small-codes : (text : Bytes) → codeAmong sixCodes text < 8
+small-codes text =
+    let six = cond-below (same (bytes "RB") text) 6 0 8 (omega arith) (omega arith) in
+    let five = cond-below (same (bytes "SN") text) 5 _ 8 (omega arith) six in
+    let four = cond-below (same (bytes "PC") text) 4 _ 8 (omega arith) five in
+    let three = cond-below (same (bytes "F") text) 3 _ 8 (omega arith) four in
+    let two = cond-below (same (bytes "I") text) 2 _ 8 (omega arith) three in
+    cond-below (same (bytes "RP") text) 1 _ 8 (omega arith) two
+
+pub code-small : (profile : LevelProfile) (text : Bytes) → codeOf profile text < 8
+unfolding codeOf
+code-small profile text =
+    cond-below (among (profile .codes) (codeAmong sixCodes text)) (codeAmong sixCodes text) 0 8 (small-codes text) (omega arith)
 
 -- the codes that each profile knows
 checked-codes : tab 6 (between 1 5) ≡ tab 6 (among (nonconformance .codes))

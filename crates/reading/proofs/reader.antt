@@ -5,7 +5,6 @@ pub mod HlSegments
 pub mod Standings
 pub mod RuleOrder
 pub mod ClosingTests
-pub mod Placings
 pub mod OpeningControl
 pub mod PlainSegments
 pub mod JudgeSteps

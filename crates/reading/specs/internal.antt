@@ -6,5 +6,6 @@ pub mod Queue
 pub mod Cutting
 pub mod Between
 pub mod Judgements
+pub mod Entering
 pub mod Settling
 pub mod Loop

@@ -16,7 +16,9 @@ use elements::rules;
 use elements::segment;
 use elements::verdict::Verdict;
 use finding::filling;
-use finding::known::Known;
+use finding::lists;
+use finding::lists::LISTS;
+use finding::notes;
 use gate::how::How;
 use levels::judging::Judged;
 use levels::widths::SEGMENT_WIDTH;
@@ -36,22 +38,18 @@ pub(crate) enum Judgement {
     Broken(usize, usize),
     // Its row; it makes no level and does not close the transaction.
     Other(u8),
-    // Its row, the level that it makes, and what is known of the levels then.
-    Level {
-        row: u8,
-        level: NewLevel,
-        known: Known,
-    },
+    // Its row, and the level that it makes.
+    Level { row: u8, level: NewLevel },
     // The row of the SE that closes the transaction.
     Last(u8),
 }
 
-// What the reader carries from segment to segment: how many segments were passed, the last row, what is known of their levels, and
+// What the reader carries from segment to segment: how many segments were passed, the last row, how many levels they made, and
 // whether the row stands for the second time in a row. The two small fields stand apart, since they are copied faster so.
 pub(crate) struct State {
     pub count: usize,
     pub row: u8,
-    pub known: Known,
+    pub levels: usize,
     pub again: bool,
 }
 
@@ -60,7 +58,7 @@ impl State {
     pub const START: State = State {
         count: 0,
         row: 0,
-        known: Known::NONE,
+        levels: 0,
         again: false,
     };
 }
@@ -72,9 +70,10 @@ fn tag_of(s: &[u8], starts: &[usize; 33], layout: Layout) -> u8
     tags::tag_number(layout::element(s, starts, layout, 0))
 }
 
-// The judgement on an HL with that row, by what the rules of levels say; `known` is what is known with its level.
-fn by_level(row: u8, known: Known, judged: Judged) -> Judgement
-    ensures { λ r. ⌜ r ≡ byLevel row known judged ⌝ }
+// The judgement on an HL with that row, by what the rules of levels say; its mark asks that of the levels to come, and its HL01
+// belongs to that list.
+fn by_level(row: u8, asks: usize, place: usize, judged: Judged) -> Judgement
+    ensures { λ r. ⌜ r ≡ byLevel row asks place judged ⌝ }
 {
     match judged {
         Judged::Entitled(parent, depth, code) => Judgement::Level {
@@ -83,8 +82,9 @@ fn by_level(row: u8, known: Known, judged: Judged) -> Judgement
                 parent,
                 depth,
                 code,
+                asks,
+                place,
             },
-            known,
         },
         Judged::Refused(number, element) => Judgement::Broken(number, element),
     }
@@ -128,7 +128,7 @@ fn judge_se(
     if !compare::same_bytes(control, opening_control(s, separators, segments)) {
         return Verdict::Broken(16, 2);
     }
-    if !filling::all_filled(s, separators.element, segments, levels, state.known.levels) {
+    if !filling::all_filled(levels, state.levels) {
         return Verdict::Broken(15, 0);
     }
     Verdict::Holds
@@ -156,14 +156,15 @@ fn judge_late(
     state: State,
     segments: &[u64],
     levels: &[u64],
+    lasts: &[u32; LISTS],
     tag: u8,
     row: u8,
 ) -> Judgement
-    ensures { λ r. ⌜ JudgesLate how (now (s .entry)) (now (starts .entry)) layout state (now (segments .entry)) (now (levels .entry)) tag row r ⌝ }
+    ensures { λ r. ⌜ JudgesLate how (now (s .entry)) (now (starts .entry)) layout state (now (segments .entry)) (now (levels .entry)) (now (lasts .entry)) tag row r ⌝ }
 {
     if tag == tags::HL {
-        let known = state.known;
-        let after = known.after(layout::element(s, starts, layout, 1));
+        let place = lists::place_of(layout::element(s, starts, layout, 1));
+        let asks = notes::asks_of(layout::element(s, starts, layout, 4));
         let chosen = how.profile;
         let judged = placing::judge_level(
             s,
@@ -171,12 +172,12 @@ fn judge_late(
             chosen,
             starts,
             layout,
-            known,
-            after,
+            place,
             segments,
             levels,
+            lasts,
         );
-        return by_level(row, after, judged);
+        return by_level(row, asks, place, judged);
     }
     if tag == tags::SE {
         return match judge_se(s, how.separators, starts, layout, segments, levels, state) {
@@ -198,11 +199,12 @@ fn judge_known(
     state: State,
     segments: &[u64],
     levels: &[u64],
+    lasts: &[u32; LISTS],
     tag: u8,
 ) -> Judgement
     requires { ⌜ NextTable (now table) ⌝ }
     requires { ⌜ KnownTag (now s) (now starts) layout tag ⌝ }
-    ensures { λ r. ⌜ JudgesNext how (now (s .entry)) (now (starts .entry)) layout state (now (segments .entry)) (now (levels .entry)) r ⌝ }
+    ensures { λ r. ⌜ JudgesNext how (now (s .entry)) (now (starts .entry)) layout state (now (segments .entry)) (now (levels .entry)) (now (lasts .entry)) r ⌝ }
 {
     let row = next::row_after(table, state.row, state.again, tag);
     if row == 0 {
@@ -217,7 +219,18 @@ fn judge_known(
     }
     match ruled::ruled_verdict(s, starts, layout, how.separators.component, chosen, tag) {
         Verdict::Broken(number, element) => Judgement::Broken(number, element),
-        Verdict::Holds => judge_late(s, how, starts, layout, state, segments, levels, tag, row),
+        Verdict::Holds => judge_late(
+            s,
+            how,
+            starts,
+            layout,
+            state,
+            segments,
+            levels,
+            lasts,
+            tag,
+            row,
+        ),
     }
 }
 
@@ -231,10 +244,11 @@ pub(crate) fn judge(
     state: State,
     segments: &[u64],
     levels: &[u64],
+    lasts: &[u32; LISTS],
 ) -> Judgement
     requires { ⌜ NextTable (now table) ⌝ }
     requires { ⌜ Inside (now s) layout ⌝ }
-    ensures { λ r. ⌜ JudgesNext how (now (s .entry)) (now (starts .entry)) layout state (now (segments .entry)) (now (levels .entry)) r ⌝ }
+    ensures { λ r. ⌜ JudgesNext how (now (s .entry)) (now (starts .entry)) layout state (now (segments .entry)) (now (levels .entry)) (now (lasts .entry)) r ⌝ }
 {
     let tag = tag_of(s, starts, layout);
     if tags::NO_TAG <= tag {
@@ -243,5 +257,16 @@ pub(crate) fn judge(
     if !layout.ended {
         return bad_end(s, how, layout);
     }
-    judge_known(s, how, table, starts, layout, state, segments, levels, tag)
+    judge_known(
+        s,
+        how,
+        table,
+        starts,
+        layout,
+        state,
+        segments,
+        levels,
+        lasts,
+        tag,
+    )
 }

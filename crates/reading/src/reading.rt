@@ -11,6 +11,7 @@ ghost use Rattle.reading.specs.internal.SpecialBytes.{SpecialTable};
 ghost use Rattle.gate.specs.Profile.{profileOf};
 ghost use Rattle.gate.specs.declared.answer.Answer.the-variants.{Refused};
 ghost use Rattle.gate.specs.Reads.{limit, Read, Reads};
+ghost use Rattle.finding.specs.internal.Notes.{cleared};
 ghost use Rattle.reading.specs.internal.Cutting.{cutOut};
 ghost use Rattle.reading.specs.internal.Settling.{refusedBy};
 use crate::between;
@@ -23,6 +24,8 @@ use crate::settling;
 use crate::settling::Step;
 use elements::segment;
 use elements::verdict::Verdict;
+use finding::lists::LISTS;
+use finding::notes;
 use gate::answer::Answer;
 use gate::how::How;
 use numbering::next;
@@ -30,6 +33,12 @@ use rows::list::ENTRIES;
 
 // The longest input.
 pub const LIMIT: usize = 1048576;
+
+// How a reading ended: the answer, and how many levels have a record.
+struct Ended {
+    answer: Answer,
+    levels: usize,
+}
 
 // A refusal behind `count` segments.
 fn refused(number: usize, count: usize, at: usize, element: usize) -> Answer
@@ -57,7 +66,7 @@ fn bad_bytes(s: &[u8], how: How, at: usize, end: usize, count: usize) -> Answer
     }
 }
 
-// Reads on with fit separators from the start of bytes that are not too long.
+// Reads on with fit separators from the start of bytes that are not too long. The level records have notes afterwards.
 fn read_on(
     s: &[u8],
     how: How,
@@ -65,14 +74,15 @@ fn read_on(
     table: &[u8; ENTRIES],
     segments: &mut [u64],
     levels: &mut [u64],
-) -> Answer
+) -> Ended
     requires { ⌜ Fitted (how .separators) ⌝ }
     requires { ⌜ length (now s) ≤ limit ⌝ }
     requires { ⌜ SpecialTable (how .separators) (now specials) ⌝ }
     requires { ⌜ NextTable (now table) ⌝ }
-    ensures { λ r. ⌜ Read (profileOf how) how (now (s .entry)) (record { segments = now (segments .entry); levels = now (levels .entry) }) r
-        (record { segments = now (segments .exit); levels = now (levels .exit) }) ⌝ }
+    ensures { λ r. ⌜ Read (profileOf how) how (now (s .entry)) (record { segments = now (segments .entry); levels = now (levels .entry) }) (r .answer)
+        (record { segments = now (segments .exit); levels = cleared (r .levels) (now (levels .exit)) }) ⌝ }
 {
+    let mut lasts: [u32; LISTS] = [0; LISTS];
     let mut queue: [usize; 72] = [0; 72];
     let mut starts: [usize; 33] = [0; 33];
     let mut behind: usize = 0;
@@ -82,9 +92,24 @@ fn read_on(
         let onward = between::next_start(s, how, behind, left);
         let at = onward.at;
         match cutting::next_segment(s, specials, how.separators, onward, &mut queue, &mut starts) {
-            Next::Open => return refused(3, state.count, at, 0),
-            Next::Bad(end) => return bad_bytes(s, how, at, end, state.count),
-            Next::Broken(element) => return refused(10, state.count, at, element),
+            Next::Open => {
+                return Ended {
+                    answer: refused(3, state.count, at, 0),
+                    levels: state.levels,
+                };
+            }
+            Next::Bad(end) => {
+                return Ended {
+                    answer: bad_bytes(s, how, at, end, state.count),
+                    levels: state.levels,
+                };
+            }
+            Next::Broken(element) => {
+                return Ended {
+                    answer: refused(10, state.count, at, element),
+                    levels: state.levels,
+                };
+            }
             Next::Segment(layout, remaining) => {
                 let judgement = judging::judge(
                     s,
@@ -95,9 +120,15 @@ fn read_on(
                     state,
                     segments,
                     levels,
+                    &lasts,
                 );
-                match settling::settle(judgement, layout, state, segments, levels) {
-                    Step::Done(answer) => return answer,
+                match settling::settle(judgement, layout, state, segments, levels, &mut lasts) {
+                    Step::Done(answer) => {
+                        return Ended {
+                            answer,
+                            levels: state.levels,
+                        };
+                    }
                     Step::Passed(next) => {
                         state = next;
                         behind = layout.end + 1;
@@ -134,5 +165,7 @@ pub fn read(s: &[u8], how: How, segments: &mut [u64], levels: &mut [u64]) -> Ans
     let mut specials: [bool; 256] = [false; 256];
     cutting::set_special(&mut specials, how.separators);
     let table = next::next_table();
-    read_on(s, how, &specials, &table, segments, levels)
+    let ended = read_on(s, how, &specials, &table, segments, levels);
+    notes::clear(levels, ended.levels);
+    ended.answer
 }

@@ -9,7 +9,7 @@ use crate::judging::State;
 use crate::storing;
 use crate::storing::NewLevel;
 use elements::layout::Layout;
-use finding::known::Known;
+use finding::lists::LISTS;
 use gate::answer::Answer;
 
 // What became of the next segment.
@@ -21,15 +21,15 @@ pub(crate) enum Step {
 }
 
 // What the reader carries after one segment more.
-fn after(state: State, row: u8, known: Known) -> State
+fn after(state: State, row: u8, levels: usize) -> State
     requires { ⌜ state .count < 9000000000000000000 ⌝ }
-    ensures { λ r. ⌜ r ≡ stateAfter state row known ⌝ }
+    ensures { λ r. ⌜ r ≡ stateAfter state row levels ⌝ }
 {
     State {
         count: state.count + 1,
         row,
         again: row == state.row,
-        known,
+        levels,
     }
 }
 
@@ -54,7 +54,7 @@ fn acceptance(layout: Layout, state: State) -> Step
 {
     Step::Done(Answer::Accepted {
         segments: state.count + 1,
-        levels: state.known.levels,
+        levels: state.levels,
         bytes: layout.end + 1,
     })
 }
@@ -68,32 +68,33 @@ fn pass_other(row: u8, layout: Layout, state: State, segments: &mut [u64]) -> St
     if !storing::segment_room(segments, state.count) {
         return refusal(17, layout, state, 0);
     }
-    storing::put_segment(segments, state.count, layout, row, state.known.levels);
-    Step::Passed(after(state, row, state.known))
+    storing::put_segment(segments, state.count, layout, row, state.levels);
+    Step::Passed(after(state, row, state.levels))
 }
 
 // Passes a segment that makes a level, where there is room for both records. It belongs to the level that it makes.
 fn pass_level(
     row: u8,
     level: NewLevel,
-    known: Known,
     layout: Layout,
     state: State,
     segments: &mut [u64],
     levels: &mut [u64],
+    lasts: &mut [u32; LISTS],
 ) -> Step
     requires { ⌜ InRoom (now segments) (now levels) layout state ⌝ }
-    ensures { λ r. ⌜ SettlesLevel row level known layout state (now (segments .entry)) (now (levels .entry)) (now (segments .exit)) (now (levels .exit)) r ⌝ }
+    ensures { λ r. ⌜ SettlesLevel row level layout state (now (segments .entry)) (now (levels .entry)) (now (lasts .entry)) (now (segments .exit)) (now (levels .exit)) (now (lasts .exit)) r ⌝ }
 {
     if !storing::segment_room(segments, state.count) {
         return refusal(17, layout, state, 0);
     }
-    if !storing::level_room(levels, state.known.levels) {
+    if !storing::level_room(levels, state.levels) {
         return refusal(17, layout, state, 0);
     }
-    storing::put_segment(segments, state.count, layout, row, known.levels);
-    storing::put_level(levels, state.known.levels, state.count + 1, level);
-    Step::Passed(after(state, row, known))
+    let number = state.levels + 1;
+    storing::put_segment(segments, state.count, layout, row, number);
+    storing::put_level(levels, lasts, state.levels, state.count + 1, level);
+    Step::Passed(after(state, row, number))
 }
 
 // Accepts with this segment as the last, where there is room for its record. It belongs to no level.
@@ -117,15 +118,16 @@ pub(crate) fn settle(
     state: State,
     segments: &mut [u64],
     levels: &mut [u64],
+    lasts: &mut [u32; LISTS],
 ) -> Step
     requires { ⌜ InRoom (now segments) (now levels) layout state ⌝ }
-    ensures { λ r. ⌜ SettlesBy judgement layout state (now (segments .entry)) (now (levels .entry)) (now (segments .exit)) (now (levels .exit)) r ⌝ }
+    ensures { λ r. ⌜ SettlesBy judgement layout state (now (segments .entry)) (now (levels .entry)) (now (lasts .entry)) (now (segments .exit)) (now (levels .exit)) (now (lasts .exit)) r ⌝ }
 {
     match judgement {
         Judgement::Broken(number, element) => refusal(number, layout, state, element),
         Judgement::Other(row) => pass_other(row, layout, state, segments),
-        Judgement::Level { row, level, known } => {
-            pass_level(row, level, known, layout, state, segments, levels)
+        Judgement::Level { row, level } => {
+            pass_level(row, level, layout, state, segments, levels, lasts)
         }
         Judgement::Last(row) => close(row, layout, state, segments),
     }

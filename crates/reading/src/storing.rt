@@ -7,15 +7,22 @@ ghost use lib.ListN.{length, set};
 ghost use lib.Seq.{sets};
 ghost use Rattle.levels.specs.Widths.{segmentWidth, levelWidth};
 ghost use Rattle.finding.specs.internal.Entries.{storedAt};
+ghost use Rattle.reading.specs.internal.Entering.{levelsWith, lastsWith};
 use elements::layout::Layout;
+use finding::lists;
+use finding::lists::LISTS;
+use finding::notes;
 use levels::widths::LEVEL_WIDTH;
 use levels::widths::SEGMENT_WIDTH;
 
-// A level that a segment makes: its parent's level number, its depth and its code.
+// A level that a segment makes: its parent's level number, its depth, its code, what its mark asks of the levels to come, and the list
+// that its HL01 belongs to.
 pub(crate) struct NewLevel {
     pub parent: usize,
     pub depth: usize,
     pub code: usize,
+    pub asks: usize,
+    pub place: usize,
 }
 
 // Whether the segment table has room for one record behind the first n.
@@ -68,17 +75,26 @@ pub(crate) fn put_segment(segments: &mut [u64], n: usize, layout: Layout, row: u
     );
 }
 
-// The segment number of a level, its parent, depth and code, behind the first n records.
-pub(crate) fn put_level(levels: &mut [u64], n: usize, segment: usize, level: NewLevel)
+// Enters a level behind the first n: its record, with a note, and it as the last of its list; its parent's note tells that a child was met.
+pub(crate) fn put_level(
+    levels: &mut [u64],
+    lasts: &mut [u32; LISTS],
+    n: usize,
+    segment: usize,
+    level: NewLevel,
+)
     requires { ⌜ n < length (now levels) / levelWidth ⌝ }
-    ensures { λ _. ⌜ now (levels .exit) ≡ storedAt levelWidth (now (levels .entry)) n (segment ∷ level .parent ∷ level .depth ∷ level .code ∷ []) ⌝ }
+    ensures { λ _. ⌜ (now (levels .exit) ≡ levelsWith (now (levels .entry)) (now (lasts .entry)) n segment level) × (now (lasts .exit) ≡ lastsWith (now (lasts .entry)) n level) ⌝ }
 {
+    let before = lists::last_in(lasts, level.place);
+    notes::meet_child(levels, level.parent);
     store_four(
         levels,
         n * LEVEL_WIDTH,
         segment,
         level.parent,
         level.depth,
-        level.code,
+        notes::note(level.code, level.asks, before),
     );
+    lists::put_last(lasts, level.place, n + 1);
 }

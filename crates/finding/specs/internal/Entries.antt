@@ -1,6 +1,6 @@
 -- Records in a lent table, whose records have `width` numbers each.
 -- Assumes nothing.
-use Prim.Native.Nat.{ℕ, _+_, _-_, _*_, _/_}
+use Prim.Native.Nat.{ℕ, _+_, _-_, _*_, _/_, min}
 use mathlib.Core.Bool.{cond}
 use mathlib.Core.List.{List, _++_}
 use lib.ListN.{length, take, drop, getD}
@@ -28,3 +28,11 @@ lengthOf segments n = segmentEntry segments n 1
 -- number k of the record of level n
 abbrev pub levelEntry : List ℕ → ℕ → ℕ → ℕ
 levelEntry levels n k = entryOf levelWidth levels n k
+
+-- how many levels there are: the count, or as many as the level table has room for
+abbrev pub countIn : List ℕ → ℕ → ℕ
+countIn levels count = min count (length levels / levelWidth)
+
+-- no level lies deeper
+abbrev pub deepest : ℕ
+deepest = 4

@@ -85,7 +85,7 @@ module _ (how : How) where
   abbrev q : Separators
   q = how .separators
 
-  leads-few : (at : ℕ) (s : Bytes) (gs : List Placed) (end : ℕ) (rest : Bytes) → Leads (cutBy how) (skipBy how) at s gs end rest → at + length gs ≤ end
+  pub leads-few : (at : ℕ) (s : Bytes) (gs : List Placed) (end : ℕ) (rest : Bytes) → Leads (cutBy how) (skipBy how) at s gs end rest → at + length gs ≤ end
   leads-few at s [] end rest l = omega (arith, l .0)
   leads-few at s (g ∷ gs) end rest l =
       omega (arith, leads-few (at + length (g .segment) + 1 + skipBy how (l .0)) (drop (skipBy how (l .0)) (l .0)) gs end rest (l .3))

@@ -88,6 +88,18 @@ pub levels-number : (profile : Profile) (h : List View) → length (levelsIn pro
 unfolding levelsIn
 levels-number profile h = levels-length (profile .levels) (claims h)
 
+-- there are no more levels than segments
+claims-few : (h : List View) → length (claims h) ≤ length h
+claims-few [] = omega arith
+claims-few (v ∷ h) = by-value (isHL v) (claims-few h)
+  where
+    by-value : (b : Bool) → length (claims h) ≤ length h → length (addClaim b (suc (length h)) v (claims h)) ≤ suc (length h)
+    by-value true l = omega arith
+    by-value false l = omega arith
+
+pub levels-few : (profile : Profile) (h : List View) → length (levelsIn profile h) ≤ length h
+levels-few profile h = omega (arith, levels-number profile h, claims-few h)
+
 -- the level that a segment belongs to
 module _ (profile : Profile) (h : List View) (v : View) where
   pub belongs-se : T (isSE v) → belongsTo h v ≡ 0

@@ -1,4 +1,4 @@
--- An HL segment in the bytes: what the level tables need to tell of it later, and that its level lies no deeper than 4.
+-- An HL segment in the bytes: its HL01, by which it is found later, and that its level lies no deeper than 4.
 -- Assumes nothing.
 use Prim.Native.Nat.{ℕ, _+_, _≤_, _<_}
 use mathlib.Core.Path.{_≡_, refl, sym, ap, _∙_}
@@ -68,10 +68,10 @@ hl-tag-long t e =
     let f : getD tags (tag "HL") [] ≡ t = sym (ap (λ (k : ℕ). getD tags k []) e) ∙ tag-of-number t h in
     sym (ap length f) ∙ hl-letters
 
--- the bytes of an HL segment tell its HL01 and its mark
+-- the bytes of an HL segment tell its HL01
 pub hl-written : (name : ProfileName) (q : Separators) → Fitted q → (s : Bytes) (at : ℕ) (g more : Bytes) → drop at s ≡ g ++ q .terminator ∷ more
     → Keeps (ruledChecks (elementProfile name) (tagIn (viewOf q g)) (viewOf q g)) → tagIn (viewOf q g) ≡ tag "HL"
-    → HlBytes s (q .element) at (length g) (claimOf (viewOf q g) .id) (claimOf (viewOf q g) .mark)
+    → HlBytes s (q .element) at (length g) (claimOf (viewOf q g) .id)
 hl-written name q fit s at g more w k e =
     let seg : take (length g) (drop at s) ≡ g = ap (take (length g)) w ∙ take-append-seam g (q .terminator ∷ more) in
     let rules : Keeps (checksBy rulesHL (unusedIn name "HL") (viewOf q g)) = rw (e, hl-rules) at k in
@@ -82,7 +82,6 @@ hl-written name q fit s at g more w k e =
       tag = rw seg (hl-tag-long (getD (pieces (q .element) g) 0 []) (ap (λ (ps : List Bytes). tagNumber (getD ps 0 [])) (sym (elements-plain (q .element) g n)) ∙ sym (tag-of-view q fit g) ∙ e));
       some = rw seg (omega arith);
       id-is = rw seg (sym (ap (λ (c : Claim). c .id) claim));
-      mark-is = rw seg (sym (ap (λ (c : Claim). c .mark) claim));
     }
 
 module _ (name : ProfileName) where

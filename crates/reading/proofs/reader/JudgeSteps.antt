@@ -36,10 +36,9 @@ use Rattle.elements.specs.declared.verdict.Verdict.{Verdict}
 use Rattle.elements.specs.declared.verdict.Verdict.the-variants.{Holds, Broken as Faulty}
 use Rattle.elements.proofs.FirstBroken.{keeps-holds}
 use Rattle.ruling.proofs.OwnView.{LaidOut, ruled-own, text-own}
-use Rattle.levels.specs.Levels.{Claim, claimOf, textOf, levelOf}
-use Rattle.levels.proofs.LevelTests.{keeps-passes}
-use Rattle.finding.proofs.KnownLevels.{knows-after}
-use Rattle.levels.specs.Rules.{levelChecks}
+use Rattle.levels.specs.Levels.{Claim, claimOf, textOf}
+use Rattle.finding.proofs.HeldLevels.{told-filled}
+use Rattle.levels.specs.Rules.{levelChecks, filled}
 use Rattle.rows.specs.declared.profile.ProfileName.{ProfileName}
 use Rattle.gate.specs.Profile.{profileOf}
 use Rattle.gate.specs.Segments.{tagIn, isHL, isSE, seen, onto, levelsIn}
@@ -50,8 +49,10 @@ use Rattle.reading.specs.internal.Cutting.{CutAs, segmentOf}
 use Rattle.reading.specs.internal.Judgements.{claimIn, closingIn, brokenBy, byLevel, byClosing, lateJudgement, JudgesLate, Judges}
 use Rattle.gate.specs.declared.how.How.{How}
 use Rattle.levels.specs.internal.Answers.{judged}
-use Rattle.finding.specs.internal.Knows.{Knows, mostLevels, knownAfter}
-use Rattle.finding.specs.internal.TableLevels.{tableLevels}
+use Rattle.finding.specs.internal.Entries.{countIn}
+use Rattle.finding.specs.internal.Lists.{placeOf}
+use Rattle.finding.specs.internal.Notes.{asksOf}
+use Rattle.finding.specs.internal.Answers.{noneOwes}
 use Rattle.reading.specs.declared.judging.Judgement.{Judgement}
 use Rattle.reading.specs.declared.judging.Judgement.the-variants.{Broken, Other}
 use Rattle.elements.specs.declared.layout.Layout.{Layout}
@@ -124,9 +125,9 @@ pub judges-tag : (how : How) {s : Bytes} {starts : List ℕ} {layout : Layout} {
 judges-tag how {g = g} rows h t l found fit nt =
     unknown-tag (profileOf how) rows h (viewOf (how .separators) g) (nt .laid .data-only) (rw (← (found ∙ tag-is nt fit)) l)
 
-module _ {how : How} {before : Tables} {s : Bytes} {segments levels : List ℕ} {at : ℕ} {state : State} {gs : List Placed} {rows : List ℕ}
+module _ {how : How} {before : Tables} {s : Bytes} {segments levels lasts : List ℕ} {at : ℕ} {state : State} {gs : List Placed} {rows : List ℕ}
     {starts : List ℕ} {layout : Layout} {g more : Bytes} (fit : Fitted (how .separators)) (nt : CutAs (how .separators) s starts layout g more)
-    (st : Standing how before s segments levels at state gs rows) (t : ℕ)
+    (st : Standing how before s segments levels lasts at state gs rows) (t : ℕ)
     (tag-found : t ≡ tagNumber (elementIn s starts layout 0)) where
   abbrev v : View
   v = viewOf (how .separators) g
@@ -209,9 +210,9 @@ module _ {how : How} {before : Tables} {s : Bytes} {segments levels : List ℕ} 
           unfolding tagNumber
           hl-no-se hl = rw (eqb→eq (tagIn v) (tag "HL") hl) tt
 
-          by-level : state .known .levels ≤ mostLevels → T (isHL v) → Judges (profileOf how) rows h v (byLevel x (knownAfter (state .known) (claimOf v .id)) (judged (profileOf how .levels) (levelsIn (profileOf how) h) (claimOf v)))
+          by-level : T (isHL v) → Judges (profileOf how) rows h v (byLevel x (asksOf (claimOf v .mark)) (placeOf (claimOf v .id)) (judged (profileOf how .levels) (levelsIn (profileOf how) h) (claimOf v)))
           unfolding judged
-          by-level few hl =
+          by-level hl =
               let checks = levelChecks (profileOf how .levels) (levelsIn (profileOf how) h) (claimOf v) in
               verdict-cases (firstBroken checks)
               (λ q.
@@ -222,8 +223,8 @@ module _ {how : How} {before : Tables} {s : Bytes} {segments levels : List ℕ} 
                 passes (isHL v) hl,
                 hl-no-se hl,
                 refl,
-                knows-after (st .knows) (omega (arith, st .knows .counted)) (levelOf (profileOf how .levels) (suc (length h)) (claimOf v) (levelsIn (profileOf how) h))
-                    (keeps-passes (profileOf how .levels) (levelsIn (profileOf how) h) (claimOf v) (keeps-holds checks .0 q) .new),
+                refl,
+                refl,
               ))
               (λ n k q. rw q (bad-level (profileOf how) rows h v (nt .laid .data-only) known-tag ends x fits inside elements hl n k q))
 
@@ -258,28 +259,29 @@ module _ {how : How} {before : Tables} {s : Bytes} {segments levels : List ℕ} 
               ap numberOf (piece-is nt n 1 (omega arith) ∙ sym (se-count (how .profile) (how .separators) g elements e)) ∙ counted-number (how .profile) (how .separators) g elements e in
               let control : elementIn s starts layout 2 ≡ textOf (elementOf v 2) =
               piece-is nt n 2 (omega arith) ∙ sym (se-control (how .profile) (how .separators) g elements e) in
-              let first = control-of-first how before s segments levels at state gs rows (some-before e) st in
+              let first = control-of-first how before s segments levels lasts at state gs rows (some-before e) st in
               let long : suc (state .count) ≡ suc (length h) = omega (arith, history-long how gs, st .count-is) in
-              rw (total, control, first, long, st .tells .levels-are) refl
+              let owed : noneOwes levels (countIn levels (state .levels)) ≡ filled (levelsIn (profileOf how) h) =
+              let all : countIn levels (state .levels) ≡ length (levelsIn (profileOf how) h) = omega (arith, st .holds .room, st .counted) in
+              ap (noneOwes levels) all ∙ told-filled (st .holds) in
+              rw (total, control, first, long, owed) refl
 
           -- what the layout and tables say of an HL and of an SE
           abbrev hl-says : Judgement
-          hl-says = byLevel x (knownAfter (state .known) (elementIn s starts layout 1))
-              (judged (profileOf how .levels) (tableLevels s (how .separators .element) segments levels (state .known .levels)) (claimIn s starts layout))
+          hl-says = byLevel x (asksOf (elementIn s starts layout 4)) (placeOf (elementIn s starts layout 1)) (judged (profileOf how .levels) (levelsIn (profileOf how) h) (claimIn s starts layout))
 
           abbrev se-says : Judgement
           se-says = byClosing x (firstBroken (closingIn s (how .separators .element) starts layout segments levels state))
 
           -- what the late rules say
-          judges-late : state .known .levels ≤ mostLevels → Judges (profileOf how) rows h v (lateJudgement how s starts layout state segments levels t x)
-          judges-late few = by (eqb t (tag "HL")) (eqb t (tag "SE")) refl refl
+          judges-late : Judges (profileOf how) rows h v (lateJudgement how s starts layout state segments levels (levelsIn (profileOf how) h) t x)
+          judges-late = by (eqb t (tag "HL")) (eqb t (tag "SE")) refl refl
             where
               by : (a b : Bool) → eqb t (tag "HL") ≡ a → eqb t (tag "SE") ≡ b → Judges (profileOf how) rows h v (cond a hl-says (cond b se-says (Other x)))
               by true b p q =
                   let e : tagIn v ≡ tag "HL" = sym tag-known ∙ eqb→eq t (tag "HL") (rw p tt) in
-                  rw (st .tells .levels-are)
-                  (subst (λ (c : Claim). Judges (profileOf how) rows h v (byLevel x (knownAfter (state .known) (c .id)) (judged (profileOf how .levels) (levelsIn (profileOf how) h) c)))
-                  (sym (its-claim e)) (by-level few (equal-eqb (tagIn v) (tag "HL") e)))
+                  subst (λ (c : Claim). Judges (profileOf how) rows h v (byLevel x (asksOf (c .mark)) (placeOf (c .id)) (judged (profileOf how .levels) (levelsIn (profileOf how) h) c)))
+                  (sym (its-claim e)) (by-level (equal-eqb (tagIn v) (tag "HL") e))
               by false true p q =
                   let e : tagIn v ≡ tag "SE" = sym tag-known ∙ eqb→eq t (tag "SE") (rw q tt) in
                   subst (λ (cs : List Check). Judges (profileOf how) rows h v (byClosing x (firstBroken cs))) (sym (its-closing-tests e)) (by-closing (equal-eqb (tagIn v) (tag "SE") e))
@@ -296,16 +298,14 @@ module _ {how : How} {before : Tables} {s : Bytes} {segments levels : List ℕ} 
         -- 12 to 16, where those hold
         pub judges-rest : (d : Verdict)
             → d ≡ firstBroken (ruledChecks (profileOf how .elements) t (layoutView s starts layout (how .separators .component)))
-            → d ≡ Holds → state .known .levels ≤ mostLevels → (j : Judgement) → JudgesLate how s starts layout state segments levels t x j
+            → d ≡ Holds → (j : Judgement) → JudgesLate how s starts layout state segments levels lasts t x j
             → Judges (profileOf how) rows h v j
-        judges-rest d is q few j says =
-            let knows : Knows (state .known) (tableLevels s (how .separators .element) segments levels (state .known .levels)) =
-            rw (st .tells .levels-are) (st .knows) in
+        judges-rest d is q j says =
             let elements = keeps-holds (ruledChecks (profileOf how .elements) (tagIn v) v) .0 (sym ruled-is ∙ sym is ∙ q) in
-            subst (λ (j : Judgement). Judges (profileOf how) rows h v j) (sym (says knows)) (judges-late elements few)
+            subst (λ (j : Judgement). Judges (profileOf how) rows h v j) (sym (says (state .count) (levelsIn (profileOf how) h) (st .holds))) (judges-late elements)
 
         -- none of these is asked of a plain segment
-        pub judges-plain : length (rulesOf t .elements) ≡ 0 → state .known .levels ≤ mostLevels → Judges (profileOf how) rows h v (Other x)
-        judges-plain plain few =
-            judges-rest Holds (plain-holds t plain (how .profile) (layoutView s starts layout (how .separators .component))) refl few (Other x)
-            (plain-late t plain how s starts layout state segments levels x)
+        pub judges-plain : length (rulesOf t .elements) ≡ 0 → Judges (profileOf how) rows h v (Other x)
+        judges-plain plain =
+            judges-rest Holds (plain-holds t plain (how .profile) (layoutView s starts layout (how .separators .component))) refl (Other x)
+            (plain-late t plain how s starts layout state segments levels lasts x)

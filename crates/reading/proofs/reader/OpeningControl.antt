@@ -44,13 +44,13 @@ unfolding tagOf rowAt list842 tagNumber
 tag-1 = refl
 
 -- the ST's control number, where a segment was passed
-pub control-of-first : (how : How) (before : Tables) (s : Bytes) (segments levels : List ℕ) (at : ℕ) (state : State)
-    (gs : List Placed) (rows : List ℕ) → 0 < state .count → Standing how before s segments levels at state gs rows
+pub control-of-first : (how : How) (before : Tables) (s : Bytes) (segments levels lasts : List ℕ) (at : ℕ) (state : State)
+    (gs : List Placed) (rows : List ℕ) → 0 < state .count → Standing how before s segments levels lasts at state gs rows
     → openingControl s (how .separators .element) segments ≡ textOf (elementOf (opening (onto [] (seen how gs))) 2)
 unfolding openingControl
-control-of-first how before s segments levels at state [] rows some st = absurd (omega (arith, st .count-is))
-control-of-first how before s segments levels at state (g ∷ gs) [] some st = absurd (omega (arith, st .rows-are))
-control-of-first how before s segments levels at state (g ∷ gs) (r ∷ rows) some st =
+control-of-first how before s segments levels lasts at state [] rows some st = absurd (omega (arith, st .count-is))
+control-of-first how before s segments levels lasts at state (g ∷ gs) [] some st = absurd (omega (arith, st .rows-are))
+control-of-first how before s segments levels lasts at state (g ∷ gs) (r ∷ rows) some st =
     let q = how .separators in
     let l = st .passed .leads in
     let w : s ≡ g .segment ++ q .terminator ∷ l .0 = subst (λ (c : Cut). Splits q s c) (l .1) (cut-splits q s) in

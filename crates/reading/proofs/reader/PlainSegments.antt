@@ -35,6 +35,6 @@ module _ (t : ℕ) (plain : length (rulesOf t .elements) ≡ 0) where
   not-se e = let some = ap (λ (n : ℕ). length (rulesOf n .elements)) (sym e) ∙ plain in omega (arith, some)
 
   -- so the late rules are silent of it
-  pub plain-late : (how : How) (s : Bytes) (starts : List ℕ) (layout : Layout) (state : State) (segments levels : List ℕ) (row : ℕ)
-      → JudgesLate how s starts layout state segments levels t row (Other row)
-  plain-late how s starts layout state segments levels row = λ k. rw (ne-eqb t (tag "HL") not-hl, ne-eqb t (tag "SE") not-se) refl
+  pub plain-late : (how : How) (s : Bytes) (starts : List ℕ) (layout : Layout) (state : State) (segments levels lasts : List ℕ) (row : ℕ)
+      → JudgesLate how s starts layout state segments levels lasts t row (Other row)
+  plain-late how s starts layout state segments levels lasts row = λ m ls h. rw (ne-eqb t (tag "HL") not-hl, ne-eqb t (tag "SE") not-se) refl

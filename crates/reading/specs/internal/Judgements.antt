@@ -19,7 +19,6 @@ use Rattle.elements.specs.internal.Layouts.{elementIn}
 use Rattle.levels.specs.Widths.{segmentWidth}
 use Rattle.levels.specs.Profile.{LevelProfile}
 use Rattle.levels.specs.Levels.{Claim, claimOf, Level as HlLevel, levelOf, recordOf}
-use Rattle.levels.specs.Rules.{filled}
 use Rattle.levels.specs.internal.Answers.{judged}
 use Rattle.levels.specs.declared.judging.Judged.{Judged}
 use Rattle.levels.specs.declared.judging.Judged.the-variants.{Entitled, Refused}
@@ -30,9 +29,11 @@ use Rattle.gate.specs.Records.{Tables}
 use Rattle.reading.specs.internal.Cutting.{CutAs}
 use Rattle.reading.specs.internal.Standing.{Standing}
 use Rattle.gate.specs.declared.how.How.{How}
-use Rattle.finding.specs.internal.Knows.{Knows, knownAfter}
-use Rattle.finding.specs.declared.known.Known.{Known}
-use Rattle.finding.specs.internal.TableLevels.{tableLevels}
+use Rattle.finding.specs.internal.Entries.{countIn}
+use Rattle.finding.specs.internal.Lists.{placeOf}
+use Rattle.finding.specs.internal.Notes.{asksOf}
+use Rattle.finding.specs.internal.Answers.{noneOwes}
+use Rattle.finding.specs.internal.TablesHold.{TablesHold}
 use Rattle.reading.specs.declared.judging.Judgement.{Judgement}
 use Rattle.reading.specs.declared.judging.Judgement.the-variants.{Broken, Other, Level, Last}
 use Rattle.elements.specs.declared.layout.Layout.{Layout}
@@ -58,7 +59,7 @@ abbrev pub closingIn : Bytes → ℕ → List ℕ → Layout → (segments level
 closingIn s separator starts layout segments levels state =
     check 16 1 (eqb (numberOf (elementIn s starts layout 1)) (suc (state .count)))
     ∷ check 16 2 (same (elementIn s starts layout 2) (openingControl s separator segments))
-    ∷ check 15 0 (filled (tableLevels s separator segments levels (state .known .levels)))
+    ∷ check 15 0 (noneOwes levels (countIn levels (state .levels)))
     ∷ []
 
 -- the segment that the layout names lies within the bytes
@@ -71,35 +72,35 @@ abbrev pub brokenBy : Verdict → Judgement
 brokenBy Holds = Broken 6 0
 brokenBy (Faulty number element) = Broken number element
 
--- the judgement on an HL with that row, and on an SE
-abbrev pub byLevel : ℕ → Known → Judged → Judgement
-byLevel row known (Entitled parent depth code) = Level row (record { parent = parent; depth = depth; code = code }) known
-byLevel row known (Refused number element) = Broken number element
+-- the judgement on an HL with that row, whose mark asks that, and whose HL01 belongs to that list
+abbrev pub byLevel : ℕ → (asks place : ℕ) → Judged → Judgement
+byLevel row asks place (Entitled parent depth code) = Level row (record { parent = parent; depth = depth; code = code; asks = asks; place = place })
+byLevel row asks place (Refused number element) = Broken number element
 
+-- and on an SE
 abbrev pub byClosing : ℕ → Verdict → Judgement
 byClosing row Holds = Last row
 byClosing row (Faulty number element) = Broken number element
 
--- what the rules of levels say of an HL, where what is known of the levels that the tables tell of is right, and `after` is that with its level
-abbrev pub JudgesLevel : LevelProfile → Bytes → ℕ → List ℕ → Layout → (known after : Known) → (segments levels : List ℕ) → Judged → Type 0
-JudgesLevel profile s separator starts layout known after segments levels r =
-    Knows known (tableLevels s separator segments levels (known .levels)) → after ≡ knownAfter known (elementIn s starts layout 1)
-    → r ≡ judged profile (tableLevels s separator segments levels (known .levels)) (claimIn s starts layout)
+-- what the rules of levels say of an HL behind the levels that the tables hold, where its HL01 belongs to that list
+abbrev pub JudgesLevel : LevelProfile → Bytes → ℕ → List ℕ → Layout → ℕ → (segments levels lasts : List ℕ) → Judged → Type 0
+JudgesLevel profile s separator starts layout place segments levels lasts r =
+    (m : ℕ) (ls : List HlLevel) → TablesHold s separator segments levels lasts m ls → place ≡ placeOf (elementIn s starts layout 1)
+    → r ≡ judged profile ls (claimIn s starts layout)
 
--- what the late rules say of a segment of that tag and row
-abbrev pub lateJudgement : How → Bytes → List ℕ → Layout → State → (segments levels : List ℕ) → ℕ → ℕ → Judgement
-lateJudgement how s starts layout state segments levels t row =
+-- what the late rules say of a segment of that tag and row behind the levels ls
+abbrev pub lateJudgement : How → Bytes → List ℕ → Layout → State → (segments levels : List ℕ) → List HlLevel → ℕ → ℕ → Judgement
+lateJudgement how s starts layout state segments levels ls t row =
     cond (eqb t (tag "HL"))
-    (byLevel row (knownAfter (state .known) (elementIn s starts layout 1))
-    (judged (profileOf how .levels) (tableLevels s (how .separators .element) segments levels (state .known .levels)) (claimIn s starts layout)))
+    (byLevel row (asksOf (elementIn s starts layout 4)) (placeOf (elementIn s starts layout 1)) (judged (profileOf how .levels) ls (claimIn s starts layout)))
     (cond (eqb t (tag "SE"))
     (byClosing row (firstBroken (closingIn s (how .separators .element) starts layout segments levels state)))
     (Other row))
 
-abbrev pub JudgesLate : How → Bytes → List ℕ → Layout → State → (segments levels : List ℕ) → ℕ → ℕ → Judgement → Type 0
-JudgesLate how s starts layout state segments levels t row r =
-    Knows (state .known) (tableLevels s (how .separators .element) segments levels (state .known .levels))
-    → r ≡ lateJudgement how s starts layout state segments levels t row
+abbrev pub JudgesLate : How → Bytes → List ℕ → Layout → State → (segments levels lasts : List ℕ) → ℕ → ℕ → Judgement → Type 0
+JudgesLate how s starts layout state segments levels lasts t row r =
+    (m : ℕ) (ls : List HlLevel) → TablesHold s (how .separators .element) segments levels lasts m ls
+    → r ≡ lateJudgement how s starts layout state segments levels ls t row
 
 -- what a judgement says of the segment with the view v, after the segments h and their rows
 module _ (profile : Profile) (rows : List ℕ) (h : List View) (v : View) where
@@ -110,17 +111,17 @@ module _ (profile : Profile) (rows : List ℕ) (h : List View) (v : View) where
   abbrev pub Judges : Judgement → Type 0
   Judges (Broken number element) = FirstBroken (rules profile rows h v) number element
   Judges (Other r) = Sound profile rows h v r × (isHL v ≡ false) × T (not (isSE v))
-  Judges (Level r level known) =
+  Judges (Level r level) =
       Sound profile rows h v r × (isHL v ≡ true) × T (not (isSE v))
       × (suc (length h) ∷ level .parent ∷ level .depth ∷ level .code ∷ [] ≡ recordOf newLevel)
-      × Knows known (newLevel ∷ levelsIn profile h)
+      × (level .asks ≡ asksOf (newLevel .mark)) × (level .place ≡ placeOf (newLevel .id))
   Judges (Last r) = Sound profile rows h v r × (isHL v ≡ false) × T (isSE v)
 
 -- where the layout is right and the reader stands before the segment, the judgement says what the rules say
-abbrev pub JudgesNext : How → Bytes → List ℕ → Layout → State → (segments levels : List ℕ) → Judgement → Type 0
-JudgesNext how s starts layout state segments levels r =
+abbrev pub JudgesNext : How → Bytes → List ℕ → Layout → State → (segments levels lasts : List ℕ) → Judgement → Type 0
+JudgesNext how s starts layout state segments levels lasts r =
     (before : Tables) (gs : List Placed) (rows : List ℕ) (g more : Bytes) → Fitted (how .separators) → CutAs (how .separators) s starts layout g more
-    → Standing how before s segments levels (layout .at) state gs rows
+    → Standing how before s segments levels lasts (layout .at) state gs rows
     → Judges (profileOf how) rows (onto [] (seen how gs)) (viewOf (how .separators) g) r
 
 -- the layout names a segment of this known tag, and rule 6 holds of it

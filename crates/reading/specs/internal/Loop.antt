@@ -15,8 +15,8 @@ use Rattle.reading.specs.declared.cutting.Left.{Left}
 use Rattle.reading.specs.declared.judging.State.{State}
 
 -- `behind` is the start of the bytes, or the place behind the last terminator
-pub record Going (how : How) (s : Bytes) (specials : List Bool) (before : Tables) (segments levels queue starts : List ℕ) (behind : ℕ) (left : Left)
+pub record Going (how : How) (s : Bytes) (specials : List Bool) (before : Tables) (segments levels lasts queue starts : List ℕ) (behind : ℕ) (left : Left)
     (state : State) : Type 0 where
-  pub stands : Stands how before s segments levels (startAt how s behind) state
+  pub stands : Stands how before s segments levels lasts (startAt how s behind) state
   pub ready : Ready specials s behind queue (left .head) (left .tail) (left .seen)
   pub room : length starts ≡ 33

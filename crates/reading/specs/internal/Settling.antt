@@ -15,14 +15,14 @@ use Rattle.gate.specs.Profile.{profileOf}
 use Rattle.gate.specs.Segments.{seen, onto}
 use Rattle.levels.specs.Widths.{segmentWidth, levelWidth}
 use Rattle.gate.specs.Records.{Tables}
-use Rattle.gate.specs.Reads.{cutBy, Read}
+use Rattle.gate.specs.Reads.{limit, cutBy, Read}
 use Rattle.reading.specs.internal.Standing.{Standing}
 use Rattle.reading.specs.internal.Judgements.{Judges}
 use Rattle.reading.specs.internal.Between.{startAt}
 use Rattle.gate.specs.declared.answer.Answer.{Answer}
 use Rattle.gate.specs.declared.answer.Answer.the-variants.{Accepted, Refused}
 use Rattle.gate.specs.declared.how.How.{How}
-use Rattle.finding.specs.declared.known.Known.{Known}
+use Rattle.finding.specs.internal.Notes.{cleared}
 use Rattle.reading.specs.declared.judging.Judgement.{Judgement}
 use Rattle.reading.specs.declared.judging.Judgement.the-variants.{Other, Level, Last}
 use Rattle.elements.specs.declared.layout.Layout.{Layout}
@@ -32,8 +32,8 @@ use Rattle.reading.specs.declared.settling.Step.{Step}
 use Rattle.reading.specs.declared.settling.Step.the-variants.{Done, Passed}
 
 -- what the reader carries after one segment more
-abbrev pub stateAfter : State → ℕ → Known → State
-stateAfter state row known = record { count = state .count + 1; row = row; again = eqb row (state .row); known = known }
+abbrev pub stateAfter : State → ℕ → ℕ → State
+stateAfter state row levels = record { count = state .count + 1; row = row; again = eqb row (state .row); levels = levels }
 
 -- a refusal at the segment
 abbrev pub refusedAt : ℕ → Layout → State → ℕ → Step
@@ -41,7 +41,7 @@ refusedAt number layout state element = Done (Refused number (state .count + 1) 
 
 -- acceptance with the segment as the last
 abbrev pub acceptedAt : Layout → State → Step
-acceptedAt layout state = Done (Accepted (state .count + 1) (state .known .levels) (layout .end + 1))
+acceptedAt layout state = Done (Accepted (state .count + 1) (state .levels) (layout .end + 1))
 
 -- a refusal behind `count` segments by the first test that does not hold; 5 where all hold
 abbrev pub refusedBy : Verdict → ℕ → ℕ → Answer
@@ -53,41 +53,43 @@ pub record InRoom (segments levels : List ℕ) (layout : Layout) (state : State)
   pub forward : layout .at ≤ layout .end
   pub short : layout .end < 1048576
   pub segments-fit : state .count ≤ length segments / segmentWidth
-  pub levels-fit : state .known .levels ≤ length levels / levelWidth
+  pub levels-fit : state .levels ≤ length levels / levelWidth
 
 -- the reader stands before the segment g, which was cut, and the judgement is right
-pub record Settling (how : How) (before : Tables) (s : Bytes) (segments levels : List ℕ) (layout : Layout) (state : State) (gs : List Placed) (rows : List ℕ)
+pub record Settling (how : How) (before : Tables) (s : Bytes) (segments levels lasts : List ℕ) (layout : Layout) (state : State) (gs : List Placed) (rows : List ℕ)
     (g more : Bytes) (judgement : Judgement) : Type 0 where
   pub fit : Fitted (how .separators)
-  pub standing : Standing how before s segments levels (layout .at) state gs rows
+  pub standing : Standing how before s segments levels lasts (layout .at) state gs rows
+  pub short : length s ≤ limit
   pub cut : cutBy how (drop (layout .at) s) ≡ Whole g more
   pub whole : drop (layout .at) s ≡ g ++ how .separators .terminator ∷ more
   pub place : layout .end ≡ layout .at + length g
   pub right : Judges (profileOf how) rows (onto [] (seen how gs)) (viewOf (how .separators) g) judgement
 
 -- the reader stands at byte `at`, behind segments that it passed
-pub record Stands (how : How) (before : Tables) (s : Bytes) (segments levels : List ℕ) (at : ℕ) (state : State) : Type 0 where
+pub record Stands (how : How) (before : Tables) (s : Bytes) (segments levels lasts : List ℕ) (at : ℕ) (state : State) : Type 0 where
   pub gs : List Placed
   pub rows : List ℕ
-  pub standing : Standing how before s segments levels at state gs rows
+  pub standing : Standing how before s segments levels lasts at state gs rows
 
--- the answer is right, or the reader stands where the next segment starts
-abbrev pub Settles : How → Tables → Bytes → Layout → List ℕ → List ℕ → Step → Type 0
-Settles how before s layout segments levels (Done answer) = Read (profileOf how) how s before answer (record { segments = segments; levels = levels })
-Settles how before s layout segments levels (Passed state) = Stands how before s segments levels (startAt how s (layout .end + 1)) state
+-- the answer is right, with as many levels as there were before the segment, or the reader stands where the next one starts
+abbrev pub Settles : How → Tables → Bytes → Layout → ℕ → (segments levels lasts : List ℕ) → Step → Type 0
+Settles how before s layout n segments levels lasts (Done answer) =
+    Read (profileOf how) how s before answer (record { segments = segments; levels = cleared n levels })
+Settles how before s layout n segments levels lasts (Passed state) = Stands how before s segments levels lasts (startAt how s (layout .end + 1)) state
 
 -- where the segment is so judged, the step is right, and so is what the tables hold afterwards
-abbrev pub SettlesBy : Judgement → Layout → State → (segments levels segments′ levels′ : List ℕ) → Step → Type 0
-SettlesBy judgement layout state segments levels segments′ levels′ r =
+abbrev pub SettlesBy : Judgement → Layout → State → (segments levels lasts segments′ levels′ lasts′ : List ℕ) → Step → Type 0
+SettlesBy judgement layout state segments levels lasts segments′ levels′ lasts′ r =
     (how : How) (before : Tables) (s : Bytes) (gs : List Placed) (rows : List ℕ) (g more : Bytes)
-    → Settling how before s segments levels layout state gs rows g more judgement → Settles how before s layout segments′ levels′ r
+    → Settling how before s segments levels lasts layout state gs rows g more judgement → Settles how before s layout (state .levels) segments′ levels′ lasts′ r
 
--- of a segment that makes no level, of one that makes a level, and of the last; without a level the level table stays
+-- of a segment that makes no level, of one that makes a level, and of the last; without a level the level table and the lists stay
 abbrev pub SettlesOther : ℕ → Layout → State → (segments segments′ : List ℕ) → Step → Type 0
-SettlesOther row layout state segments segments′ r = (levels : List ℕ) → SettlesBy (Other row) layout state segments levels segments′ levels r
+SettlesOther row layout state segments segments′ r = (levels lasts : List ℕ) → SettlesBy (Other row) layout state segments levels lasts segments′ levels lasts r
 
-abbrev pub SettlesLevel : ℕ → NewLevel → Known → Layout → State → (segments levels segments′ levels′ : List ℕ) → Step → Type 0
-SettlesLevel row level known = SettlesBy (Level row level known)
+abbrev pub SettlesLevel : ℕ → NewLevel → Layout → State → (segments levels lasts segments′ levels′ lasts′ : List ℕ) → Step → Type 0
+SettlesLevel row level = SettlesBy (Level row level)
 
 abbrev pub SettlesLast : ℕ → Layout → State → (segments segments′ : List ℕ) → Step → Type 0
-SettlesLast row layout state segments segments′ r = (levels : List ℕ) → SettlesBy (Last row) layout state segments levels segments′ levels r
+SettlesLast row layout state segments segments′ r = (levels lasts : List ℕ) → SettlesBy (Last row) layout state segments levels lasts segments′ levels lasts r

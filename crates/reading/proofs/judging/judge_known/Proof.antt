@@ -1,15 +1,10 @@
 -- `judge_known` meets its contract: the row, the profile, and, where the segment is not plain, the elements and the late rules, as `JudgeSteps` says.
 -- Assumes nothing.
 use Rattle.reading.proofs.reader.JudgeSteps.{judges-row, judges-outside, judges-plain, judges-element, judges-rest}
-use Prim.Native.Nat.{ℕ, _/_, _≤_}
 use mathlib.Core.Path.{sym, _∙_}
-use native.Mathlib.Omega.{arith}
-use lib.ListN.{length}
 use borrow.Author.Tests.{not-true, not-false, eqb-true}
-use Rattle.levels.specs.Widths.{levelWidth}
 use Rattle.gate.specs.Profile.{profileOf}
 use Rattle.gate.specs.Rules.{Admitted}
-use Rattle.finding.specs.internal.Knows.{mostLevels}
 use borrow.Author.Needs.{needs}
 use Rattle.reading.proofs.judging.judge_known.Statement.{statement}
 use Rattle.reading.proofs.judging.judge_known.Tie as tie
@@ -17,10 +12,6 @@ use Rattle.reading.proofs.judging.judge_known.Tie as tie
 -- where the function starts, by the place behind its first call
 abbrev start : tie.After-row-after → tie.Start
 start c = c .before .before .before .before
-
--- no table has room for more levels
-few : (c : tie.Start) (n : ℕ) → n ≤ length (c .args .levels .now) / levelWidth → n ≤ mostLevels
-few c n room = omega arith
 
 -- the profile admits the row, where its test says so
 inside : (c : tie.Else2) → Admitted (profileOf (start (c .before .before .before) .args .how)) (c .before .before .before .row-after .result)
@@ -56,7 +47,7 @@ returns-3 c = λ before gs rows g more fit nt st.
     let at = start (rowed .before) in
     let pre = at .pre in
     judges-plain fit nt st _ (pre .1 .tagged) (pre .1 .listed) (pre .1 .ended) _ (pre .0) (rowed .before .row-after .ensures) (rowed .if1 .left)
-    (inside admitted) (eqb-true _ 0 (sym (asked .is-plain .ensures) ∙ c .if3 .taken)) (few at _ (st .tells .room))
+    (inside admitted) (eqb-true _ 0 (sym (asked .is-plain .ensures) ∙ c .if3 .taken))
 
 ruled-verdict-requires : tie.Need-ruled-verdict-requires
 ruled-verdict-requires c κs = search needs
@@ -87,7 +78,7 @@ returns-5 c = λ before gs rows g more fit nt st.
     let at = start (rowed .before) in
     let pre = at .pre in
     judges-rest fit nt st _ (pre .1 .tagged) (pre .1 .listed) (pre .1 .ended) _ (pre .0) (rowed .before .row-after .ensures) (rowed .if1 .left)
-    (inside admitted) _ (ruled .ruled-verdict .ensures) (c .before .enum-told .given .1) (few at _ (st .tells .room)) _ (c .judge-late .ensures)
+    (inside admitted) _ (ruled .ruled-verdict .ensures) (c .before .enum-told .given .1) _ (c .judge-late .ensures)
 
 pub judge-known-spec : {M : Type 1} → statement M
 judge-known-spec =

@@ -3,7 +3,8 @@
 use mathlib.Core.Path.{_≡_, refl, sym, ap, _∙_}
 use borrow.Author.Tests.{eq-eqb, ne-eqb}
 use Rattle.rows.specs.Tags.{tag, tagNumber}
-use Rattle.finding.specs.internal.Knows.{knownAfter}
+use Rattle.finding.specs.internal.Lists.{placeOf}
+use Rattle.finding.specs.internal.Notes.{asksOf}
 use Rattle.reading.specs.internal.Judgements.{byLevel, byClosing}
 use borrow.Author.Needs.{needs}
 use Rattle.reading.proofs.judging.judge_late.Statement.{statement}
@@ -21,8 +22,14 @@ se-number = refl
 element-requires : tie.Need-element-requires
 element-requires c κs = search needs
 
-after-requires : tie.Need-after-requires
-after-requires c κs = search needs
+place-of-requires : tie.Need-place-of-requires
+place-of-requires c κs = search needs
+
+element-requires-2 : tie.Need-element-requires-2
+element-requires-2 c κs = search needs
+
+asks-of-requires : tie.Need-asks-of-requires
+asks-of-requires c κs = search needs
 
 judge-level-requires : tie.Need-judge-level-requires
 judge-level-requires c κs = search needs
@@ -31,14 +38,16 @@ by-level-requires : tie.Need-by-level-requires
 by-level-requires c κs = search needs
 
 returns : tie.Need-returns
-returns c = λ k.
+returns c = λ m ls h.
     let judged = c .before in
-    let known = judged .before in
-    let its = known .before .before .before in
+    let asked = judged .before in
+    let placed = asked .before .before in
+    let its = placed .before .before in
     let a = its .before .before .before .before .args in
-    let after : known .after .result ≡ knownAfter (a .state .known) _ = known .after .ensures ∙ ap (knownAfter (a .state .known)) (known .before .element .ensures) in
+    let asks = asked .asks-of .ensures ∙ ap asksOf (asked .before .element2 .ensures) in
+    let place = placed .place-of .ensures ∙ ap placeOf (placed .before .element .ensures) in
     rw (eq-eqb (a .tag) (tag "HL") (its .if1 .taken ∙ hl-number))
-    (c .by-level .ensures ∙ (λ i. byLevel (a .row) (after i) (judged .judge-level .ensures k after i)))
+    (c .by-level .ensures ∙ (λ i. byLevel (a .row) (asks i) (place i) (judged .judge-level .ensures m ls h place i)))
 
 judge-se-requires : tie.Need-judge-se-requires
 judge-se-requires c κs = search needs
@@ -50,7 +59,7 @@ enum-known-number : tie.Need-enum-known-number
 enum-known-number c = search needs
 
 returns-2 : tie.Need-returns-2
-returns-2 c = λ k.
+returns-2 c = λ m ls h.
     let judged = c .before .before in
     let its = judged .before in
     let other = its .before in
@@ -59,7 +68,7 @@ returns-2 c = λ k.
     (ap (byClosing (a .row)) (sym (c .enum-told .given .1) ∙ judged .judge-se .ensures))
 
 returns-3 : tie.Need-returns-3
-returns-3 c = λ k.
+returns-3 c = λ m ls h.
     let judged = c .before .before .before in
     let its = judged .before in
     let other = its .before in
@@ -68,7 +77,7 @@ returns-3 c = λ k.
     (ap (byClosing (a .row)) (sym (c .before .number .given .1) ∙ judged .judge-se .ensures))
 
 returns-4 : tie.Need-returns-4
-returns-4 c = λ k.
+returns-4 c = λ m ls h.
     let other = c .before in
     let a = other .before .before .before .before .args in
     rw (ne-eqb (a .tag) (tag "HL") (λ e. other .if1 .left (e ∙ sym hl-number)), ne-eqb (a .tag) (tag "SE") (λ e. c .if2 .left (e ∙ sym se-number))) refl
@@ -78,7 +87,9 @@ judge-late-spec =
     tie.close
     (tie.spec
     element-requires
-    after-requires
+    place-of-requires
+    element-requires-2
+    asks-of-requires
     judge-level-requires
     by-level-requires
     returns

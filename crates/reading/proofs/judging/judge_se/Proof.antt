@@ -6,10 +6,10 @@ use borrow.Author.Tests.{not-true, not-false}
 use Rattle.text.specs.Bytes.{Bytes}
 use Rattle.types.specs.Types.{numberOf}
 use Rattle.elements.specs.internal.Layouts.{elementIn}
-use Rattle.levels.specs.Rules.{filled}
 use Rattle.reading.specs.internal.Judgements.{openingControl}
 use Rattle.reading.proofs.reader.ClosingTests.{no-number, other-number, other-control, not-full, all-closed, same-by}
-use Rattle.finding.specs.internal.TableLevels.{tableLevels}
+use Rattle.finding.specs.internal.Entries.{countIn}
+use Rattle.finding.specs.internal.Answers.{noneOwes}
 use borrow.Author.Needs.{needs}
 use Rattle.reading.proofs.judging.judge_se.Statement.{statement}
 use Rattle.reading.proofs.judging.judge_se.Tie as tie
@@ -22,7 +22,7 @@ start c = c .before .before .before .before .before
 counted : (c : tie.After-number-of) → c .number-of .result ≡ numberOf (elementIn (start c .args .s .now) (start c .args .starts .now) (start c .args .layout) 1)
 counted c = c .number-of .ensures ∙ ap numberOf (c .before .element .ensures)
 
--- SE02, ST02, and whether each level marked 1 has a child
+-- SE02, ST02, and whether no level owes a child
 abbrev control : tie.Start → Bytes
 control c = elementIn (c .args .s .now) (c .args .starts .now) (c .args .layout) 2
 
@@ -30,7 +30,7 @@ abbrev opening : tie.Start → Bytes
 opening c = openingControl (c .args .s .now) (c .args .separators .element) (c .args .segments .now)
 
 abbrev full : tie.Start → Bool
-full c = filled (tableLevels (c .args .s .now) (c .args .separators .element) (c .args .segments .now) (c .args .levels .now) (c .args .state .known .levels))
+full c = noneOwes (c .args .levels .now) (countIn (c .args .levels .now) (c .args .state .levels))
 
 element-requires : tie.Need-element-requires
 element-requires c κs = search needs

@@ -45,6 +45,9 @@ read-on-requires c κs =
       (omega (arith, short .if2 .left), (made .before .set-special .ensures, made .next-table .ensures)),
     )
 
+clear-requires : tie.Need-clear-requires
+clear-requires c κs = search needs
+
 same-length : tie.Need-same-length
 same-length c = search needs
 
@@ -53,12 +56,13 @@ same-length-2 c = search needs
 
 returns-3 : tie.Need-returns-3
 returns-3 c =
-    let ended = c .before .before .before .before in
+    let cleared = c .before .before in
+    let ended = cleared .before .before .before .before .before .before in
     let short = tested (ended .before) in
     let fitting = short .before in
     let told = fitting .before .fit in
     let a = start (fitting .before) .args in
-    segments-decide (a .how) (a .s .now) _ (told .result) (told .ensures) (fitting .if1 .left) (omega (arith, short .if2 .left)) _ _ (ended .read-on .ensures)
+    segments-decide (a .how) (a .s .now) _ (told .result) (told .ensures) (fitting .if1 .left) (omega (arith, short .if2 .left)) _ _ (rw (cleared .clear .ensures) (ended .read-on .ensures))
 
 pub read-spec : {M : Type 1} → statement M
 read-spec =
@@ -70,6 +74,7 @@ read-spec =
     set-special-requires
     next-table-requires
     read-on-requires
+    clear-requires
     same-length
     same-length-2
     returns-3)

@@ -3,7 +3,8 @@
 use Prim.Native.Nat.{_-_}
 use mathlib.Core.Path.{refl}
 use native.Mathlib.Omega.{arith}
-use lib.ListN.{length}
+use lib.ListN.{length, getD-replicate}
+use Rattle.finding.specs.internal.Lists.{lists}
 use borrow.Author.Needs.{needs}
 use Rattle.reading.specs.internal.Loop.{Going}
 use Rattle.reading.proofs.reader.Going.{going-start, onward-stands, onward-ready, onward-forward, segments-few, segments-same, levels-same, open-refuses, broken-refuses, bad-within, bad-refuses, cut-good, good-forward, good-within, good-inside, in-room, settled-done, settled-passed}
@@ -11,11 +12,11 @@ use Rattle.reading.proofs.reading.read_on.Statement.{statement}
 use Rattle.reading.proofs.reading.read_on.Tie as tie
 
 abbrev Inv-loop : tie.InvT-loop
-Inv-loop s how specials table segments₀ levels₀ queue₀ starts₀ behind₀ left₀ state₀ segments levels queue starts behind left state =
-    Going how s specials (record { segments = segments₀; levels = levels₀ }) segments levels queue starts behind left state
+Inv-loop s how specials table segments₀ levels₀ lasts₀ queue₀ starts₀ behind₀ left₀ state₀ segments levels lasts queue starts behind left state =
+    Going how s specials (record { segments = segments₀; levels = levels₀ }) segments levels lasts queue starts behind left state
 
 abbrev μ-loop : tie.MeasureT-loop
-μ-loop s how specials table segments₀ levels₀ queue₀ starts₀ behind₀ left₀ state₀ segments levels queue starts behind left state =
+μ-loop s how specials table segments₀ levels₀ lasts₀ queue₀ starts₀ behind₀ left₀ state₀ segments levels lasts queue starts behind left state =
     length s - behind
 
 -- The places: the start, the loop, the segment's layout behind its cut, and the judgement before the settlement
@@ -29,17 +30,17 @@ abbrev cut : tie.After-layout Inv-loop μ-loop → tie.After-next-segment Inv-lo
 cut c = c .before .before
 
 abbrev laid : tie.After-judge Inv-loop μ-loop → tie.After-layout Inv-loop μ-loop
-laid c = c .before .before .before .before .before
+laid c = c .before .before .before .before .before .before
 
 abbrev judged : tie.After-settle Inv-loop μ-loop → tie.After-judge Inv-loop μ-loop
-judged c = c .before .before .before
+judged c = c .before .before .before .before
 
 -- where the segment is passed, from the settlement on
 abbrev passed : tie.After-struct-known Inv-loop μ-loop → tie.After-settle Inv-loop μ-loop
 passed c = c .before .before .before .before .before .before .before .before
 
 loop-holds : tie.Need-loop-holds Inv-loop μ-loop
-loop-holds c = going-start _ _ _ _ _ _ refl refl
+loop-holds c = going-start _ _ _ _ _ _ _ refl (λ place h. getD-replicate lists place 0 0 h) refl refl
 
 next-start-requires : tie.Need-next-start-requires Inv-loop μ-loop
 next-start-requires c κs = start c .pre .1 .0
@@ -121,13 +122,13 @@ enum-known-layout c = search needs
 
 judge-requires : tie.Need-judge-requires Inv-loop μ-loop
 judge-requires c κs =
-    let at = c .before .before .before .before in
+    let at = c .before .before .before .before .before in
     let told = cut at .next-segment in
     (start (looped (cut at)) .pre .1 .1 .1, good-inside (cut-good (told .result) (told .ensures) (at .layout .given .1)))
 
 settle-requires : tie.Need-settle-requires Inv-loop μ-loop
 settle-requires c κs =
-    let at = laid (c .before .before) in
+    let at = laid (c .before .before .before) in
     let told = cut at .next-segment in
     let loop = looped (cut at) in
     in-room (cut-good (told .result) (told .ensures) (at .layout .given .1))
@@ -154,7 +155,7 @@ returns-4 c =
     let told = cut at .next-segment in
     let loop = looped (cut at) in
     settled-done (cut-good (told .result) (told .ensures) (at .layout .given .1))
-    (onward-stands (loop .loop .inv) (cut at .before .before .before .next-start .ensures)) (start loop .pre .0) _ (said .judge .ensures) _ _ _
+    (onward-stands (loop .loop .inv) (cut at .before .before .before .next-start .ensures)) (start loop .pre .0) _ (start loop .pre .1 .0) (said .judge .ensures) _ _ _ _
     (settled .settle .ensures) _ (c .before .answer .given .1)
 
 enum-known-next : tie.Need-enum-known-next Inv-loop μ-loop
@@ -184,7 +185,7 @@ loop-again c =
     let good = cut-good (told .result) (told .ensures) (at .layout .given .1) in
     let stands = onward-stands (loop .loop .inv) (cut at .before .before .before .next-start .ensures) in
     record {
-      stands = settled-passed good stands (start loop .pre .0) _ (said .judge .ensures) _ _ _ (settled .settle .ensures) _ (c .before .before .next .given .1);
+      stands = settled-passed good stands (start loop .pre .0) _ (start loop .pre .1 .0) (said .judge .ensures) _ _ _ _ (settled .settle .ensures) _ (c .before .before .next .given .1);
       ready = good .ready;
       room = good .cut-as .laid .room;
     }

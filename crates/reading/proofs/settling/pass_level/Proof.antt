@@ -15,7 +15,7 @@ segment-fits : (c : tie.Else1) → c .before .before .before .before .before .ar
 segment-fits c = room (c .before .segment-room .result) _ _ (c .before .segment-room .ensures) (c .if1 .left)
 
 -- and behind that of the level table in that one
-level-fits : (c : tie.Else2) → c .before .before .before .before .before .before .before .before .args .state .known .levels < length (c .before .before .before .before .before .before .before .before .args .levels .now) / levelWidth
+level-fits : (c : tie.Else2) → c .before .before .before .before .before .before .before .before .args .state .levels < length (c .before .before .before .before .before .before .before .before .args .levels .now) / levelWidth
 level-fits c = room (c .before .level-room .result) _ _ (c .before .level-room .ensures) (c .if2 .left)
 
 -- no table has room for more records
@@ -32,7 +32,7 @@ same-length : tie.Need-same-length
 same-length c = search needs
 
 returns : tie.Need-returns
-returns c = λ how before s gs rows g more t. full-level t _ _ _ refl (no-room (c .before .before .segment-room .result) _ _ (c .before .before .segment-room .ensures) (c .before .if1 .taken)) _ (c .refusal .ensures)
+returns c = λ how before s gs rows g more t. full-level t _ _ refl (no-room (c .before .before .segment-room .result) _ _ (c .before .before .segment-room .ensures) (c .before .if1 .taken)) _ (c .refusal .ensures)
 
 level-room-requires : tie.Need-level-room-requires
 level-room-requires c κs = search needs
@@ -47,20 +47,26 @@ same-length-3 : tie.Need-same-length-3
 same-length-3 c = search needs
 
 returns-2 : tie.Need-returns-2
-returns-2 c = λ how before s gs rows g more t. full-levels t _ _ _ refl (no-room (c .before .before .level-room .result) _ _ (c .before .before .level-room .ensures) (c .before .if2 .taken)) _ (c .refusal2 .ensures)
+returns-2 c = λ how before s gs rows g more t. full-levels t _ _ refl (no-room (c .before .before .level-room .result) _ _ (c .before .before .level-room .ensures) (c .before .if2 .taken)) _ (c .refusal2 .ensures)
+
+add-number : tie.Need-add-number
+add-number c = record { fits = omega (arith, level-fits (c .before)) }
 
 put-segment-requires : tie.Need-put-segment-requires
-put-segment-requires c κs = let roomy = c .before .before .before .before in (roomy .before .before .before .before .before .pre .forward, segment-fits roomy)
+put-segment-requires c κs =
+    let roomy = c .before .before .before .before .before in
+    (roomy .before .before .before .before .before .pre .forward, segment-fits roomy)
 
 add-put-level : tie.Need-add-put-level
 add-put-level c = search needs
 
 put-level-requires : tie.Need-put-level-requires
-put-level-requires c κs = level-fits (c .before .before .before .before .before .before)
+put-level-requires c κs = level-fits (c .before .before .before .before .before .before .before .before)
 
 after-requires : tie.Need-after-requires
 after-requires c κs =
-    let roomy = c .before .before .before .before .before .before .before .before .before .before .before .before in
+    let put = c .before .before .before .before .before .before .before .before in
+    let roomy = put .before .before .before .before .before .before in
     small (roomy .before .before .before .before .before) _ (segment-fits roomy)
 
 same-length-4 : tie.Need-same-length-4
@@ -71,11 +77,11 @@ same-length-5 c = search needs
 
 returns-3 : tie.Need-returns-3
 returns-3 c = λ how before s gs rows g more t.
-    let put = c .before .before .before in
-    let stored = put .before .before .before .before .before in
-    let fitting = stored .before .before in
-    settles-level t _ _ _ refl (segment-fits (fitting .before .before .before)) (level-fits fitting) _ (stored .put-segment .ensures) _
-    (put .put-level .ensures) _ (c .after .ensures)
+    let entered = c .before .before .before in
+    let stored = entered .before .before .before .before .before .before in
+    let fitting = stored .before .before .before in
+    settles-level t _ _ refl (segment-fits (fitting .before .before .before)) (level-fits fitting) _ (stored .put-segment .ensures) _
+    (entered .put-level .ensures .0) _ (entered .put-level .ensures .1) _ (c .after .ensures)
 
 pub pass-level-spec : {M : Type 1} → statement M
 pass-level-spec =
@@ -90,6 +96,7 @@ pass-level-spec =
     same-length-2
     same-length-3
     returns-2
+    add-number
     put-segment-requires
     add-put-level
     put-level-requires

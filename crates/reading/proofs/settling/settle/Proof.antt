@@ -36,7 +36,7 @@ same-length : tie.Need-same-length
 same-length c = search needs
 
 returns-2 : tie.Need-returns-2
-returns-2 c = λ how before s gs rows g more t. c .before .before .pass-other .ensures _ how before s gs rows g more (judged-so t _ (c .before .before .before .before .before .judgement2 .given .1))
+returns-2 c = λ how before s gs rows g more t. c .before .before .pass-other .ensures _ _ how before s gs rows g more (judged-so t _ (c .before .before .before .before .before .judgement2 .given .1))
 
 same-length-2 : tie.Need-same-length-2
 same-length-2 c = search needs
@@ -45,13 +45,13 @@ same-length-3 : tie.Need-same-length-3
 same-length-3 c = search needs
 
 returns-3 : tie.Need-returns-3
-returns-3 c = λ how before s gs rows g more t. c .before .before .before .before .pass-level .ensures how before s gs rows g more (judged-so t _ (c .before .before .before .before .before .before .before .before .judgement3 .given .1))
+returns-3 c = λ how before s gs rows g more t. c .before .before .before .before .pass-level .ensures how before s gs rows g more (judged-so t _ (c .before .before .before .before .before .before .before .before .before .judgement3 .given .1))
 
 same-length-4 : tie.Need-same-length-4
 same-length-4 c = search needs
 
 returns-4 : tie.Need-returns-4
-returns-4 c = λ how before s gs rows g more t. c .before .before .close .ensures _ how before s gs rows g more (judged-so t _ (c .before .before .before .before .before .judgement4 .given .1))
+returns-4 c = λ how before s gs rows g more t. c .before .before .close .ensures _ _ how before s gs rows g more (judged-so t _ (c .before .before .before .before .before .judgement4 .given .1))
 
 pub settle-spec : {M : Type 1} → statement M
 settle-spec =

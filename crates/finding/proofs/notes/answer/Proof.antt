@@ -1,0 +1,18 @@
+-- `answer` meets its contract.
+-- Assumes nothing.
+use borrow.Author.Tests.{eq-eqb, ne-eqb}
+use borrow.Author.Needs.{needs}
+use Rattle.finding.proofs.notes.answer.Statement.{statement}
+use Rattle.finding.proofs.notes.answer.Tie as tie
+
+sub-result : tie.Need-sub-result
+sub-result c = search needs
+
+returns : tie.Need-returns
+returns c = simp (eq-eqb _ _ (c .if1 .taken))
+
+returns-2 : tie.Need-returns-2
+returns-2 c = simp (ne-eqb _ _ (c .if1 .left))
+
+pub answer-spec : {M : Type 1} → statement M
+answer-spec = tie.close (tie.spec sub-result returns returns-2)
