@@ -2,7 +2,7 @@
 -- Assumes nothing.
 use Prim.Native.Nat.{ℕ, suc, _+_, _-_, _≤_, _<_, min}
 use mathlib.Core.Path.{_≡_, refl, sym, ap, subst, _∙_}
-use mathlib.Core.Bool.{Bool, true, false, true≢false}
+use mathlib.Core.Bool.{Bool, true, false}
 use mathlib.Core.Logic.{_⊎_, inl, inr, by-cases}
 use mathlib.Core.List.{List, [], _∷_, _++_}
 use native.Mathlib.Omega.{arith}
@@ -15,7 +15,7 @@ use Rattle.text.specs.Bytes.{Bytes, same}
 use Rattle.text.specs.Pieces.{pieces, joined}
 use Rattle.text.proofs.Pieces.{Clean, pieces-some, joined-pieces, pieces-clean, pieces-free, pieces-cut, firstPiece}
 use Rattle.text.specs.internal.Search.{Free}
-use Rattle.text.proofs.Sames.{same-true, same-false, true-same}
+use Rattle.text.proofs.Sames.{same-true, same-false}
 use Rattle.finding.specs.internal.PieceEnds.{MayEnd}
 
 -- a piece that is too long, one that ends with the bytes, and one after which the next byte decides
@@ -106,22 +106,6 @@ module _ (separator : ℕ) (s id : Bytes) where
 
   pub first-unfree : (Free separator id → ⊥) → same (firstPiece separator s) id ≡ false
   first-unfree h = same-false (firstPiece separator s) id (λ e. h (subst (Free separator) e (first-free separator s)))
-
-  -- where the piece may end, it is the same as id exactly if as many bytes are
-  pub first-compared : Free separator id → MayEnd separator s (length id) true → same (firstPiece separator s) id ≡ same (take (length id) s) id
-  first-compared free ends = by-value (same (take (length id) s) id) refl
-    where
-      by-value : (b : Bool) → same (take (length id) s) id ≡ b → same (firstPiece separator s) id ≡ b
-      by-value true e =
-          first-met free ends
-          (λ j l. sym (getD-take (length id) s j 0 l) ∙ ap (λ (x : Bytes). getD x j 0) (true-same (take (length id) s) id e))
-      by-value false e =
-          same-false (firstPiece separator s) id
-          (λ q.
-          let front : take (length id) s ≡ id =
-          equal-bytes (take (length id) s) id (length-take (length id) s ∙ omega (arith, ends-inside separator s (length id) ends))
-          (λ j l. getD-take (length id) s j 0 l ∙ agrees-when (begins-if q) j l) in
-          absurd (true≢false (sym (same-true (take (length id) s) id front) ∙ e)))
 
 -- the bytes from a place on, where the place may lie beyond the end
 pub drop-within : (n : ℕ) (s : Bytes) → drop (min n (length s)) s ≡ drop n s

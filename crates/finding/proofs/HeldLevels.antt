@@ -1,7 +1,7 @@
 -- What the tables that hold the levels tell: a level as a parent, and whether each level marked 1 has a child.
 -- Assumes nothing.
 use Prim.Native.Nat.{ℕ, suc, _+_, _≤_, min}
-use mathlib.Core.Path.{_≡_, refl, sym, ap, _∙_}
+use mathlib.Core.Path.{_≡_, refl}
 use mathlib.Core.Bool.{Bool, true, false, not, cond, _&&_, _||_}
 use mathlib.Core.Logic.{by-cases}
 use mathlib.Core.List.{List, [], _∷_}
@@ -18,7 +18,7 @@ use Rattle.levels.specs.internal.Answers.{asParent}
 use Rattle.finding.specs.internal.Entries.{levelEntry, deepest}
 use Rattle.finding.specs.internal.Notes.{codeIn, asksIn}
 use Rattle.finding.specs.internal.Answers.{parentIn, noneOwes}
-use Rattle.finding.specs.internal.TablesHold.{hasChild, stillAsks, Held, HeldAll, TablesHold}
+use Rattle.finding.specs.internal.TablesHold.{hasChild, HeldAll, TablesHold}
 
 -- a level is shut exactly if its mark is 0
 shut-by : (zero one : Bool) → eqb (cond zero 1 (cond one 2 0)) 1 ≡ zero

@@ -3,17 +3,13 @@
 use Prim.Native.Nat.{ℕ, _+_, _-_, _<_, min}
 use mathlib.Core.Path.{_≡_, sym, ap, _∙_}
 use mathlib.Core.Bool.{true, false}
-use mathlib.Core.Logic.{inr}
-use mathlib.Core.List.{List}
-use native.Mathlib.Omega.{arith}
-use lib.ListN.{length, take, drop, getD, length-drop}
+use lib.ListN.{length, drop, getD}
 use lib.Seq.{getD-drop}
 use Rattle.text.specs.Bytes.{Bytes, same}
 use Rattle.text.specs.internal.Search.{Free}
-use Rattle.finding.specs.internal.Entries.{startOf, levelEntry}
 use Rattle.finding.specs.internal.Answers.{idAt}
 use Rattle.finding.specs.internal.PieceEnds.{MayEnd}
-use Rattle.finding.proofs.FirstPiece.{first-met, first-compared, first-other-end, first-other-byte, first-unfree, drop-within}
+use Rattle.finding.proofs.FirstPiece.{first-met, first-other-end, first-other-byte, first-unfree, drop-within}
 use Rattle.text.proofs.Pieces.{firstPiece}
 
 -- the HL01 of a segment that starts at `start` is looked for from `from` on
@@ -30,13 +26,6 @@ module _ (s : Bytes) (separator start from : ℕ) (id : Bytes) (place : from ≡
   pub id-met : Free separator id → MayEnd separator (drop from s) (length id) true
       → ((j : ℕ) → j < length id → getD s (from + j) 0 ≡ getD id j 0) → same (idAt s separator start) id ≡ true
   id-met free ends agree = id-piece ∙ first-met separator (drop from s) id free ends (λ j l. getD-drop from s j 0 ∙ agree j l)
-
-  -- it may end there: it is the same exactly if as many bytes are
-  pub id-compared : Free separator id → MayEnd separator (drop from s) (length id) true
-      → same (take (from + length id - from) (drop from s)) id ≡ same (idAt s separator start) id
-  id-compared free ends =
-      let size : from + length id - from ≡ length id = omega arith in
-      sym (id-piece ∙ rw size (first-compared separator (drop from s) id free ends))
 
   -- the HL01 does not end there, or a byte differs: it is another
   pub id-other-end : MayEnd separator (drop from s) (length id) false → same (idAt s separator start) id ≡ false

@@ -1,7 +1,7 @@
 -- Tables that hold the levels so far: before the first segment, behind a segment more, and behind one that makes a level.
 -- Assumes nothing.
 use Prim.Native.Nat.{ℕ, suc, _+_, _-_, _*_, _/_, _%_, _≤_, _<_, min}
-use mathlib.Core.Path.{_≡_, refl, sym, ap, subst, _∙_}
+use mathlib.Core.Path.{_≡_, refl, sym, ap, _∙_}
 use mathlib.Core.Bool.{Bool, true, false, not, cond, _&&_, _||_}
 use mathlib.Core.Logic.{inr, by-cases}
 use mathlib.Core.List.{List, [], _∷_, _++_, append-assoc}
@@ -10,8 +10,8 @@ use native.Mathlib.Decide.{decLt}
 use lib.Dec.{eqb}
 use lib.ListN.{length, take, drop, getD, set, length-append, length-set, take-append-drop}
 use lib.Seq.{drop-at, drop-drop, getD-set-same, getD-set-other}
-use borrow.Author.Tests.{eq-eqb, ne-eqb, eqb-true, eqb-false, le-leb}
-use Rattle.text.specs.Bytes.{Bytes, bytes, between, same, any}
+use borrow.Author.Tests.{ne-eqb, eqb-true, eqb-false, le-leb}
+use Rattle.text.specs.Bytes.{Bytes, bytes, same}
 use Rattle.text.specs.Pieces.{pieces, joined}
 use Rattle.text.proofs.Bools.{and-false, and-true}
 use Rattle.text.proofs.Pieces.{Clean, joined-pieces, pieces-clean}

@@ -15,15 +15,9 @@ entryOf width table n k = cond (between 1 (length table / width) n) (getD table 
 abbrev pub storedAt : ℕ → List ℕ → ℕ → List ℕ → List ℕ
 storedAt width table n numbers = take (n * width) table ++ (numbers ++ drop (n * width + width) table)
 
--- number k of the record of segment n, and where the segment starts and how long it is
-abbrev pub segmentEntry : List ℕ → ℕ → ℕ → ℕ
-segmentEntry segments n k = entryOf segmentWidth segments n k
-
+-- where segment n starts
 abbrev pub startOf : List ℕ → ℕ → ℕ
-startOf segments n = segmentEntry segments n 0
-
-abbrev pub lengthOf : List ℕ → ℕ → ℕ
-lengthOf segments n = segmentEntry segments n 1
+startOf segments n = entryOf segmentWidth segments n 0
 
 -- number k of the record of level n
 abbrev pub levelEntry : List ℕ → ℕ → ℕ → ℕ

@@ -1,6 +1,6 @@
 -- Lent bytes and tables, and the last level of each list, that hold the levels so far.
 -- Assumes nothing.
-use Prim.Native.Nat.{ℕ, suc, _+_, _/_, _≤_, _<_, min}
+use Prim.Native.Nat.{ℕ, suc, _/_, _≤_, _<_, min}
 use mathlib.Core.Path.{_≡_}
 use mathlib.Core.Bool.{Bool, not, cond, _&&_}
 use mathlib.Core.List.{List, [], _∷_}
