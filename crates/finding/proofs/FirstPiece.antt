@@ -1,21 +1,22 @@
--- The first piece of bytes against other bytes: when the two are the same, and what shows that they differ.
+-- The first piece of bytes against other bytes: where it may end, and whether the bytes start with the others.
 -- Assumes nothing.
-use Prim.Native.Nat.{ℕ, suc, _+_, _-_, _≤_, _<_, min}
-use mathlib.Core.Path.{_≡_, refl, sym, ap, subst, _∙_}
-use mathlib.Core.Bool.{Bool, true, false}
-use mathlib.Core.Logic.{_⊎_, inl, inr, by-cases}
-use mathlib.Core.List.{List, [], _∷_, _++_}
+use Prim.Native.Nat.{ℕ, zero, suc, _+_, _-_, _≤_, _<_, min}
+use mathlib.Core.Path.{_≡_, refl, sym, ap, _∙_}
+use mathlib.Core.Bool.{Bool, true, false, _&&_}
+use mathlib.Core.Logic.{inl, inr, by-cases}
+use mathlib.Core.List.{List, [], _∷_}
 use native.Mathlib.Omega.{arith}
 use native.Mathlib.Decide.{decLt}
 use lib.Dec.{eqb}
-use lib.ListN.{length, take, drop, getD, length-append, length-take, length-drop, drop-of-length-le, List·getD-append}
-use lib.Seq.{split-at, ext-getD, getD-take, getD-drop, getD-append-seam}
-use borrow.Author.Tests.{eqb-true, eqb-false}
+use lib.ListN.{length, drop, getD, length-drop, drop-of-length-le}
+use lib.Seq.{getD-drop}
+use borrow.Author.Tests.{eq-eqb, ne-eqb, eqb-true, eqb-false}
 use Rattle.text.specs.Bytes.{Bytes, same}
-use Rattle.text.specs.Pieces.{pieces, joined}
-use Rattle.text.proofs.Pieces.{Clean, pieces-some, joined-pieces, pieces-clean, pieces-free, pieces-cut, firstPiece}
+use Rattle.text.specs.Pieces.{before, pieces}
 use Rattle.text.specs.internal.Search.{Free}
-use Rattle.text.proofs.Sames.{same-true, same-false}
+use Rattle.text.proofs.Bools.{and-false}
+use Rattle.text.proofs.Pieces.{firstPiece}
+use Rattle.finding.specs.internal.Answers.{startsWith}
 use Rattle.finding.specs.internal.PieceEnds.{MayEnd}
 
 -- a piece that is too long, one that ends with the bytes, and one after which the next byte decides
@@ -34,78 +35,63 @@ module _ (separator : ℕ) (s : Bytes) (from n : ℕ) where
       by-value false e =
           inr (rw (length-drop from s) h, λ q. eqb-false (getD s (from + n) 0) separator e (sym (getD-drop from s n 0) ∙ q))
 
--- a piece that may end there lies within the bytes
-pub ends-inside : (separator : ℕ) (s : Bytes) (n : ℕ) → MayEnd separator s n true → n ≤ length s
-ends-inside separator s n (inl e) = omega (arith, e)
-ends-inside separator s n (inr m) = omega (arith, m .0)
+-- one byte less of the bytes and of the piece
+ends-behind : (separator b : ℕ) (s : Bytes) (n : ℕ) (t : Bool) → MayEnd separator (b ∷ s) (suc n) t → MayEnd separator s n t
+ends-behind separator b s n true (inl e) = inl (omega (arith, e))
+ends-behind separator b s n true (inr m) = inr (omega (arith, m .0), m .1)
+ends-behind separator b s n false (inl e) = inl (omega (arith, e))
+ends-behind separator b s n false (inr m) = inr (omega (arith, m .0), m .1)
 
--- the bytes begin with the piece p: they are p, or p and a separator come first
-abbrev pub Begins : ℕ → Bytes → Bytes → Type 0
-Begins separator s p = (s ≡ p) ⊎ ((rest : Bytes) × (s ≡ p ++ separator ∷ rest))
+-- every byte agrees, and the piece may end with the last: the bytes start with it
+pub starts-met : (separator : ℕ) (id s : Bytes) → MayEnd separator s (length id) true → ((j : ℕ) → j < length id → getD s j 0 ≡ getD id j 0)
+    → startsWith separator id s ≡ true
+starts-met separator [] [] ends agree = refl
+starts-met separator [] (b ∷ s) (inl e) agree = absurd (omega (arith, e))
+starts-met separator [] (b ∷ s) (inr m) agree = eq-eqb b separator (m .1)
+starts-met separator (c ∷ id) [] (inl e) agree = absurd (omega (arith, e))
+starts-met separator (c ∷ id) [] (inr m) agree = absurd (omega (arith, m .0))
+starts-met separator (c ∷ id) (b ∷ s) ends agree =
+    rw (eq-eqb b c (agree 0 (omega arith)))
+    (starts-met separator id s (ends-behind separator b s (length id) true ends) (λ j l. agree (suc j) (omega arith)))
 
--- bytes begin with their first piece, in which no separator stands
-pub begins-first : (separator : ℕ) (s : Bytes) → Begins separator s (firstPiece separator s)
-begins-first separator s = by-pieces (pieces separator s) (pieces-some separator s) (joined-pieces separator s)
-  where
-    by-pieces : (ps : List Bytes) → 0 < length ps → joined separator ps ≡ s → Begins separator s (getD ps 0 [])
-    by-pieces [] h e = absurd (omega arith)
-    by-pieces (p ∷ []) h e = inl (sym e)
-    by-pieces (p ∷ (q ∷ ps)) h e = inr (joined separator (q ∷ ps), sym e)
+-- it does not end there: they do not
+pub starts-other-end : (separator : ℕ) (id s : Bytes) → MayEnd separator s (length id) false → startsWith separator id s ≡ false
+starts-other-end separator [] [] (inl e) = absurd (omega (arith, e))
+starts-other-end separator [] [] (inr m) = absurd (omega (arith, m .0))
+starts-other-end separator [] (b ∷ s) (inl e) = absurd (omega (arith, e))
+starts-other-end separator [] (b ∷ s) (inr m) = ne-eqb b separator (m .1)
+starts-other-end separator (c ∷ id) [] ends = refl
+starts-other-end separator (c ∷ id) (b ∷ s) ends =
+    rw (starts-other-end separator id s (ends-behind separator b s (length id) false ends)) (and-false (eqb b c))
 
-pub first-free : (separator : ℕ) (s : Bytes) → Free separator (firstPiece separator s)
-first-free separator s = by-pieces (pieces separator s) (pieces-clean separator s)
-  where
-    by-pieces : (ps : List Bytes) → Clean separator ps → Free separator (getD ps 0 [])
-    by-pieces [] f = tt
-    by-pieces (p ∷ ps) f = f .0
+-- a byte differs: they do not
+pub starts-other-byte : (separator : ℕ) (id s : Bytes) (j : ℕ) → j < length id → (getD s j 0 ≡ getD id j 0 → ⊥) → startsWith separator id s ≡ false
+starts-other-byte separator [] s j l h = absurd (omega arith)
+starts-other-byte separator (c ∷ id) [] j l h = refl
+starts-other-byte separator (c ∷ id) (b ∷ s) zero l h = rw (ne-eqb b c h)
+starts-other-byte separator (c ∷ id) (b ∷ s) (suc j) l h = rw (starts-other-byte separator id s j (omega arith) h) (and-false (eqb b c))
 
--- what they begin with and holds no separator is the first piece
-pub begins-once : (separator : ℕ) (s p : Bytes) → Free separator p → Begins separator s p → firstPiece separator s ≡ p
-begins-once separator s p f (inl e) = rw (e, pieces-free separator p f)
-begins-once separator s p f (inr b) = rw (b .1, pieces-cut separator p (b .0) f)
+-- the first piece is empty exactly where a separator comes first
+first-none : (t : Bool) (b : ℕ) (ps : List Bytes) → t ≡ same (getD (before t b ps) 0 []) []
+first-none true b ps = refl
+first-none false b [] = refl
+first-none false b (p ∷ ps) = refl
 
--- bytes of which no byte differs
-equal-bytes : (s t : Bytes) → length s ≡ length t → ((j : ℕ) → j < length t → getD s j 0 ≡ getD t j 0) → s ≡ t
-equal-bytes s t e f = ext-getD 0 s t e (λ j l. f j (omega arith))
+-- a byte that is no separator agrees with the first piece's first, or does not
+first-more : (separator b c : ℕ) (id : Bytes) (ps : List Bytes) (t : Bool) → eqb b separator ≡ t → (c ≡ separator → ⊥)
+    → eqb b c && same (getD ps 0 []) id ≡ same (getD (before t b ps) 0 []) (c ∷ id)
+first-more separator b c id ps true e h = rw (ne-eqb b c (λ q. h (sym q ∙ eqb-true b separator e)))
+first-more separator b c id [] false e h = refl
+first-more separator b c id (p ∷ ps) false e h = refl
 
-module _ (separator : ℕ) (s id : Bytes) where
-  -- each byte agrees and the piece may end: the bytes begin with it
-  begins-when : MayEnd separator s (length id) true → ((j : ℕ) → j < length id → getD s j 0 ≡ getD id j 0) → Begins separator s id
-  begins-when (inl e) f = inl (equal-bytes s id e f)
-  begins-when (inr m) f =
-      let front : take (length id) s ≡ id =
-      equal-bytes (take (length id) s) id (length-take (length id) s ∙ omega (arith, m .0)) (λ j l. getD-take (length id) s j 0 l ∙ f j l) in
-      inr (drop (suc (length id)) s, split-at s (length id) 0 (m .0) ∙ rw (front, m .1))
-
-  -- the bytes begin with it: it may end, and each byte agrees
-  ends-when : Begins separator s id → MayEnd separator s (length id) false → ⊥
-  ends-when (inl e) (inl m) = omega (arith, ap length e, m)
-  ends-when (inl e) (inr m) = omega (arith, ap length e, m .0)
-  ends-when (inr b) (inl m) = omega (arith, simp length-append at (ap length (b .1)), m)
-  ends-when (inr b) (inr m) = m .1 (ap (λ (x : Bytes). getD x (length id) 0) (b .1) ∙ getD-append-seam id separator (b .0) 0)
-
-  agrees-when : Begins separator s id → (j : ℕ) → j < length id → getD s j 0 ≡ getD id j 0
-  agrees-when (inl e) j l = ap (λ (x : Bytes). getD x j 0) e
-  agrees-when (inr b) j l = ap (λ (x : Bytes). getD x j 0) (b .1) ∙ List·getD-append id (separator ∷ b .0) 0 j l
-
-  -- every byte agrees, and the piece ends with the last: the first piece is the same
-  pub first-met : Free separator id → MayEnd separator s (length id) true → ((j : ℕ) → j < length id → getD s j 0 ≡ getD id j 0)
-      → same (firstPiece separator s) id ≡ true
-  first-met free ends agree = same-true (firstPiece separator s) id (begins-once separator s id free (begins-when ends agree))
-
-  -- where it is id, the bytes begin with id
-  begins-if : firstPiece separator s ≡ id → Begins separator s id
-  begins-if e = subst (Begins separator s) e (begins-first separator s)
-
-  -- the piece does not end there, a byte differs, or id holds a separator: the first piece is another
-  pub first-other-end : MayEnd separator s (length id) false → same (firstPiece separator s) id ≡ false
-  first-other-end ends = same-false (firstPiece separator s) id (λ e. ends-when (begins-if e) ends)
-
-  pub first-other-byte : (j : ℕ) → j < length id → (getD s j 0 ≡ getD id j 0 → ⊥) → same (firstPiece separator s) id ≡ false
-  first-other-byte j l h = same-false (firstPiece separator s) id (λ e. h (agrees-when (begins-if e) j l))
-
-  pub first-unfree : (Free separator id → ⊥) → same (firstPiece separator s) id ≡ false
-  first-unfree h = same-false (firstPiece separator s) id (λ e. h (subst (Free separator) e (first-free separator s)))
+-- bytes start with others, in which no separator stands, exactly where these are the first piece
+pub starts-first : (separator : ℕ) (id s : Bytes) → Free separator id → startsWith separator id s ≡ same (firstPiece separator s) id
+starts-first separator [] [] f = refl
+starts-first separator [] (b ∷ s) f = first-none (eqb b separator) b (pieces separator s)
+starts-first separator (c ∷ id) [] f = refl
+starts-first separator (c ∷ id) (b ∷ s) f =
+    ap (λ (t : Bool). eqb b c && t) (starts-first separator id s (f .1))
+    ∙ first-more separator b c id (pieces separator s) (eqb b separator) refl (f .0)
 
 -- the bytes from a place on, where the place may lie beyond the end
 pub drop-within : (n : ℕ) (s : Bytes) → drop (min n (length s)) s ≡ drop n s

@@ -6,16 +6,18 @@ use mathlib.Core.Bool.{Bool, true, false, cond}
 use mathlib.Core.List.{List, [], _∷_}
 use native.Mathlib.Omega.{arith}
 use lib.Dec.{eqb}
-use lib.ListN.{length, getD}
+use lib.ListN.{length, drop, getD}
 use borrow.Author.Tests.{eqb-true, eqb-false}
 use Rattle.text.specs.Bytes.{Bytes, same}
+use Rattle.text.specs.internal.Search.{Free}
 use Rattle.text.proofs.Sames.{true-same}
 use Rattle.levels.specs.Levels.{Level, called}
 use Rattle.finding.specs.internal.Entries.{startOf, levelEntry}
 use Rattle.finding.specs.internal.Lists.{lists, placeFrom, placeOf, lastIn}
 use Rattle.finding.specs.internal.Notes.{linkIn}
-use Rattle.finding.specs.internal.Answers.{idAt, nameAt, soughtFrom, sought}
+use Rattle.finding.specs.internal.Answers.{startsWith, calls, soughtFrom, sought}
 use Rattle.finding.specs.internal.TablesHold.{Held, HeldAll, TablesHold}
+use Rattle.finding.proofs.FirstPiece.{starts-first}
 
 -- an HL01 belongs to one of the lists
 place-from-below : (n : ℕ) (id : Bytes) → n < lists → placeFrom n id < lists
@@ -36,7 +38,7 @@ pub last-within : (place : ℕ) (ls : List Level) → lastIn place ls ≤ length
 last-within place [] = omega arith
 last-within place (l ∷ ls) = either-within (eqb (placeOf (l .id)) place) (length ls) (lastIn place ls) (last-within place ls)
 
-module _ (s : Bytes) (separator : ℕ) (segments levels : List ℕ) (id : Bytes) where
+module _ (s : Bytes) (separator : ℕ) (segments levels : List ℕ) (id : Bytes) (free : Free separator id) where
   -- the search from the last level of its list on finds the level that the HL01 calls, with enough steps
   abbrev Finds : List Level → Type 0
   Finds ls = (k : ℕ) → lastIn (placeOf id) ls ≤ k → soughtFrom s separator segments levels id k (lastIn (placeOf id) ls) ≡ called id ls
@@ -47,8 +49,9 @@ module _ (s : Bytes) (separator : ℕ) (segments levels : List ℕ) (id : Bytes)
         → (k : ℕ) → suc (length ls) ≤ k → soughtFrom s separator segments levels id k (suc (length ls)) ≡ called id (l ∷ ls)
     finds-here h e f zero r = absurd (omega arith)
     finds-here h e f (suc k) r =
-        let name : nameAt s separator segments levels (suc (length ls)) ≡ l .id =
-        ap (λ (n : ℕ). idAt s separator (startOf segments n)) (h .segment-is) ∙ h .named in
+        let name : calls s separator segments levels (suc (length ls)) id ≡ same (l .id) id =
+        ap (λ (n : ℕ). startsWith separator id (drop (startOf segments n + 3) s)) (h .segment-is)
+        ∙ starts-first separator id (drop (startOf segments (l .segment) + 3) s) free ∙ ap (λ (p : Bytes). same p id) (h .named) in
         let link : min (linkIn (levelEntry levels (suc (length ls)) 3)) (length ls) ≡ lastIn (placeOf id) ls =
         ap (λ (n : ℕ). min n (length ls)) (h .link-is ∙ ap (λ (place : ℕ). lastIn place ls) e) ∙ omega (arith, last-within (placeOf id) ls) in
         rw (name, link) (ap (cond (same (l .id) id) (suc (length ls))) (f k (omega (arith, last-within (placeOf id) ls))))
@@ -79,13 +82,14 @@ module _ (s : Bytes) (separator : ℕ) (segments levels : List ℕ) (id : Bytes)
   finds-all m all [] h (suc k) r = refl
   finds-all m all (l ∷ ls) h k r = finds-more l ls (h .0) (finds-all m all ls (h .1)) k r
 
--- the level that is found in the list of an HL01 is the one that has it
+-- the level that is found in the list of an HL01, in which no separator stands, is the one that has it
 pub sought-called : {s : Bytes} {separator : ℕ} {segments levels lasts : List ℕ} {m : ℕ} {ls : List Level}
-    → TablesHold s separator segments levels lasts m ls → (id : Bytes) → sought s separator segments levels lasts (placeOf id) id ≡ called id ls
+    → TablesHold s separator segments levels lasts m ls → (id : Bytes) → Free separator id
+    → sought s separator segments levels lasts (placeOf id) id ≡ called id ls
 unfolding sought
-sought-called {s} {separator} {segments} {levels} {lasts} {m} {ls} h id =
+sought-called {s} {separator} {segments} {levels} {lasts} {m} {ls} h id free =
     let place : placeOf id % lists ≡ placeOf id = omega (arith, place-below id) in
     let last : getD lasts (placeOf id % lists) 0 ≡ lastIn (placeOf id) ls =
     ap (λ (n : ℕ). getD lasts n 0) place ∙ h .known (placeOf id) (place-below id) in
     ap (λ (n : ℕ). soughtFrom s separator segments levels id n n) last
-    ∙ finds-all s separator segments levels id m ls ls (h .each) (lastIn (placeOf id) ls) (omega arith)
+    ∙ finds-all s separator segments levels id free m ls ls (h .each) (lastIn (placeOf id) ls) (omega arith)

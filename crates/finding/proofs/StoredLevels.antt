@@ -3,7 +3,7 @@
 use Prim.Native.Nat.{ℕ, suc, _+_, _-_, _*_, _/_, _%_, _≤_, _<_, min}
 use mathlib.Core.Path.{_≡_, refl, sym, ap, _∙_}
 use mathlib.Core.Bool.{Bool, true, false, not, cond, _&&_, _||_}
-use mathlib.Core.Logic.{inr, by-cases}
+use mathlib.Core.Logic.{by-cases}
 use mathlib.Core.List.{List, [], _∷_, _++_, append-assoc}
 use native.Mathlib.Omega.{arith}
 use native.Mathlib.Decide.{decLt}
@@ -14,7 +14,7 @@ use borrow.Author.Tests.{ne-eqb, eqb-true, eqb-false, le-leb}
 use Rattle.text.specs.Bytes.{Bytes, bytes, same}
 use Rattle.text.specs.Pieces.{pieces, joined}
 use Rattle.text.proofs.Bools.{and-false, and-true}
-use Rattle.text.proofs.Pieces.{Clean, joined-pieces, pieces-clean}
+use Rattle.text.proofs.Pieces.{Clean, joined-pieces, pieces-clean, pieces-cut, firstPiece}
 use Rattle.levels.specs.Widths.{segmentWidth, levelWidth}
 use Rattle.levels.specs.Levels.{Level}
 use Rattle.finding.specs.internal.Entries.{levelEntry, startOf, storedAt, deepest}
@@ -23,7 +23,6 @@ use Rattle.finding.specs.internal.Notes.{noteOf, codeIn, asksIn, linkIn,
 use Rattle.finding.specs.internal.Answers.{idAt}
 use Rattle.finding.specs.internal.TablesHold.{hasChild, stillAsks, Held, HeldAll, TablesHold, HlBytes}
 use Rattle.finding.proofs.TableEntries.{SameRecords, same-entry, stored-same, stored-entry}
-use Rattle.finding.proofs.FirstPiece.{begins-once}
 use Rattle.finding.proofs.PlainTable.{answered-code, met-long}
 use Rattle.finding.proofs.ListSearch.{place-below, last-within}
 
@@ -37,8 +36,8 @@ second-piece separator s more (p ∷ (q ∷ (r ∷ ps))) some tag clean e =
     let rest = joined separator (r ∷ ps) ++ more in
     let whole : s ≡ (p ++ separator ∷ []) ++ (q ++ separator ∷ rest) = e ∙ simp append-assoc in
     let three : length (p ++ separator ∷ []) ≡ 3 = simp length-append (omega arith) in
-    begins-once separator (drop 3 s) q (clean .1 .0)
-    (inr (rest, ap (drop 3) whole ∙ drop-at (p ++ separator ∷ []) (q ++ separator ∷ rest) 3 three))
+    ap (λ (l : Bytes). firstPiece separator (drop 3 l)) whole
+    ∙ rw (drop-at (p ++ separator ∷ []) (q ++ separator ∷ rest) 3 three, pieces-cut separator q rest (clean .1 .0))
 
 -- so a segment tells its HL01, whatever follows it
 hl-id : (s : Bytes) (separator start len : ℕ) (id : Bytes) → HlBytes s separator start len id → idAt s separator start ≡ id

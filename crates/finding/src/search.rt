@@ -61,9 +61,6 @@ pub fn find(
 ) -> usize
     ensures { λ r. ⌜ r ≡ sought (now (s .entry)) separator (now (segments .entry)) (now (levels .entry)) (now (lasts .entry)) place (now (id .entry)) ⌝ }
 {
-    if text::search::holds(id, separator) {
-        return 0;
-    }
     let mut left = lists::last_in(lasts, place);
     'levels: while 0 < left {
         let n = left;

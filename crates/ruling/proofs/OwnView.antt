@@ -1,11 +1,11 @@
 -- The layout of a segment in the bytes describes the segment's own elements, up to element 31, and, where it is no BIN, its view and so the same
 -- verdict.
 -- Assumes nothing.
-use Prim.Native.Nat.{ℕ, zero, suc, _+_, _-_, _≤_, _<_}
+use Prim.Native.Nat.{ℕ, suc, _+_, _-_, _≤_, _<_}
 use mathlib.Core.Path.{_≡_, refl, sym, ap, ap₂, _∙_}
 use mathlib.Core.Logic.{by-cases}
 use mathlib.Core.Bool.{Bool, true, false, cond}
-use mathlib.Core.List.{List, [], _∷_}
+use mathlib.Core.List.{List, []}
 use native.Mathlib.Omega.{arith}
 use native.Mathlib.Decide.{decLt}
 use native.Mathlib.Nat.{add-sub-cancel-left}
@@ -14,7 +14,7 @@ use lib.ListN.{length, take, drop, getD, length-map, List·getD-map, List·getD-
 use borrow.Author.Tests.{lt-ltb, le-ltb, lt-leb, le-leb}
 use Rattle.text.specs.Bytes.{Bytes}
 use Rattle.text.specs.Pieces.{pieces, joined}
-use Rattle.text.proofs.Pieces.{Clean, pieces-free}
+use Rattle.text.proofs.Pieces.{clean-at, pieces-free}
 use Rattle.text.specs.internal.Search.{Free}
 use Rattle.text.specs.Bin.{isBin}
 use Rattle.text.specs.View.{View, viewOf, elementsOf, elementOf, elementCount}
@@ -34,11 +34,6 @@ use Rattle.elements.specs.internal.Layouts.{elementIn, partBetween, pieceIn, co
 use Rattle.elements.specs.declared.layout.Layout.{Layout}
 use Rattle.elements.proofs.ByLayout.{part-inside, view-count, view-element, view-at, at-past}
 use Rattle.ruling.proofs.UpTo31.{ruled-agree}
-
-clean-at : (x : ℕ) (ps : List Bytes) (k : ℕ) → Clean x ps → Free x (getD ps k [])
-clean-at x [] k c = tt
-clean-at x (p ∷ ps) zero c = c .0
-clean-at x (p ∷ ps) (suc k) c = clean-at x ps k (c .1)
 
 -- the layout is of this segment: it stands there, has so many elements, and they start where they are said to; "single" is said of none with
 -- a component separator, and need not be said

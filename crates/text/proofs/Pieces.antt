@@ -1,6 +1,6 @@
 -- The laws of pieces: joining gives the bytes back, with another separator those with it in place of the old, no piece holds the separator, and pieces without it are cut again as they were.
 -- Assumes nothing.
-use Prim.Native.Nat.{ℕ, suc, _<_}
+use Prim.Native.Nat.{ℕ, zero, suc, _<_}
 use mathlib.Core.Path.{_≡_, refl, sym, ap, _∙_}
 use mathlib.Core.Bool.{Bool, true, false, cond, _&&_, _||_}
 use mathlib.Core.List.{List, [], _∷_, _++_, map, map-id, append-assoc}
@@ -67,6 +67,11 @@ clean-before sep b false (p ∷ ps) e c = ((eqb-false b sep e, c .0), c .1)
 pub pieces-clean : (sep : ℕ) (s : Bytes) → Clean sep (pieces sep s)
 pieces-clean sep [] = (tt, tt)
 pieces-clean sep (b ∷ s) = clean-before sep b (eqb b sep) (pieces sep s) refl (pieces-clean sep s)
+
+pub clean-at : (byte : ℕ) (ps : List Bytes) (k : ℕ) → Clean byte ps → Free byte (getD ps k [])
+clean-at byte [] k c = tt
+clean-at byte (p ∷ ps) zero c = c .0
+clean-at byte (p ∷ ps) (suc k) c = clean-at byte ps k (c .1)
 
 -- bytes without the separator are one piece
 pub pieces-free : (sep : ℕ) (s : Bytes) → Free sep s → pieces sep s ≡ s ∷ []

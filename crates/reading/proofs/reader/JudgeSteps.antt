@@ -11,6 +11,8 @@ use lib.ListN.{length, take, getD, length-append, length-drop}
 use lib.Seq.{take-append-seam}
 use Rattle.text.specs.Bytes.{Bytes, valueOf}
 use Rattle.text.specs.Pieces.{pieces}
+use Rattle.text.specs.internal.Search.{Free}
+use Rattle.text.proofs.Pieces.{clean-at, pieces-clean}
 use Rattle.text.specs.Bin.{isBin}
 use Rattle.text.specs.View.{View, plainView, viewOf, elementsOf, elementOf}
 use Rattle.text.specs.Lookup.{elementSpan}
@@ -46,7 +48,7 @@ use Rattle.gate.specs.Rules.{Admitted, closingChecks}
 use Rattle.gate.specs.Records.{Tables}
 use Rattle.reading.specs.internal.Standing.{Standing}
 use Rattle.reading.specs.internal.Cutting.{CutAs, segmentOf}
-use Rattle.reading.specs.internal.Judgements.{claimIn, closingIn, brokenBy, byLevel, byClosing, lateJudgement, JudgesLate, Judges}
+use Rattle.reading.specs.internal.Judgements.{claimIn, closingIn, brokenBy, byLevel, byClosing, lateJudgement, NamesFree, JudgesLate, Judges}
 use Rattle.gate.specs.declared.how.How.{How}
 use Rattle.levels.specs.internal.Answers.{judged}
 use Rattle.finding.specs.internal.Entries.{countIn}
@@ -137,6 +139,14 @@ module _ {how : How} {before : Tables} {s : Bytes} {segments levels lasts : List
 
   tag-known : t ≡ tagIn v
   tag-known = tag-found ∙ tag-is nt fit
+
+  -- no separator stands in the names of an HL
+  names-free : t ≡ tag "HL" → NamesFree s (how .separators .element) starts layout
+  names-free e =
+      let n = other-tag (how .separators) g (λ z. hl-no-bin (sym (sym tag-known ∙ e) ∙ z)) in
+      let free : (k : ℕ) → k ≤ 31 → Free (how .separators .element) (elementIn s starts layout k) = λ k h.
+      rw (piece-is nt n k h) (clean-at (how .separators .element) (pieces (how .separators .element) g) k (pieces-clean (how .separators .element) g)) in
+      (free 1 (omega arith), free 2 (omega arith))
 
   module _ (small : t < 34) where
     known-tag : tagIn v < 34
@@ -302,7 +312,7 @@ module _ {how : How} {before : Tables} {s : Bytes} {segments levels lasts : List
             → Judges (profileOf how) rows h v j
         judges-rest d is q j says =
             let elements = keeps-holds (ruledChecks (profileOf how .elements) (tagIn v) v) .0 (sym ruled-is ∙ sym is ∙ q) in
-            subst (λ (j : Judgement). Judges (profileOf how) rows h v j) (sym (says (state .count) (levelsIn (profileOf how) h) (st .holds))) (judges-late elements)
+            subst (λ (j : Judgement). Judges (profileOf how) rows h v j) (sym (says (state .count) (levelsIn (profileOf how) h) (st .holds) names-free)) (judges-late elements)
 
         -- none of these is asked of a plain segment
         pub judges-plain : length (rulesOf t .elements) ≡ 0 → Judges (profileOf how) rows h v (Other x)

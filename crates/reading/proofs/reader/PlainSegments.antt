@@ -37,4 +37,4 @@ module _ (t : ℕ) (plain : length (rulesOf t .elements) ≡ 0) where
   -- so the late rules are silent of it
   pub plain-late : (how : How) (s : Bytes) (starts : List ℕ) (layout : Layout) (state : State) (segments levels lasts : List ℕ) (row : ℕ)
       → JudgesLate how s starts layout state segments levels lasts t row (Other row)
-  plain-late how s starts layout state segments levels lasts row = λ m ls h. rw (ne-eqb t (tag "HL") not-hl, ne-eqb t (tag "SE") not-se) refl
+  plain-late how s starts layout state segments levels lasts row = λ m ls h f. rw (ne-eqb t (tag "HL") not-hl, ne-eqb t (tag "SE") not-se) refl

@@ -10,6 +10,7 @@ use Rattle.text.specs.Bytes.{Bytes, same}
 use Rattle.text.specs.View.{View, viewOf, elementsOf}
 use Rattle.text.specs.Cut.{Placed}
 use Rattle.text.specs.Separators.{Fitted}
+use Rattle.text.specs.internal.Search.{Free}
 use Rattle.rows.specs.Tags.{tag, tagNumber}
 use Rattle.types.specs.Types.{numberOf}
 use Rattle.elements.specs.Checks.{Check, check, firstBroken}
@@ -82,10 +83,14 @@ abbrev pub byClosing : ℕ → Verdict → Judgement
 byClosing row Holds = Last row
 byClosing row (Faulty number element) = Broken number element
 
+-- no separator stands in the HL01 and HL02 that the layout names
+abbrev pub NamesFree : Bytes → ℕ → List ℕ → Layout → Type 0
+NamesFree s separator starts layout = Free separator (elementIn s starts layout 1) × Free separator (elementIn s starts layout 2)
+
 -- what the rules of levels say of an HL behind the levels that the tables hold, where its HL01 belongs to that list
 abbrev pub JudgesLevel : LevelProfile → Bytes → ℕ → List ℕ → Layout → ℕ → (segments levels lasts : List ℕ) → Judged → Type 0
 JudgesLevel profile s separator starts layout place segments levels lasts r =
-    (m : ℕ) (ls : List HlLevel) → TablesHold s separator segments levels lasts m ls → place ≡ placeOf (elementIn s starts layout 1)
+    (m : ℕ) (ls : List HlLevel) → TablesHold s separator segments levels lasts m ls → NamesFree s separator starts layout → place ≡ placeOf (elementIn s starts layout 1)
     → r ≡ judged profile ls (claimIn s starts layout)
 
 -- what the late rules say of a segment of that tag and row behind the levels ls
@@ -100,7 +105,7 @@ lateJudgement how s starts layout state segments levels ls t row =
 abbrev pub JudgesLate : How → Bytes → List ℕ → Layout → State → (segments levels lasts : List ℕ) → ℕ → ℕ → Judgement → Type 0
 JudgesLate how s starts layout state segments levels lasts t row r =
     (m : ℕ) (ls : List HlLevel) → TablesHold s (how .separators .element) segments levels lasts m ls
-    → r ≡ lateJudgement how s starts layout state segments levels ls t row
+    → (t ≡ tag "HL" → NamesFree s (how .separators .element) starts layout) → r ≡ lateJudgement how s starts layout state segments levels ls t row
 
 -- what a judgement says of the segment with the view v, after the segments h and their rows
 module _ (profile : Profile) (rows : List ℕ) (h : List View) (v : View) where

@@ -1,11 +1,10 @@
 -- `find` meets its contract: the levels of the list behind `left` have other HL01s, and the first i bytes of level n's HL01 agree.
 -- Assumes nothing.
 use Prim.Native.Nat.{_-_}
-use mathlib.Core.Path.{sym, _∙_}
 use native.Mathlib.Omega.{arith}
 use lib.ListN.{length}
 use borrow.Author.Tests.{not-true, not-false}
-use Rattle.finding.proofs.LevelSearch.{Seeks, Compares, sought-unfree, seeks-all, sought-nowhere, seeks-other-end, compares-none, compares-inside, compares-more, compares-next, seeks-other-byte, sought-met}
+use Rattle.finding.proofs.LevelSearch.{Seeks, Compares, seeks-all, sought-nowhere, seeks-other-end, compares-none, compares-inside, compares-more, compares-next, seeks-other-byte, sought-met}
 use borrow.Author.Needs.{needs}
 use Rattle.finding.proofs.search.find.Statement.{statement}
 use Rattle.finding.proofs.search.find.Tie as tie
@@ -22,23 +21,14 @@ Inv-levels s separator segments levels lasts place id left₀ left = Seeks s sep
 abbrev μ-levels : tie.MeasureT-levels
 μ-levels s separator segments levels lasts place id left₀ left = left
 
-holds-requires : tie.Need-holds-requires Inv-loop μ-loop Inv-levels μ-levels
-holds-requires c κs = search needs
-
-returns : tie.Need-returns Inv-loop μ-loop Inv-levels μ-levels
-returns c =
-    let a = c .before .before .before .before .before .before .args in
-    sought-unfree (a .s .now) (a .separator) (a .segments .now) (a .levels .now) (a .lasts .now) (a .place) (a .id .now)
-    (sym (c .before .holds .ensures) ∙ c .if1 .taken)
-
 last-in-requires : tie.Need-last-in-requires Inv-loop μ-loop Inv-levels μ-levels
 last-in-requires c κs = search needs
 
 levels-holds : tie.Need-levels-holds Inv-loop μ-loop Inv-levels μ-levels
 levels-holds c =
-    let a = c .before .before .before .before .before .before .before .args in
+    let a = c .before .before .before .before .before .args in
     seeks-all (a .s .now) (a .separator) (a .segments .now) (a .levels .now) (a .lasts .now) (a .place) (a .id .now)
-    (c .last-in .result) (sym (c .before .before .holds .ensures) ∙ c .before .if1 .left) (c .last-in .ensures)
+    (c .last-in .result) (c .last-in .ensures)
 
 before-requires : tie.Need-before-requires Inv-loop μ-loop Inv-levels μ-levels
 before-requires c κs = search needs
@@ -59,7 +49,7 @@ levels-again c =
     let next = placed .before in
     let round = next .before in
     seeks-other-end (round .before .levels .inv) (round .levels-test .taken) (next .before2 .ensures) (placed .id-start .ensures)
-    (rw (not-true (ended .may-end .result) (c .if2 .taken)) at (ended .may-end .ensures))
+    (rw (not-true (ended .may-end .result) (c .if1 .taken)) at (ended .may-end .ensures))
 
 loop-holds : tie.Need-loop-holds Inv-loop μ-loop Inv-levels μ-levels
 loop-holds c =
@@ -68,22 +58,22 @@ loop-holds c =
     let next = placed .before in
     let round = next .before in
     compares-none (round .before .levels .inv) (round .levels-test .taken) (next .before2 .ensures) (placed .id-start .ensures)
-    (rw (not-false (ended .may-end .result) (c .if2 .left)) at (ended .may-end .ensures))
+    (rw (not-false (ended .may-end .result) (c .if1 .left)) at (ended .may-end .ensures))
 
-add-if3 : tie.Need-add-if3 Inv-loop μ-loop Inv-levels μ-levels
-add-if3 c = omega (arith, compares-inside (c .before .loop .inv) (c .loop-test .taken))
+add-if2 : tie.Need-add-if2 Inv-loop μ-loop Inv-levels μ-levels
+add-if2 c = omega (arith, compares-inside (c .before .loop .inv) (c .loop-test .taken))
 
-shared-slice-read-if3 : tie.Need-shared-slice-read-if3 Inv-loop μ-loop Inv-levels μ-levels
-shared-slice-read-if3 c = compares-inside (c .before .before .loop .inv) (c .before .loop-test .taken)
+shared-slice-read-if2 : tie.Need-shared-slice-read-if2 Inv-loop μ-loop Inv-levels μ-levels
+shared-slice-read-if2 c = compares-inside (c .before .before .loop .inv) (c .before .loop-test .taken)
 
-shared-slice-read-if3-2 : tie.Need-shared-slice-read-if3-2 Inv-loop μ-loop Inv-levels μ-levels
-shared-slice-read-if3-2 c = search needs
+shared-slice-read-if2-2 : tie.Need-shared-slice-read-if2-2 Inv-loop μ-loop Inv-levels μ-levels
+shared-slice-read-if2-2 c = search needs
 
 levels-less-2 : tie.Need-levels-less-2 Inv-loop μ-loop Inv-levels μ-levels
 levels-less-2 c = compares-next (c .before .before .before .before .loop .inv)
 
 levels-again-2 : tie.Need-levels-again-2 Inv-loop μ-loop Inv-levels μ-levels
-levels-again-2 c = seeks-other-byte (c .before .before .before .before .loop .inv) (c .before .before .before .loop-test .taken) (c .if3 .taken)
+levels-again-2 c = seeks-other-byte (c .before .before .before .before .loop .inv) (c .before .before .before .loop-test .taken) (c .if2 .taken)
 
 add-i : tie.Need-add-i Inv-loop μ-loop Inv-levels μ-levels
 add-i c = search needs
@@ -92,13 +82,13 @@ loop-less : tie.Need-loop-less Inv-loop μ-loop Inv-levels μ-levels
 loop-less c = search needs
 
 loop-again : tie.Need-loop-again Inv-loop μ-loop Inv-levels μ-levels
-loop-again c = compares-more (c .before .before .before .before .loop .inv) (c .if3 .left)
+loop-again c = compares-more (c .before .before .before .before .loop .inv) (c .if2 .left)
+
+returns : tie.Need-returns Inv-loop μ-loop Inv-levels μ-levels
+returns c = sought-met (c .before .loop .inv) (c .loop-test .left)
 
 returns-2 : tie.Need-returns-2 Inv-loop μ-loop Inv-levels μ-levels
-returns-2 c = sought-met (c .before .loop .inv) (c .loop-test .left)
-
-returns-3 : tie.Need-returns-3 Inv-loop μ-loop Inv-levels μ-levels
-returns-3 c = sought-nowhere (c .before .levels .inv) (c .levels-test .left)
+returns-2 c = sought-nowhere (c .before .levels .inv) (c .levels-test .left)
 
 pub find-spec : {M : Type 1} → statement M
 find-spec =
@@ -108,8 +98,6 @@ find-spec =
     μ-loop
     Inv-levels
     μ-levels
-    holds-requires
-    returns
     last-in-requires
     levels-holds
     before-requires
@@ -118,13 +106,13 @@ find-spec =
     levels-less
     levels-again
     loop-holds
-    add-if3
-    shared-slice-read-if3
-    shared-slice-read-if3-2
+    add-if2
+    shared-slice-read-if2
+    shared-slice-read-if2-2
     levels-less-2
     levels-again-2
     add-i
     loop-less
     loop-again
-    returns-2
-    returns-3)
+    returns
+    returns-2)

@@ -38,7 +38,7 @@ by-level-requires : tie.Need-by-level-requires
 by-level-requires c κs = search needs
 
 returns : tie.Need-returns
-returns c = λ m ls h.
+returns c = λ m ls h f.
     let judged = c .before in
     let asked = judged .before in
     let placed = asked .before .before in
@@ -46,8 +46,9 @@ returns c = λ m ls h.
     let a = its .before .before .before .before .args in
     let asks = asked .asks-of .ensures ∙ ap asksOf (asked .before .element2 .ensures) in
     let place = placed .place-of .ensures ∙ ap placeOf (placed .before .element .ensures) in
-    rw (eq-eqb (a .tag) (tag "HL") (its .if1 .taken ∙ hl-number))
-    (c .by-level .ensures ∙ (λ i. byLevel (a .row) (asks i) (place i) (judged .judge-level .ensures m ls h place i)))
+    let hl = its .if1 .taken ∙ hl-number in
+    rw (eq-eqb (a .tag) (tag "HL") hl)
+    (c .by-level .ensures ∙ (λ i. byLevel (a .row) (asks i) (place i) (judged .judge-level .ensures m ls h (f hl) place i)))
 
 judge-se-requires : tie.Need-judge-se-requires
 judge-se-requires c κs = search needs
@@ -59,7 +60,7 @@ enum-known-number : tie.Need-enum-known-number
 enum-known-number c = search needs
 
 returns-2 : tie.Need-returns-2
-returns-2 c = λ m ls h.
+returns-2 c = λ m ls h f.
     let judged = c .before .before in
     let its = judged .before in
     let other = its .before in
@@ -68,7 +69,7 @@ returns-2 c = λ m ls h.
     (ap (byClosing (a .row)) (sym (c .enum-told .given .1) ∙ judged .judge-se .ensures))
 
 returns-3 : tie.Need-returns-3
-returns-3 c = λ m ls h.
+returns-3 c = λ m ls h f.
     let judged = c .before .before .before in
     let its = judged .before in
     let other = its .before in
@@ -77,7 +78,7 @@ returns-3 c = λ m ls h.
     (ap (byClosing (a .row)) (sym (c .before .number .given .1) ∙ judged .judge-se .ensures))
 
 returns-4 : tie.Need-returns-4
-returns-4 c = λ m ls h.
+returns-4 c = λ m ls h f.
     let other = c .before in
     let a = other .before .before .before .before .args in
     rw (ne-eqb (a .tag) (tag "HL") (λ e. other .if1 .left (e ∙ sym hl-number)), ne-eqb (a .tag) (tag "SE") (λ e. c .if2 .left (e ∙ sym se-number))) refl
