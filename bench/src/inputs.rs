@@ -37,8 +37,7 @@ fn varied(size: usize, levels: usize, line: fn(&mut Values, usize) -> String) ->
     report(size, levels, |turn| line(&mut values, turn))
 }
 
-/// The same, with names that count downwards and levels that hang under two items in turn: no name is greater than those
-/// before it, and no parent is the last level or above it.
+/// The same, with names that count downwards and levels that hang under two items in turn.
 fn scattered(size: usize, levels: usize, lines: &[&str]) -> Vec<u8> {
     let mut report = Report::rooted();
     for item in ["A", "B"] {

@@ -60,6 +60,13 @@ fn read_by_hand(input: &[u8], how: How, lent: &mut Lent) -> [u64; 4] {
     reference::read(input, told(OLD), line_ends, named(how), &mut lent.segments, &mut lent.levels).numbers()
 }
 
+/// The hand-written reader with a hash of the levels: no side of the contests, but of the table of levels.
+pub fn read_hashed(input: &[u8], how: How, lent: &mut Lent) -> [u64; 4] {
+    let line_ends = black_box(LineEnds::Skipped);
+    let Lent { segments, levels, .. } = lent;
+    reference::read_hashed(input, told(OLD), line_ends, named(how), segments, levels).numbers()
+}
+
 fn rewrite_by_hand(input: &[u8], how: How, lent: &mut Lent) -> [u64; 4] {
     let Lent { segments, levels, output } = lent;
     reference::rewrite(input, told(OLD), named(how), told(NEW), segments, levels, output).numbers()

@@ -242,7 +242,7 @@ const fn with_hl(hl: &'static Rules) -> AllRules {
 }
 
 /// Tests a ruled segment against its rules, in the order 9, 8, 10, 11.
-#[inline]
+#[inline(always)]
 pub(crate) fn check(rules: &Rules, cut: &Cut, input: &[u8], component: u8) -> Result<(), Fault> {
     too_many(rules, cut, input, component)?;
     missing(rules, cut, input, component)?;
@@ -291,7 +291,7 @@ fn missing(rules: &Rules, cut: &Cut, input: &[u8], component: u8) -> Result<(), 
 }
 
 /// Answer 10: type or length unfit, or ST01 not `842`.
-#[inline]
+#[inline(always)]
 fn unfit(rules: &Rules, cut: &Cut, input: &[u8], component: u8) -> Result<(), Fault> {
     for (at, rule) in rules.elements.iter().enumerate().take(cut.elements) {
         let number = at + 1;
@@ -303,7 +303,7 @@ fn unfit(rules: &Rules, cut: &Cut, input: &[u8], component: u8) -> Result<(), Fa
 }
 
 /// Whether one element that is there fits its type and length.
-#[inline]
+#[inline(always)]
 fn fits(rule: &Element, cut: &Cut, input: &[u8], number: usize, component: u8) -> bool {
     let held = cut.held(number);
     let (from, to) = cut.span(number);

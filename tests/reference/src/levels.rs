@@ -112,14 +112,37 @@ fn halves(bytes: &[u8; 16]) -> [u64; 2] {
     [both as u64, (both >> 64) as u64]
 }
 
-/// What the search through the earlier levels found.
-struct Search {
+/// What the search among the earlier levels found.
+pub struct Search {
     /// The new HL01 stands already.
-    used: bool,
+    pub used: bool,
     /// The level number of the parent, 0 if none was found.
-    parent: u64,
+    pub parent: u64,
     /// The parent has a child already.
-    has_child: bool,
+    pub has_child: bool,
+}
+
+/// The names so far: how a level is found by its HL01.
+pub trait Names<'a> {
+    /// Looks for a new HL01 and for the parent that HL02 names, and for a child it has already.
+    fn search(&self, earlier: &Earlier, own: &[u8], parent: Option<&[u8]>) -> Search;
+
+    /// Takes in a level that is accepted: its HL01 and its parent's level number.
+    fn add(&mut self, own: &'a [u8], parent: u64);
+}
+
+/// The names as they stand in the input: all earlier levels are gone through.
+pub struct InPlace;
+
+impl Names<'_> for InPlace {
+    #[inline]
+    fn search(&self, earlier: &Earlier, own: &[u8], parent: Option<&[u8]>) -> Search {
+        let name = |text| Name::new(text, earlier.element);
+        earlier.search(name(own), parent.map(name))
+    }
+
+    #[inline]
+    fn add(&mut self, _: &[u8], _: u64) {}
 }
 
 impl Earlier<'_> {
@@ -179,11 +202,10 @@ impl Earlier<'_> {
     /// Tests an HL in the order 12, 13, 14, 15. One of a reply has neither HL02 nor HL04, and comes to stand
     /// without a parent and without a mark.
     #[inline]
-    pub(crate) fn level(&self, cut: &Cut) -> Result<Level, Fault> {
-        let own = Name::new(cut.element(self.input, 1), self.element);
-        let named = cut.has(2).then(|| Name::new(cut.element(self.input, 2), self.element));
+    pub(crate) fn level<'a>(&self, cut: &Cut, names: &impl Names<'a>) -> Result<Level, Fault> {
+        let named = cut.has(2).then(|| cut.element(self.input, 2));
         let code = code_number(cut.element(self.input, 3), self.profile);
-        let found = self.search(own, named);
+        let found = names.search(self, cut.element(self.input, 1), named);
         if found.used {
             return Err(Fault::new(12, 1));
         }

@@ -1,9 +1,9 @@
-//! Reading one transaction, from ST to SE: one pass, no allocation.
+//! Reading one transaction, from ST to SE: one pass, no allocation of its own.
 
 use crate::answer::{Answer, Fault};
 use crate::cut::{Cut, Kinds};
 use crate::elements::{self, AllRules};
-use crate::levels::{Earlier, Level, LEVEL_NUMBERS, SEGMENT_NUMBERS};
+use crate::levels::{Earlier, InPlace, Level, Names, LEVEL_NUMBERS, SEGMENT_NUMBERS};
 use crate::line_ends::{LineEnds, Skipping};
 use crate::profile::{Profile, Rows};
 use crate::rows::{self, Tag};
@@ -25,6 +25,20 @@ pub fn read(
     segments: &mut [u64],
     levels: &mut [u64],
 ) -> Answer {
+    read_by(InPlace, input, separators, line_ends, profile, segments, levels)
+}
+
+/// The same, with levels found by these names.
+#[inline]
+pub fn read_by<'a>(
+    names: impl Names<'a>,
+    input: &'a [u8],
+    separators: Separators,
+    line_ends: LineEnds,
+    profile: Profile,
+    segments: &'a mut [u64],
+    levels: &'a mut [u64],
+) -> Answer {
     if !separators.fit() {
         return Answer::bare(1, 0);
     }
@@ -32,11 +46,13 @@ pub fn read(
         return Answer::bare(2, 0);
     }
     let skipping = Skipping::new(line_ends, separators);
-    Reader::new(input, separators, profile, segments, levels).run(skipping)
+    Reader::new(names, input, separators, profile, segments, levels).run(skipping)
 }
 
 /// A reading under way.
-struct Reader<'a> {
+struct Reader<'a, N> {
+    /// The names of the levels that are accepted.
+    names: N,
     input: &'a [u8],
     separators: Separators,
     profile: Profile,
@@ -59,15 +75,17 @@ struct Reader<'a> {
     control: (usize, usize),
 }
 
-impl<'a> Reader<'a> {
+impl<'a, N: Names<'a>> Reader<'a, N> {
     fn new(
+        names: N,
         input: &'a [u8],
         separators: Separators,
         profile: Profile,
         segments: &'a mut [u64],
         levels: &'a mut [u64],
-    ) -> Reader<'a> {
+    ) -> Reader<'a, N> {
         Reader {
+            names,
             input,
             separators,
             profile,
@@ -176,13 +194,14 @@ impl<'a> Reader<'a> {
             segments: &self.segments[..self.count * SEGMENT_NUMBERS],
             levels: &self.levels[..self.level_count * LEVEL_NUMBERS],
         };
-        let level = earlier.level(cut)?;
+        let level = earlier.level(cut, &self.names)?;
         if self.segments.len() / SEGMENT_NUMBERS <= self.count
             || self.levels.len() / LEVEL_NUMBERS <= self.level_count
         {
             return Err(Fault::new(17, 0));
         }
         self.note_level(&level);
+        self.names.add(cut.element(self.input, 1), level.parent);
         Ok(())
     }
 

@@ -2,7 +2,7 @@
 
 use reference::generator::{report, Case};
 use reference::plain::read_plain;
-use reference::{read, rewrite, Answer, LineEnds, Separators, LONGEST, SEGMENT_NUMBERS};
+use reference::{read, read_hashed, rewrite, Answer, LineEnds, Separators, LONGEST, SEGMENT_NUMBERS};
 use std::collections::{BTreeMap, BTreeSet};
 
 fn tables(case: &Case) -> (Vec<u64>, Vec<u64>) {
@@ -14,17 +14,17 @@ fn tables(case: &Case) -> (Vec<u64>, Vec<u64>) {
 /// What comes of a reading: the answer and both tables.
 type Outcome = (Answer, Vec<u64>, Vec<u64>);
 
-/// Reads by both readers; both tables must be the same to the last number.
+/// Reads by both readers, and with the hash; both tables must be the same to the last number.
 fn both(case: &Case, line_ends: LineEnds) -> Outcome {
-    let (mut segments, mut levels) = tables(case);
-    let (mut plain_segments, mut plain_levels) = tables(case);
     let Case { input, separators, profile, .. } = case;
-    let answer = read(input, *separators, line_ends, *profile, &mut segments, &mut levels);
-    let plain = read_plain(input, *separators, line_ends, *profile, &mut plain_segments, &mut plain_levels);
-    assert_eq!(answer, plain, "seed {}, {line_ends:?}", case.seed);
-    assert_eq!(segments, plain_segments, "seed {}, {line_ends:?}", case.seed);
-    assert_eq!(levels, plain_levels, "seed {}, {line_ends:?}", case.seed);
-    (answer, segments, levels)
+    let [fast, hashed, plain] = [read, read_hashed, read_plain].map(|reader| {
+        let (mut segments, mut levels) = tables(case);
+        let answer = reader(input, *separators, line_ends, *profile, &mut segments, &mut levels);
+        (answer, segments, levels)
+    });
+    assert_eq!(fast, plain, "seed {}, {line_ends:?}", case.seed);
+    assert_eq!(fast, hashed, "hashed, seed {}, {line_ends:?}", case.seed);
+    fast
 }
 
 /// Reads by both readers, strictly too where there may be a line end, and gives what came where line ends

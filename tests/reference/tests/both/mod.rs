@@ -1,7 +1,7 @@
 //! A reading by both readers, which must agree, and what it leaves behind.
 
 use reference::plain::read_plain;
-use reference::{read, LineEnds, Profile, Separators, LEVEL_NUMBERS, SEGMENT_NUMBERS};
+use reference::{read, read_hashed, LineEnds, Profile, Separators, LEVEL_NUMBERS, SEGMENT_NUMBERS};
 
 /// The row of HL; there is no other.
 const HL_ROW: u64 = 18;
@@ -43,13 +43,17 @@ impl Outcome {
 /// How a report is read: the choice about line ends and the profile.
 pub type How = (LineEnds, Profile);
 
-/// Reads by both readers with so many numbers in the tables; they must agree, and write nothing but records.
+/// Reads by both readers, and with the hash, with so many numbers in the tables; they must agree, and write
+/// nothing but records.
 pub fn given(input: &[u8], set: Separators, how: How, rooms: (usize, usize)) -> Outcome {
-    let [mut fast, mut plain] = [rooms, rooms].map(Outcome::lent);
-    fast.answer = read(input, set, how.0, how.1, &mut fast.segments, &mut fast.levels).numbers();
-    plain.answer = read_plain(input, set, how.0, how.1, &mut plain.segments, &mut plain.levels).numbers();
+    let [fast, hashed, plain] = [read, read_hashed, read_plain].map(|reader| {
+        let mut lent = Outcome::lent(rooms);
+        lent.answer = reader(input, set, how.0, how.1, &mut lent.segments, &mut lent.levels).numbers();
+        lent
+    });
     let told = || format!("{} {set:?} {how:?}", input.escape_ascii());
     assert_eq!(fast, plain, "{}", told());
+    assert_eq!(fast, hashed, "hashed: {}", told());
     assert!(fast.keeps_the_rest(), "{}", told());
     fast
 }
