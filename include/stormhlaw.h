@@ -169,13 +169,12 @@ extern "C" {
 ** A report of n bytes has at most n / 5 segments, and fewer levels than that. Tables may be of any size; with too little room the
 ** answer is STORMHLAW_NO_ROOM.
 **
-** Time: 1 to 3 nanoseconds a byte of a large report; and, where the HL01 names do not count upwards or parents stand far before
-** their children, some 3 nanoseconds times the square of the number of levels, or some 14 where the names are long and alike. On
-** an Arm Neoverse N1:
+** Time: 1 to 3 nanoseconds a byte of a large report. Reports of levels alone, on an AMD EPYC, whatever order names and parents
+** come in; and where the HL01 names are made to fall together, which takes 3 nanoseconds for every two of them:
 **
-**   1,000 levels    3 to 14 milliseconds
-**   4,096 levels    51 to 224 milliseconds
-**   20,000 levels   1.3 to 5.3 seconds
+**   1,000 levels    0.05 to 0.07 milliseconds     1.6 milliseconds
+**   4,096 levels    0.3 to 0.6 milliseconds       25 milliseconds
+**   20,000 levels   4.3 to 10.3 milliseconds      0.6 seconds
 **
 ** The room that is lent bounds the number of levels, and with it the time: lend what you expect. STORMHLAW_LEVEL_ROOM is what the
 ** example lends, and the other bindings where their caller names no room.

@@ -32,10 +32,10 @@ def read(
     Reason.NO_ROOM. Without `segment_room` there is always enough. Without `level_room` there is room for 4,096 levels,
     and a caller who wants more says so: `level_room=LONGEST` is enough for any report.
 
-    A large report takes 1 to 3 nanoseconds a byte. Where the HL01 names do not count upwards, or parents stand far before
-    their children, it takes some 3 nanoseconds times the square of the number of levels more, and some 14 where the
-    names are long and alike: at 4,096 levels 51 to 224 milliseconds, at 20,000 1.3 to 5.3 seconds (Arm Neoverse N1).
-    The room bounds it.
+    A large report takes 1 to 3 nanoseconds a byte, and each level some 50 more up to 1,000 levels, whatever order names
+    and parents come in; 4,096 levels take up to 0.6 milliseconds in all, 20,000 up to 10.3 (AMD EPYC). Only names that
+    are made to fall together take longer, 3 nanoseconds for every two of them: 25 milliseconds at 4,096. The room bounds
+    it.
     """
     start, size, _owner = lend("data", data, TOO_LONG)
     three, flags = numbers_of("separators", separators), flags_of("how", how)

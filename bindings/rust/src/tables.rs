@@ -22,12 +22,11 @@ const MOST: usize = LONGEST / SHORTEST_SEGMENT;
 /// A segment table and a level table, with the records of the last reading. They can be used again, for any input that
 /// has room in them.
 ///
-/// A large report takes 1 to 3 nanoseconds a byte. Where the HL01 names do not count upwards, or parents stand far before their
-/// children, it takes some 3 nanoseconds times the square of the number of levels more, and some 14 where the names are
-/// long and alike: at 4,096 levels 51 to 224 milliseconds, at 20,000 1.3 to 5.3 seconds (Arm Neoverse N1). The room for
-/// levels bounds that number: a report with more is refused with [`Reason::NoRoom`](crate::Reason::NoRoom). This is why
-/// [`Tables::for_input`] makes room for [`DEFAULT_LEVELS`] and no more; who wants more asks for it by
-/// [`Tables::with_room`].
+/// A large report takes 1 to 3 nanoseconds a byte, and each level some 50 more up to 1,000 levels, whatever order names and
+/// parents come in; 4,096 levels take up to 0.6 milliseconds in all, 20,000 up to 10.3 (AMD EPYC). Only names that are made
+/// to fall together take longer, 3 nanoseconds for every two of them: 25 milliseconds at 4,096. The room for levels bounds
+/// that number: a report with more is refused with [`Reason::NoRoom`](crate::Reason::NoRoom). [`Tables::for_input`] makes
+/// room for [`DEFAULT_LEVELS`] and no more; who wants more asks for it by [`Tables::with_room`].
 #[derive(Clone, Debug)]
 pub struct Tables {
     segments: Vec<SegmentRecord>,

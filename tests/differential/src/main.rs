@@ -1,8 +1,9 @@
-//! Drives the proved library, through its C interface, and the independent reader with the same inputs, line ends skipped and
-//! strictly, as reports and as replies, and compares the answers, the whole tables and outputs, the spans of lookups and the
-//! numbers of number checks, and guard words around what was lent. Ends with status 1 if anything differs.
+//! Drives the proved library, through its C interface, and the independent reader with the same inputs, some with many levels,
+//! line ends skipped and strictly, as reports and as replies, and compares the answers, the whole tables and outputs, the spans
+//! of lookups and the numbers of number checks, and guard words around what was lent. Ends with status 1 if anything differs.
 
 mod lent;
+mod levels;
 mod lookups;
 mod numbers;
 mod outcome;
@@ -30,11 +31,15 @@ fn run(words: &[String]) -> Result<bool, String> {
     let count = number(words, "--count", COUNT)?;
     let from = number(words, "--from", 0)?;
     println!(
-        "seeds {from} to {}, count {count}, W1 and a reply with every table size and separator, and every short number",
-        from + count - 1
+        "seeds {from} to {}, count {count}, W1 and a reply with every table size and separator, {} reports with up to {} levels, \
+         and every short number",
+        from + count - 1,
+        levels::REPORTS,
+        levels::MOST
     );
     let mut tally = Tally::default();
     parts::rooms(&mut tally);
+    levels::many(&mut tally);
     parts::sets(&mut tally);
     numbers::fixed(&mut tally);
     for seed in from..from + count {

@@ -1,7 +1,7 @@
 //! The two sides: the library through its C interface, and the independent reader.
 
 use crate::outcome::{Outcome, Sizes};
-use reference::{lookup_span, LineEnds, Profile, Separators};
+use reference::{lookup_span, Answer, LineEnds, Profile, Separators};
 use stormhlaw::{raw, How};
 
 /// The set as the library takes it.
@@ -29,8 +29,12 @@ pub fn library_read(input: &[u8], set: Separators, how: u64, sizes: Sizes) -> Ou
     outcome
 }
 
-/// The independent reading.
-pub fn reference_read(
+/// The independent reader, or its other way to find levels.
+type Reader = fn(&[u8], Separators, LineEnds, Profile, &mut [u64], &mut [u64]) -> Answer;
+
+/// The reading of one of them.
+fn read_by(
+    reader: Reader,
     input: &[u8],
     set: Separators,
     (line_ends, profile): (LineEnds, Profile),
@@ -38,8 +42,18 @@ pub fn reference_read(
 ) -> Outcome {
     let mut outcome = Outcome::new(sizes);
     let (segments, levels) = (outcome.segments.part(), outcome.levels.part());
-    outcome.answer = reference::read(input, set, line_ends, profile, segments, levels).numbers();
+    outcome.answer = reader(input, set, line_ends, profile, segments, levels).numbers();
     outcome
+}
+
+/// The independent reading.
+pub fn reference_read(input: &[u8], set: Separators, how: (LineEnds, Profile), sizes: Sizes) -> Outcome {
+    read_by(reference::read, input, set, how, sizes)
+}
+
+/// The independent reading with a hash of the levels.
+pub fn hashed_read(input: &[u8], set: Separators, how: (LineEnds, Profile), sizes: Sizes) -> Outcome {
+    read_by(reference::read_hashed, input, set, how, sizes)
 }
 
 /// Start and length by the library.

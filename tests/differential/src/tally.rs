@@ -1,7 +1,9 @@
 //! Counting what was compared, and telling of what differs.
 
 use crate::outcome::Sizes;
-use crate::sides::{library_how, library_lookup, library_read, reference_lookup, reference_read};
+use crate::sides::{
+    hashed_read, library_how, library_lookup, library_read, reference_lookup, reference_read,
+};
 use reference::{LineEnds, Profile, Separators};
 
 /// The answers are 0 to 19 and 24.
@@ -43,6 +45,8 @@ impl Answers {
 #[derive(Default)]
 pub struct Tally {
     readings: Answers,
+    /// Readings with a hash, of reports with many levels.
+    hashed: Answers,
     rewritings: Answers,
     lookups: u64,
     /// Pairs of lookups before and behind a rewriting.
@@ -72,6 +76,32 @@ impl Tally {
             if let Some(difference) = one.difference(&reference_read(input, set, (line_ends, profile), sizes))
             {
                 self.differs(name, &difference, input, &format!("{set:?}, how {how:#x}, {sizes:?}"));
+            }
+        }
+    }
+
+    /// Compares one reading of the independent reader with its reading with a hash, by each profile.
+    pub fn read_hashed(&mut self, name: &str, input: &[u8], set: Separators, sizes: Sizes) {
+        for profile in Profile::BOTH {
+            let how = (LineEnds::Skipped, profile);
+            let one = hashed_read(input, set, how, sizes);
+            self.hashed.count(profile, one.answer[0]);
+            if let Some(difference) = one.difference(&reference_read(input, set, how, sizes)) {
+                self.differs(name, &difference, input, &format!("a hash, {set:?}, {how:?}, {sizes:?}"));
+            }
+        }
+    }
+
+    /// Tells of each of these answers that no reading of a report with a hash gave.
+    pub fn expect_hashed(&mut self, answers: &[usize]) {
+        for answer in answers {
+            if self.hashed.reports[*answer] == 0 {
+                self.differs(
+                    "readings with a hash",
+                    &format!("none has answer {answer}"),
+                    &[],
+                    "all of them",
+                );
             }
         }
     }
@@ -133,6 +163,7 @@ impl Tally {
     /// Prints what was compared.
     pub fn print(&self) {
         self.readings.print("readings");
+        self.hashed.print("readings with a hash");
         self.rewritings.print("rewritings");
         println!("lookups {}; before and behind a rewriting {}", self.lookups, self.kept);
         println!("numbers {}; fit {}", self.numbers[0], self.numbers[1]);
