@@ -33,7 +33,7 @@ def read(
     and a caller who wants more says so: `level_room=LONGEST` is enough for any report.
 
     A large report takes 1 to 3 nanoseconds a byte, and each level some 50 more up to 1,000 levels, whatever order names
-    and parents come in; 4,096 levels take up to 0.6 milliseconds in all, 20,000 up to 10.3 (AMD EPYC). Only names that
+    and parents come in; 4,096 levels take up to 0.6 milliseconds in all, 20,000 up to 10.3 (AMD EPYC). Names that
     are made to fall together take longer, 3 nanoseconds for every two of them: 25 milliseconds at 4,096. The room bounds
     it.
     """

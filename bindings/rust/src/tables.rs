@@ -23,7 +23,7 @@ const MOST: usize = LONGEST / SHORTEST_SEGMENT;
 /// has room in them.
 ///
 /// A large report takes 1 to 3 nanoseconds a byte, and each level some 50 more up to 1,000 levels, whatever order names and
-/// parents come in; 4,096 levels take up to 0.6 milliseconds in all, 20,000 up to 10.3 (AMD EPYC). Only names that are made
+/// parents come in; 4,096 levels take up to 0.6 milliseconds in all, 20,000 up to 10.3 (AMD EPYC). Names that are made
 /// to fall together take longer, 3 nanoseconds for every two of them: 25 milliseconds at 4,096. The room for levels bounds
 /// that number: a report with more is refused with [`Reason::NoRoom`](crate::Reason::NoRoom). [`Tables::for_input`] makes
 /// room for [`DEFAULT_LEVELS`] and no more; who wants more asks for it by [`Tables::with_room`].
