@@ -1,6 +1,8 @@
 // The desk's outline as a program: reads one report, as the program `stormhlaw` does, and lists its levels under their parents on standard
 // output, a line each, or says there in one line why the report is refused. Standard error gets what it gets from that program.
 // What decides are `reading::read` and `outline::walk`; this crate only prints. The script `stormhlaw` runs it for `stormhlaw outline`.
+#![tactic(auto)]
+
 mod lines;
 
 use console::{hints, input, judging};

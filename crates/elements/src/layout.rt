@@ -3,7 +3,7 @@ ghost use Rattle.std.specs.Prelude.{◌≡◌, ◌-◌};
 ghost use Rattle.elements.specs.internal.Layouts.{part_between, early_element};
 
 // Where the segment starts and ends, how many elements it has, that no component separator stands in it, and that rule 6 holds of it.
-#[derive(Drop)]
+#[derive(Clone, Copy, Drop)]
 pub struct Layout {
     pub at: usize,
     pub end: usize,

@@ -1,4 +1,6 @@
 // What makes a segment right by itself.
+#![tactic(auto)]
+
 mod components;
 pub mod fitting;
 pub mod layout;

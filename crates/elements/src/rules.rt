@@ -10,7 +10,7 @@ use rows::tags;
 use types::kind::Kind;
 
 // One element: whether it is mandatory, whether it is the composite of units, and its type and lengths, or those of its first component.
-#[derive(Drop)]
+#[derive(Clone, Copy, Drop)]
 pub(crate) struct Rule {
     pub must: bool,
     pub composite: bool,
@@ -20,11 +20,11 @@ pub(crate) struct Rule {
 }
 
 // The fields of a rule, as they stand in the table.
-#[derive(Drop)]
+#[derive(Clone, Copy, Drop)]
 pub(crate) struct Entry(pub bool, pub bool, pub Kind, pub u8, pub u8);
 
 // The rules of a segment: where they start in the table, how many elements have one, and the last element that is mandatory.
-#[derive(Drop)]
+#[derive(Clone, Copy, Drop)]
 pub(crate) struct Extent {
     pub first: usize,
     pub last: usize,

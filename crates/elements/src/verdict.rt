@@ -1,5 +1,5 @@
 // What a group of rules says of a segment.
-#[derive(Drop)]
+#[derive(Clone, Copy, Drop)]
 pub enum Verdict {
     // Every rule of the group holds.
     Holds,

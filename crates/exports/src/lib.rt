@@ -1,5 +1,7 @@
 // The functions that programs in C, Rust and Python call. A slice is passed as a pointer and a length, an array as a pointer; an answer
 // is written as numbers into an array that the caller lends.
+#![tactic(auto)]
+
 ghost use Rattle.std.specs.Prelude.{◌≡◌};
 ghost use Rattle.types.specs.Numbers.{checked};
 ghost use Rattle.gate.specs.Answers.{numbers_of};

@@ -1,4 +1,6 @@
 // The levels of a report while it is read: which level has an HL01, what a parent says to its children, whether all marks are filled.
+#![tactic(auto)]
+
 pub mod filling;
 pub mod lists;
 pub mod notes;

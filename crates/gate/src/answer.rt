@@ -1,5 +1,5 @@
 // What a reading answers.
-#[derive(Drop)]
+#[derive(Clone, Copy, Drop)]
 pub enum Answer {
     // Answer 0: how many segments and levels there are, and how many bytes the transaction takes.
     Accepted {

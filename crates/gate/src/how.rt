@@ -3,7 +3,7 @@ use rows::profile::ProfileName;
 use text::lines::LineEnds;
 use text::separators::Separators;
 
-#[derive(Drop)]
+#[derive(Clone, Copy, Drop)]
 pub struct How {
     pub separators: Separators,
     // Whether line ends between segments are skipped.

@@ -10,7 +10,7 @@ use elements::verdict::Verdict;
 use rows::profile::ProfileName;
 
 // The answer for an HL.
-#[derive(Drop)]
+#[derive(Clone, Copy, Drop)]
 pub enum Judged {
     // Its level is entitled: the parent's level number, the depth, the code's number.
     Entitled(usize, usize, usize),
@@ -19,7 +19,7 @@ pub enum Judged {
 }
 
 // What its children must know of a level: its number, its code's number, whether it is marked 0, and the depth below it.
-#[derive(Drop)]
+#[derive(Clone, Copy, Drop)]
 pub struct Parent {
     pub number: usize,
     pub code: usize,

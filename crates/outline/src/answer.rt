@@ -1,5 +1,5 @@
 // What a walk answers.
-#[derive(Drop)]
+#[derive(Clone, Copy, Drop)]
 pub enum Walked {
     // Answer 0: how many levels are listed.
     Listed { levels: usize },

@@ -1,4 +1,6 @@
 // Levels listed under their parents, from a level table that the caller lends.
+#![tactic(auto)]
+
 pub mod answer;
 mod fitting;
 mod records;

@@ -7,7 +7,7 @@ ghost use Rattle.outline.specs.internal.Straying.{above_of, with_level, last_str
 use crate::records;
 
 // The latest level so far of depth at most 1, 2 and 3; 0 where there is none.
-#[derive(Drop)]
+#[derive(Clone, Copy, Drop)]
 pub struct Latest {
     pub first: usize,
     pub second: usize,

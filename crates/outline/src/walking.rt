@@ -11,7 +11,7 @@ use crate::{fitting, records, straying};
 use levels::widths::LEVEL_WIDTH;
 
 // A table's levels: how many, and the last that strays from the order of an outline.
-#[derive(Drop)]
+#[derive(Clone, Copy, Drop)]
 pub struct Forest {
     pub count: usize,
     pub stray: usize,

@@ -15,7 +15,7 @@ use text::bin::Counted;
 use text::separators::Separators;
 
 // What the bytes hold next.
-#[derive(Drop)]
+#[derive(Clone, Copy, Drop)]
 pub(crate) enum Next {
     // No segment: the bytes end before its terminator.
     Open,
@@ -28,7 +28,7 @@ pub(crate) enum Next {
 }
 
 // What is left of the queue: the entries from `head` up to `tail`, which are the special places from here as far as `seen`.
-#[derive(Drop)]
+#[derive(Clone, Copy, Drop)]
 pub(crate) struct Left {
     pub head: usize,
     pub tail: usize,
@@ -45,7 +45,7 @@ impl Left {
 }
 
 // Where the next segment starts, what is left of the queue there, and whether `BIN` and the element separator begin it.
-#[derive(Drop)]
+#[derive(Clone, Copy, Drop)]
 pub(crate) struct Onward {
     pub at: usize,
     pub left: Left,

@@ -28,7 +28,7 @@ use text::{compare, lookup};
 use types::digits;
 
 // What the rules say of the next segment.
-#[derive(Drop)]
+#[derive(Clone, Copy, Drop)]
 pub(crate) enum Judgement {
     // The first rule that it breaks: the answer's number, and the element it names.
     Broken(usize, usize),
@@ -42,7 +42,7 @@ pub(crate) enum Judgement {
 
 // What the reader carries from segment to segment: how many segments were passed, the last row, how many levels they made, and
 // whether the row stands for the second time in a row. The two small fields stand apart, since they are copied faster so.
-#[derive(Drop)]
+#[derive(Clone, Copy, Drop)]
 pub(crate) struct State {
     pub count: usize,
     pub row: u8,

@@ -1,4 +1,6 @@
 // Reading one transaction: the answer, and what the lent tables then hold.
+#![tactic(auto)]
+
 mod between;
 mod cutting;
 mod judging;

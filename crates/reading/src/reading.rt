@@ -30,7 +30,7 @@ use rows::list::ENTRIES;
 pub const LIMIT: usize = 1048576;
 
 // How a reading ended: the answer, and how many levels have a record.
-#[derive(Drop)]
+#[derive(Clone, Copy, Drop)]
 struct Ended {
     answer: Answer,
     levels: usize,

@@ -11,7 +11,7 @@ use finding::lists::LISTS;
 use gate::answer::Answer;
 
 // What became of the next segment.
-#[derive(Drop)]
+#[derive(Clone, Copy, Drop)]
 pub(crate) enum Step {
     // The reading ends with this answer.
     Done(Answer),

@@ -12,7 +12,7 @@ use levels::widths::{LEVEL_WIDTH, SEGMENT_WIDTH};
 
 // A level that a segment makes: its parent's level number, its depth, its code, what its mark asks of the levels to come, and the list
 // that its HL01 belongs to.
-#[derive(Drop)]
+#[derive(Clone, Copy, Drop)]
 pub(crate) struct NewLevel {
     pub parent: usize,
     pub depth: usize,

@@ -19,7 +19,7 @@ use text::bin;
 use text::separators::Separators;
 
 // Where a data byte equals a new separator: the segment's number, the byte where the segment starts, and the element; the tag is element 0.
-#[derive(Drop)]
+#[derive(Clone, Copy, Drop)]
 pub(crate) enum Clash {
     At {
         segment: usize,

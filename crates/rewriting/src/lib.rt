@@ -1,4 +1,6 @@
 // Writing an accepted transaction again with other separators.
+#![tactic(auto)]
+
 mod change;
 mod collisions;
 pub mod rewriting;

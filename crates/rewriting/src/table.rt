@@ -7,7 +7,7 @@ use levels::widths::SEGMENT_WIDTH;
 use text::bin;
 
 // The bytes from one place up to another.
-#[derive(Drop)]
+#[derive(Clone, Copy, Drop)]
 pub(crate) struct Part {
     pub from: usize,
     pub to: usize,

@@ -1,4 +1,6 @@
 // The row list: 79 rows, each with its tag, its maximum, its mandatory mark and its enclosing loop.
+#![tactic(auto)]
+
 ghost use Rattle.std.specs.Prelude.{◌≡◌};
 ghost use Rattle.rows.specs.RowList.{row_at};
 

@@ -4,7 +4,7 @@ ghost use Rattle.text.specs.Bytes.{among};
 ghost use Rattle.rows.specs.RowSets.{reply_rows, rows_of};
 
 // By which profile a transaction is read.
-#[derive(Drop)]
+#[derive(Clone, Copy, Drop)]
 pub enum ProfileName {
     // Nonconformance reports.
     Report,

@@ -3,6 +3,8 @@
 // there in one line why it is refused. Standard error gets a hint where the bytes show what was sent instead, and why an input could not be
 // read; then nothing is on standard output.
 // What decides is `reading::read`; this crate only prints. The script `stormhlaw` runs it, once for each report.
+#![tactic(auto)]
+
 mod listing;
 
 use console::{hints, input, judging};

@@ -7,7 +7,7 @@ ghost use Rattle.text.specs.internal.Count.{count_from};
 use crate::separators;
 
 // What a count comes to.
-#[derive(Drop)]
+#[derive(Clone, Copy, Drop)]
 pub enum Counted {
     // The number, 1 at least, and the place of the separator behind it.
     Told(usize, usize),

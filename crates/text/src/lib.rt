@@ -1,4 +1,6 @@
 // The ground of a reading: the three separators, and the parts of a segment.
+#![tactic(auto)]
+
 pub mod bin;
 pub mod compare;
 pub mod lines;

@@ -5,7 +5,7 @@ ghost use Rattle.text.specs.Cut.{at_most_one, line_end, skip_of};
 use crate::separators::Separators;
 
 // What becomes of a line end behind a terminator.
-#[derive(Drop)]
+#[derive(Clone, Copy, Drop)]
 pub enum LineEnds {
     // It is skipped: at most one CR and then at most one LF.
     Skipped,

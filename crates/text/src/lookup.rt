@@ -7,7 +7,7 @@ use crate::search::Found;
 use crate::separators::Separators;
 use crate::{bin, search};
 
-#[derive(Drop)]
+#[derive(Clone, Copy, Drop)]
 pub struct Span {
     pub start: usize,
     pub len: usize,

@@ -4,7 +4,7 @@ ghost use Rattle.text.specs.Bytes.{among};
 ghost use Rattle.text.specs.internal.Search.{Finds};
 
 // Where a byte was found.
-#[derive(Drop)]
+#[derive(Clone, Copy, Drop)]
 pub(crate) enum Found {
     At(usize),
     Nowhere,

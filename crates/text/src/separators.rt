@@ -2,7 +2,7 @@
 ghost use Rattle.std.specs.Prelude.{◌≡◌};
 ghost use Rattle.text.specs.Separators.{is_digit, may_serve, fit_separators, standard};
 
-#[derive(Drop)]
+#[derive(Clone, Copy, Drop)]
 pub struct Separators {
     pub element: u8,
     pub component: u8,

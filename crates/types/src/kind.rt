@@ -1,5 +1,5 @@
 // A type of document 01; Set842 is ID that is equal to 842.
-#[derive(Drop)]
+#[derive(Clone, Copy, Drop)]
 pub enum Kind {
     AN,
     ID,

@@ -1,4 +1,6 @@
 // The six types of document 01, and whether a value is of a type and a length.
+#![tactic(auto)]
+
 mod dates;
 pub mod digits;
 pub mod kind;

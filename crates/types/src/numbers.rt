@@ -9,7 +9,7 @@ use text::separators;
 
 // What the check of a text hands back: whether it fits, its signed digits as one whole number, how many of them stand behind the point, the
 // exponent, and whether one is written. Where the text does not fit, all else is 0.
-#[derive(Drop)]
+#[derive(Clone, Copy, Drop)]
 pub struct Number {
     pub fit: bool,
     pub value: i64,
@@ -19,7 +19,7 @@ pub struct Number {
 }
 
 // What stands behind the digits: whether it is an exponent or nothing, whether one is written, and the exponent.
-#[derive(Drop)]
+#[derive(Clone, Copy, Drop)]
 struct Exponent {
     fit: bool,
     written: bool,

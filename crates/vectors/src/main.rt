@@ -9,6 +9,8 @@
 //            profile of replies
 //   13       how long the input is, three bytes; the input of a walk is the level table, one byte a number, 255 standing for the largest number
 //            of 64 bits
+#![tactic(auto)]
+
 ghost use Rattle.std.specs.Prelude.{◌≡◌, ◌<◌, ◌≤◌, length};
 
 use gate::answer::Answer;
