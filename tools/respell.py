@@ -14,7 +14,7 @@ import sys
 
 TOKEN = re.compile(r"[^\s(){}\[\].,;:\"«»@`|λ]+")
 SIGNATURE = re.compile(r"^((?:(?:abbrev|unfoldable|pub) )*)(?:(data|record|ruleset|syntax) )?([^\s(){}.,;:\"]+)(?= \(| \{| :)")
-MEMBER = re.compile(r"^  (?:pub )?([^\s(){}.,;:\"]+(?: [^\s(){}.,;:\"]+)*) : ")
+MEMBER = re.compile(r"^ +(?:pub |abbrev |unfoldable )*([^\s(){}.,;:\"]+(?: [^\s(){}.,;:\"]+)*) : ")
 # names of the library that a dash may stand behind or before
 WORDS = set("length take drop append map set get_or replicate reverse sum filter cond min max add sub mul".split())
 
@@ -77,7 +77,7 @@ def table(tops, members):
         if not kinds & {"data", "record", "syntax"} and not name[:1].isupper() and re.search(r"[a-zA-Z]", name) and not name.startswith("/"):
             every[name] = snake(name, definitions)
     for name in members:
-        if not name[:1].isupper() and name not in every:
+        if not name[:1].isupper() and name not in every and re.match(r"[a-z]", name):
             every[name] = snake(name, definitions)
     every = {a: b for a, b in every.items() if a != b}
     # what is taken: every word of the antt files that no path ends in, and the parameters of functions
@@ -100,7 +100,7 @@ def table(tops, members):
             taken.add(f"{new}_lem")
             said.append(f"{new} -> {new}_lem, since {name} becomes {new}")
         elif new in taken:
-            choices = [new + "_lem"] if name in lemmas else [new + ("_in" if new.endswith("_of") else "_of"), new + "_at"]
+            choices = [new + "_lem"] if name in lemmas or "-" in name else [new + ("_in" if new.endswith("_of") else "_of"), new + "_at"]
             new = next(it for it in choices + [new + "_as_told"] if it not in taken)
             said.append(f"{name} -> {new}, since {every[name]} is taken")
         every[name] = new

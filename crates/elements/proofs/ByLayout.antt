@@ -78,39 +78,39 @@ module _ (s : Bytes) (starts : List ℕ) (layout : Layout) where
     view = layout_view s starts layout component
 
     -- as many elements as it says
-    pub view-count : element_count view ≡ layout.count
+    pub view_count : element_count view ≡ layout.count
     unfolding layout_view
-    view-count =
+    view_count =
         omega (arith, up_to_length (suc layout.count) (λ (k : ℕ). components_by layout.single component (piece_in s starts layout k)))
 
     -- element k is the components of piece k
-    pub view-element : (k : ℕ) → k ≤ layout.count → element_of view k ≡ components_by layout.single component (piece_in s starts layout k)
+    pub view_element : (k : ℕ) → k ≤ layout.count → element_of view k ≡ components_by layout.single component (piece_in s starts layout k)
     unfolding layout_view
-    view-element k l =
+    view_element k l =
         up_to_below (suc layout.count) (λ (k : ℕ). components_by layout.single component (piece_in s starts layout k)) empty k (omega arith)
 
-    view-past : (k : ℕ) → layout.count < k → element_of view k ≡ empty
+    view_past : (k : ℕ) → layout.count < k → element_of view k ≡ empty
     unfolding layout_view
-    view-past k l =
+    view_past k l =
         up_to_past (suc layout.count) (λ (k : ℕ). components_by layout.single component (piece_in s starts layout k)) empty k (omega arith)
 
     -- as the code finds it
-    pub view-at : (k : ℕ) → element_of view k ≡ components_in s starts layout component k
+    pub view_at : (k : ℕ) → element_of view k ≡ components_in s starts layout component k
     unfolding components_in element_in
-    view-at k =
-        by_cases (dec_lt layout.count k) (λ l. view-past k l ∙ rw (lt-leb k layout.count l) (sym (components_empty layout.single component)))
-        (λ l. let up : k ≤ layout.count = omega arith in view-element k up ∙ rw (le-leb k layout.count up))
+    view_at k =
+        by_cases (dec_lt layout.count k) (λ l. view_past k l ∙ rw (lt-leb k layout.count l) (sym (components_empty layout.single component)))
+        (λ l. let up : k ≤ layout.count = omega arith in view_element k up ∙ rw (le-leb k layout.count up))
 
     -- past the last element there is nothing
-    pub at-past : (k : ℕ) → layout.count < k → components_in s starts layout component k ≡ empty
+    pub at_past : (k : ℕ) → layout.count < k → components_in s starts layout component k ≡ empty
     unfolding components_in
-    at-past k l = rw (← element_past k l) (components_empty layout.single component)
+    at_past k l = rw (← element_past k l) (components_empty layout.single component)
 
-    pub at-present : (k : ℕ) → present (components_in s starts layout component k) ≡ there_in s starts layout k
+    pub at_present : (k : ℕ) → present (components_in s starts layout component k) ≡ there_in s starts layout k
     unfolding components_in
-    at-present k = components_present layout.single component (element_in s starts layout k)
+    at_present k = components_present layout.single component (element_in s starts layout k)
 
-    pub element-at : (k : ℕ) (p : Bytes) → p ≡ element_in s starts layout k
+    pub element_at : (k : ℕ) (p : Bytes) → p ≡ element_in s starts layout k
         → components_by layout.single component p ≡ components_in s starts layout component k
     unfolding components_in
-    element-at k p e = ap (components_by layout.single component) e
+    element_at k p e = ap (components_by layout.single component) e

@@ -81,8 +81,8 @@ module _ {t u : ℕ → Bool} {k unfit : ℕ} (w : Judged t u k unfit) where
     both = first_broken (each 8 1 upto t ++ each 10 1 upto u)
 
     -- an element that is incomplete decides
-    pub judged-missing : k ≤ upto → t k ≡ false → Broken 8 k ≡ both
-    judged-missing l e =
+    pub judged_missing : k ≤ upto → t k ≡ false → Broken 8 k ≡ both
+    judged_missing l e =
         sym
         (broken_append (each 8 1 upto t) (each 10 1 upto u)
         ∙ ap (λ (v : Verdict). and_then v (first_broken (each 10 1 upto u))) (each_broken 8 1 upto k t w.complete w.start (omega arith) e))
@@ -93,15 +93,15 @@ module _ {t u : ℕ → Bool} {k unfit : ℕ} (w : Judged t u k unfit) where
           broken_append (each 8 1 upto t) (each 10 1 upto u)
           ∙ ap (λ (v : Verdict). and_then v (first_broken (each 10 1 upto u))) (each_holds 8 1 upto t (λ j l m. w.complete j l (omega arith)))
 
-      pub judged-unfit : (unfit ≡ 0 → ⊥) → Broken 10 unfit ≡ both
-      judged-unfit n =
+      pub judged_unfit : (unfit ≡ 0 → ⊥) → Broken 10 unfit ≡ both
+      judged_unfit n =
           let f = w.found n in
           sym
           (all_there
           ∙ each_broken 10 1 upto unfit u (λ j l m. w.suited j l (omega (arith, f.1)) (inr m)) (omega (arith, n)) (omega (arith, f.1)) f.0)
 
-      pub judged-all : unfit ≡ 0 → Holds ≡ both
-      judged-all z = sym (all_there ∙ each_holds 10 1 upto u (λ j l m. w.suited j l (omega arith) (inl z)))
+      pub judged_all : unfit ≡ 0 → Holds ≡ both
+      judged_all z = sym (all_there ∙ each_holds 10 1 upto u (λ j l m. w.suited j l (omega arith) (inl z)))
 
 -- what the code finds of element k
 module _ (rules : Rules) (at : ℕ → Piece) (k : ℕ) (rule : Rule) (p : Piece) (e : element_by rule ≡ rule_of rules k) (f : p ≡ at k) where

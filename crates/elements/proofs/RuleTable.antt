@@ -166,12 +166,12 @@ module _ (k : ℕ) (r : Rule) (inside : eqb k 0 || ltb 31 k ≡ false) where
   item_first one q = by_simple false AN 1 20 _ r q (rw (eq-eqb k 1 one, (none_of (eqb k 0) (ltb 31 k) inside).0) at item_is)
 
   module _ (n : k ≡ 1 → ⊥) where
-    pub item-even : k % 2 ≡ 0 → r ≡ rule_by (eqb k 2, false, ID, 2, 2) → Renders (rule_of (rules_of (tag "LIN")) k) r
-    item-even even q =
+    pub item_even : k % 2 ≡ 0 → r ≡ rule_by (eqb k 2, false, ID, 2, 2) → Renders (rule_of (rules_of (tag "LIN")) k) r
+    item_even even q =
         by_simple (eqb k 2) ID 2 2 _ r q
         (rw ((none_of (eqb k 0) (ltb 31 k) inside).0, ne_eqb k 1 n, eq-eqb (k % 2) 0 even) at item_is)
 
-    pub item-odd : (k % 2 ≡ 0 → ⊥) → r ≡ rule_by (eqb k 3, false, AN, 1, 48) → Renders (rule_of (rules_of (tag "LIN")) k) r
-    item-odd odd q =
+    pub item_odd : (k % 2 ≡ 0 → ⊥) → r ≡ rule_by (eqb k 3, false, AN, 1, 48) → Renders (rule_of (rules_of (tag "LIN")) k) r
+    item_odd odd q =
         by_simple (eqb k 3) AN 1 48 _ r q
         (rw ((none_of (eqb k 0) (ltb 31 k) inside).0, ne_eqb k 1 n, ne_eqb (k % 2) 0 odd) at item_is)

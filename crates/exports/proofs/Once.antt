@@ -12,7 +12,7 @@ use Rattle.gate.specs.Records.{Tables}
 use Rattle.gate.specs.declared.how.How.{How}
 use Rattle.gate.proofs.reading.Once.{reads_once}
 use Rattle.rewriting.proofs.Once.{rewrites_once}
-use Rattle.outline.proofs.Once.{walks-once}
+use Rattle.outline.proofs.Once.{walks_once}
 use Rattle.exports.specs.Promises.{Told, ToldAgain, walk_numbers, ToldWalk, ToldPart}
 
 -- the numbers of a reading, and both tables, are one
@@ -33,7 +33,7 @@ told_again_once {profile} {old} {new} {s} {before} {x} {x'} {output} {w} {w'} a 
 pub told_walk_once : {levels : List ℕ} {count : ℕ} {before x x' : List ℕ} {two two' : List ℕ} → ToldWalk levels count before x two
     → ToldWalk levels count before x' two' → (two ≡ two') × (x ≡ x')
 told_walk_once {levels} {count} {before} {x} {x'} a b =
-    let o = walks-once levels count before a.answer b.answer x x' a.walks b.walks in
+    let o = walks_once levels count before a.answer b.answer x x' a.walks b.walks in
     (a.numbers ∙ ap walk_numbers o.0 ∙ sym b.numbers, o.1)
 
 -- the numbers of a part are one

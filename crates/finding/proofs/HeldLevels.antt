@@ -29,17 +29,17 @@ shut_by false false = refl
 -- it owes no child exactly if its mark is not 1 or it has one
 owes_by : (mark : Bytes) (child : Bool)
     → not (eqb (cond (same mark (bytes "0")) 1 (cond (same mark (bytes "1") && not child) 2 0)) 2) ≡ not (same mark (bytes "1")) || child
-owes_by mark child = by-mark (same mark (bytes "0")) refl
+owes_by mark child = by_mark (same mark (bytes "0")) refl
   where
     by_one : (one had : Bool) → not (eqb (cond (one && not had) 2 0) 2) ≡ not one || had
     by_one true true = refl
     by_one true false = refl
     by_one false had = refl
 
-    by-mark : (zero : Bool) → same mark (bytes "0") ≡ zero
+    by_mark : (zero : Bool) → same mark (bytes "0") ≡ zero
         → not (eqb (cond zero 1 (cond (same mark (bytes "1") && not child) 2 0)) 2) ≡ not (same mark (bytes "1")) || child
-    by-mark true e = rw (true_same mark (bytes "0") e)
-    by-mark false e = by_one (same mark (bytes "1")) child
+    by_mark true e = rw (true_same mark (bytes "0") e)
+    by_mark false e = by_one (same mark (bytes "1")) child
 
 module _ (s : Bytes) (separator : ℕ) (segments levels : List ℕ) (m : ℕ) (all : List Level) where
   -- level n as a parent

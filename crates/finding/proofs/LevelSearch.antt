@@ -86,29 +86,29 @@ module _ {s : Bytes} {separator : ℕ} {segments levels lasts : List ℕ} {place
   module _ {left n from : ℕ} (k : Seeks s separator segments levels lasts place id n) (some : 0 < n) (next : left ≡ before_in levels n)
       (start : from ≡ min (start_of segments (level_entry levels n 0) + 3) (length s)) where
     -- its HL01 begins at `from`
-    rest-is : drop (start_of segments (level_entry levels n 0) + 3) s ≡ drop from s
-    rest-is = sym (ap (λ (k : ℕ). drop k s) start ∙ drop_within (start_of segments (level_entry levels n 0) + 3) s)
+    rest_is : drop (start_of segments (level_entry levels n 0) + 3) s ≡ drop from s
+    rest_is = sym (ap (λ (k : ℕ). drop k s) start ∙ drop_within (start_of segments (level_entry levels n 0) + 3) s)
 
     -- it does not end where id does
-    pub seeks-other-end : MayEnd separator (drop from s) (length id) false → Seeks s separator segments levels lasts place id left
-    seeks-other-end ends = seeks_past k some next (ap (starts_with separator id) rest-is ∙ starts_other_end separator id (drop from s) ends)
+    pub seeks_other_end : MayEnd separator (drop from s) (length id) false → Seeks s separator segments levels lasts place id left
+    seeks_other_end ends = seeks_past k some next (ap (starts_with separator id) rest_is ∙ starts_other_end separator id (drop from s) ends)
 
     -- it may, and the bytes are compared
-    pub compares-none : MayEnd separator (drop from s) (length id) true → Compares s separator segments levels lasts place id left n from 0
-    compares-none ends = record { seeks = k; some = some; next = next; rest = rest-is; ends = ends; agree = λ j l. absurd (omega arith) }
+    pub compares_none : MayEnd separator (drop from s) (length id) true → Compares s separator segments levels lasts place id left n from 0
+    compares_none ends = record { seeks = k; some = some; next = next; rest = rest_is; ends = ends; agree = λ j l. absurd (omega arith) }
 
   module _ {left n from i : ℕ} (k : Compares s separator segments levels lasts place id left n from i) where
     -- the byte lies within the bytes
-    pub compares-inside : i < length id → from + i < length s
-    compares-inside l = elim k.ends [ inl e ↦ omega (arith, e, length-drop from s) | inr e ↦ omega (arith, e.0, length-drop from s) ]
+    pub compares_inside : i < length id → from + i < length s
+    compares_inside l = elim k.ends [ inl e ↦ omega (arith, e, length-drop from s) | inr e ↦ omega (arith, e.0, length-drop from s) ]
 
     -- the level before it has a lesser number
-    pub compares-next : left < n
-    compares-next = omega (arith, k.next, k.some)
+    pub compares_next : left < n
+    compares_next = omega (arith, k.next, k.some)
 
     -- one byte more agrees
-    pub compares-more : get_or s (from + i) 0 ≡ get_or id i 0 → Compares s separator segments levels lasts place id left n from (i + 1)
-    compares-more e = record {
+    pub compares_more : get_or s (from + i) 0 ≡ get_or id i 0 → Compares s separator segments levels lasts place id left n from (i + 1)
+    compares_more e = record {
       seeks = k.seeks;
       some = k.some;
       next = k.next;
@@ -118,15 +118,15 @@ module _ {s : Bytes} {separator : ℕ} {segments levels lasts : List ℕ} {place
     }
 
     -- a byte differs
-    pub seeks-other-byte : i < length id → (get_or s (from + i) 0 ≡ get_or id i 0 → ⊥) → Seeks s separator segments levels lasts place id left
-    seeks-other-byte l h =
+    pub seeks_other_byte : i < length id → (get_or s (from + i) 0 ≡ get_or id i 0 → ⊥) → Seeks s separator segments levels lasts place id left
+    seeks_other_byte l h =
         seeks_past k.seeks k.some k.next
         (ap (starts_with separator id) k.rest
         ∙ starts_other_byte separator id (drop from s) i l (λ e. h (sym (get_or-drop from s i 0) ∙ e)))
 
     -- none differs
-    pub sought-met : length id ≤ i → n ≡ sought s separator segments levels lasts place id
-    sought-met l =
+    pub sought_met : length id ≤ i → n ≡ sought s separator segments levels lasts place id
+    sought_met l =
         sym
         (k.seeks.still
         ∙ sought_hit s separator segments levels id n k.some

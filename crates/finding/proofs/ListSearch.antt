@@ -45,10 +45,10 @@ module _ (s : Bytes) (separator : ℕ) (segments levels : List ℕ) (id : Bytes)
 
   module _ (l : Level) (ls : List Level) where
     -- the latest level is of that list: it has the HL01, or the search goes on before it
-    finds-here : {m : ℕ} {all : List Level} → Held s separator segments levels m all l ls → place_of l.id ≡ place_of id → Finds ls
+    finds_here : {m : ℕ} {all : List Level} → Held s separator segments levels m all l ls → place_of l.id ≡ place_of id → Finds ls
         → (k : ℕ) → suc (length ls) ≤ k → sought_from s separator segments levels id k (suc (length ls)) ≡ called id (l ∷ ls)
-    finds-here h e f zero r = absurd (omega arith)
-    finds-here h e f (suc k) r =
+    finds_here h e f zero r = absurd (omega arith)
+    finds_here h e f (suc k) r =
         let name : calls s separator segments levels (suc (length ls)) id ≡ same l.id id =
         ap (λ (n : ℕ). starts_with separator id (drop (start_of segments n + 3) s)) h.segment_is
         ∙ starts_first separator id (drop (start_of segments l.segment + 3) s) free ∙ ap (λ (p : Bytes). same p id) h.named in
@@ -73,7 +73,7 @@ module _ (s : Bytes) (separator : ℕ) (segments levels : List ℕ) (id : Bytes)
         by_value : (b : Bool) → eqb (place_of l.id) (place_of id) ≡ b
             → (k : ℕ) → cond b (suc (length ls)) (last_in (place_of id) ls) ≤ k
             → sought_from s separator segments levels id k (cond b (suc (length ls)) (last_in (place_of id) ls)) ≡ called id (l ∷ ls)
-        by_value true e = finds-here h (eqb-true (place_of l.id) (place_of id) e) f
+        by_value true e = finds_here h (eqb-true (place_of l.id) (place_of id) e) f
         by_value false e = finds_past (eqb-false (place_of l.id) (place_of id) e) f
 
   -- however many levels there are

@@ -138,8 +138,8 @@ module _ (s : Bytes) (separator : ℕ) {segments segments' : List ℕ} (levels :
       (others : (k j : ℕ) → 1 ≤ k → k ≤ n → j < level_width → (k ≡ new.parent → j ≡ 3 → ⊥) → level_entry levels' k j ≡ level_entry levels k j)
       (note : 1 ≤ new.parent → level_entry levels' new.parent 3 ≡ answered (level_entry levels new.parent 3)) where
     -- the note of level k then
-    note-then : (k : ℕ) → 1 ≤ k → k ≤ n → level_entry levels' k 3 ≡ cond (eqb new.parent k) (answered (level_entry levels k 3)) (level_entry levels k 3)
-    note-then k low high = by_value (eqb new.parent k) refl
+    note_then : (k : ℕ) → 1 ≤ k → k ≤ n → level_entry levels' k 3 ≡ cond (eqb new.parent k) (answered (level_entry levels k 3)) (level_entry levels k 3)
+    note_then k low high = by_value (eqb new.parent k) refl
       where
         by_value : (b : Bool) → eqb new.parent k ≡ b → level_entry levels' k 3 ≡ cond b (answered (level_entry levels k 3)) (level_entry levels k 3)
         by_value true e =
@@ -150,15 +150,15 @@ module _ (s : Bytes) (separator : ℕ) {segments segments' : List ℕ} (levels :
     -- what a child does not change of it
     part_then : (part : ℕ → ℕ) → ((note : ℕ) → part (answered note) ≡ part note) → (k : ℕ) → 1 ≤ k → k ≤ n
         → part (level_entry levels' k 3) ≡ part (level_entry levels k 3)
-    part_then part same-part k low high = ap part (note-then k low high) ∙ by_value (eqb new.parent k)
+    part_then part same-part k low high = ap part (note_then k low high) ∙ by_value (eqb new.parent k)
       where
         by_value : (b : Bool) → part (cond b (answered (level_entry levels k 3)) (level_entry levels k 3)) ≡ part (level_entry levels k 3)
         by_value true = same-part (level_entry levels k 3)
         by_value false = refl
 
-    asks-then : (k : ℕ) → 1 ≤ k → k ≤ n → (mark : Bytes) → asks_in (level_entry levels k 3) ≡ still_asks all k mark
+    asks_then : (k : ℕ) → 1 ≤ k → k ≤ n → (mark : Bytes) → asks_in (level_entry levels k 3) ≡ still_asks all k mark
         → asks_in (level_entry levels' k 3) ≡ still_asks (new ∷ all) k mark
-    asks-then k low high mark e = ap asks_in (note-then k low high) ∙ by_value (eqb new.parent k)
+    asks_then k low high mark e = ap asks_in (note_then k low high) ∙ by_value (eqb new.parent k)
       where
         by_value : (b : Bool) → asks_in (cond b (answered (level_entry levels k 3)) (level_entry levels k 3))
             ≡ cond (same mark (bytes "0")) 1 (cond (same mark (bytes "1") && not (b || has_child k all)) 2 0)
@@ -177,7 +177,7 @@ module _ (s : Bytes) (separator : ℕ) {segments segments' : List ℕ} (levels :
             segment_is = others k 0 (omega arith) few (omega arith) (λ e z. omega (arith, z)) ∙ h.segment_is;
             depth_is = ap (min deepest) (others k 2 (omega arith) few (omega arith) (λ e z. omega (arith, z))) ∙ h.depth_is;
             code_is = part_then code_in answered_code k (omega arith) few ∙ h.code_is;
-            asks_is = asks-then k (omega arith) few l.mark h.asks_is;
+            asks_is = asks_then k (omega arith) few l.mark h.asks_is;
             link_is = part_then link_in answered_link k (omega arith) few ∙ h.link_is;
           },
           grows ls (omega arith) held.1,
@@ -212,32 +212,32 @@ module _ {s : Bytes} {separator : ℕ} {segments levels lasts : List ℕ} {m : �
     abbrev pub numbers : List ℕ
     numbers = suc m ∷ l.parent ∷ l.depth ∷ note_of l.code (asks_of l.mark) (get_or lasts place 0) ∷ []
 
-    abbrev levels-then : List ℕ
-    levels-then = stored_at level_width (child_met levels l.parent) (length ls) numbers
+    abbrev levels_then : List ℕ
+    levels_then = stored_at level_width (child_met levels l.parent) (length ls) numbers
 
-    abbrev lasts-then : List ℕ
-    lasts-then = set lasts place (suc (length ls) % 4294967296)
+    abbrev lasts_then : List ℕ
+    lasts_then = set lasts place (suc (length ls) % 4294967296)
 
     met : Met levels (child_met levels l.parent) l.parent
     met = child_met_lem levels l.parent (omega arith)
 
-    room-then : suc (length ls) ≤ length (child_met levels l.parent) / level_width
-    room-then = rw (met_long levels l.parent) level_room
+    room_then : suc (length ls) ≤ length (child_met levels l.parent) / level_width
+    room_then = rw (met_long levels l.parent) level_room
 
-    entry-then : (j : ℕ) → j < level_width → level_entry levels-then (suc (length ls)) j ≡ get_or numbers j 0
-    entry-then j h = stored_entry level_width (child_met levels l.parent) (length ls) numbers refl room-then j h
+    entry_then : (j : ℕ) → j < level_width → level_entry levels_then (suc (length ls)) j ≡ get_or numbers j 0
+    entry_then j h = stored_entry level_width (child_met levels l.parent) (length ls) numbers refl room_then j h
 
-    levels_stay : SameRecords level_width (child_met levels l.parent) levels-then (length ls)
-    levels_stay = stored_same level_width (child_met levels l.parent) (length ls) numbers refl room-then
+    levels_stay : SameRecords level_width (child_met levels l.parent) levels_then (length ls)
+    levels_stay = stored_same level_width (child_met levels l.parent) (length ls) numbers refl room_then
 
-    own-place : place ≡ place_of l.id
-    own-place = omega (arith, place_below l.id)
+    own_place : place ≡ place_of l.id
+    own_place = omega (arith, place_below l.id)
 
     last_one : get_or lasts place 0 ≡ last_in (place_of l.id) ls
-    last_one = rw own-place (t.known (place_of l.id) (place_below l.id))
+    last_one = rw own_place (t.known (place_of l.id) (place_below l.id))
 
-    asks-few : asks_of l.mark < 4
-    asks-few = by_value (same l.mark (bytes "0")) (same l.mark (bytes "1"))
+    asks_few : asks_of l.mark < 4
+    asks_few = by_value (same l.mark (bytes "0")) (same l.mark (bytes "1"))
       where
         by_value : (zero one : Bool) → cond zero 1 (cond one 2 0) < 4
         by_value true one = omega arith
@@ -245,45 +245,45 @@ module _ {s : Bytes} {separator : ℕ} {segments levels lasts : List ℕ} {m : �
         by_value false false = omega arith
 
     -- it has no child yet
-    asks-own : asks_of l.mark ≡ still_asks (l ∷ ls) (suc (length ls)) l.mark
-    asks-own =
+    asks_own : asks_of l.mark ≡ still_asks (l ∷ ls) (suc (length ls)) l.mark
+    asks_own =
         rw (ne_eqb l.parent (suc (length ls)) (λ e. omega arith), no_child s separator segments levels m ls (suc (length ls)) ls t.each (omega arith), and_true (same l.mark (bytes "1")))
 
-    own : Held s separator segments_then levels-then (suc m) (l ∷ ls) l ls
+    own : Held s separator segments_then levels_then (suc m) (l ∷ ls) l ls
     own =
         let link : get_or lasts place 0 < 4294967296 = rw last_one (omega (arith, last_within (place_of l.id) ls)) in
         record {
           named = rw number (ap (id_at s separator) (stored_entry segment_width segments m (start ∷ len ∷ more) wide room 0 (omega arith)) ∙ hl_id s separator start len l.id written);
           placed = omega arith;
           earlier = early;
-          segment_is = entry-then 0 (omega arith) ∙ sym number;
-          depth_is = ap (min deepest) (entry-then 2 (omega arith)) ∙ omega arith;
-          code_is = ap code_in (entry-then 3 (omega arith)) ∙ noted_code l.code (asks_of l.mark) (get_or lasts place 0) coded;
-          asks_is = ap asks_in (entry-then 3 (omega arith)) ∙ noted_asks l.code (asks_of l.mark) (get_or lasts place 0) asks-few ∙ asks-own;
-          link_is = ap link_in (entry-then 3 (omega arith)) ∙ noted_link l.code (asks_of l.mark) (get_or lasts place 0) link ∙ last_one;
+          segment_is = entry_then 0 (omega arith) ∙ sym number;
+          depth_is = ap (min deepest) (entry_then 2 (omega arith)) ∙ omega arith;
+          code_is = ap code_in (entry_then 3 (omega arith)) ∙ noted_code l.code (asks_of l.mark) (get_or lasts place 0) coded;
+          asks_is = ap asks_in (entry_then 3 (omega arith)) ∙ noted_asks l.code (asks_of l.mark) (get_or lasts place 0) asks_few ∙ asks_own;
+          link_is = ap link_in (entry_then 3 (omega arith)) ∙ noted_link l.code (asks_of l.mark) (get_or lasts place 0) link ∙ last_one;
         }
 
-    others-then : (k j : ℕ) → 1 ≤ k → k ≤ length ls → j < level_width → (k ≡ l.parent → j ≡ 3 → ⊥) → level_entry levels-then k j ≡ level_entry levels k j
-    others-then k j low high h other = same_entry levels_stay k j high h ∙ met.others k j low h other
+    others_then : (k j : ℕ) → 1 ≤ k → k ≤ length ls → j < level_width → (k ≡ l.parent → j ≡ 3 → ⊥) → level_entry levels_then k j ≡ level_entry levels k j
+    others_then k j low high h other = same_entry levels_stay k j high h ∙ met.others k j low h other
 
-    known-then : (q : ℕ) → q < lists → get_or lasts-then q 0 ≡ last_in q (l ∷ ls)
-    known-then q h = by_value (eqb (place_of l.id) q) refl
+    known_then : (q : ℕ) → q < lists → get_or lasts_then q 0 ≡ last_in q (l ∷ ls)
+    known_then q h = by_value (eqb (place_of l.id) q) refl
       where
-        by_value : (b : Bool) → eqb (place_of l.id) q ≡ b → get_or lasts-then q 0 ≡ cond b (suc (length ls)) (last_in q ls)
+        by_value : (b : Bool) → eqb (place_of l.id) q ≡ b → get_or lasts_then q 0 ≡ cond b (suc (length ls)) (last_in q ls)
         by_value true e =
-            let is : q ≡ place = omega (arith, eqb-true (place_of l.id) q e, own-place) in
+            let is : q ≡ place = omega (arith, eqb-true (place_of l.id) q e, own_place) in
             rw is (get_or-set_same lasts place (suc (length ls) % 4294967296) 0 (omega (arith, t.lists_long)) ∙ omega arith)
         by_value false e =
-            get_or-set_other lasts place q (suc (length ls) % 4294967296) 0 (λ is. eqb-false (place_of l.id) q e (sym own-place ∙ sym is)) ∙ t.known q h
+            get_or-set_other lasts place q (suc (length ls) % 4294967296) 0 (λ is. eqb-false (place_of l.id) q e (sym own_place ∙ sym is)) ∙ t.known q h
 
-    pub holds-level : TablesHold s separator segments_then levels-then lasts-then (suc m) (l ∷ ls)
-    holds-level = record {
-      room = rw levels_stay.size room-then;
+    pub holds_level : TablesHold s separator segments_then levels_then lasts_then (suc m) (l ∷ ls)
+    holds_level = record {
+      room = rw levels_stay.size room_then;
       each = (
         own,
-        grows s separator levels ls segments_stay levels-then l (length ls) others-then
+        grows s separator levels ls segments_stay levels_then l (length ls) others_then
             (λ low. same_entry levels_stay l.parent 3 early (omega arith) ∙ met.note low) ls (omega arith) t.each,
       );
-      known = known-then;
+      known = known_then;
       lists_long = length-set lasts place (suc (length ls) % 4294967296) ∙ t.lists_long;
     }

@@ -79,7 +79,7 @@ module _ (profile : Profile) (how : How) (t : Tables) (gs : List Placed) (rows :
     pub keeping : Keeping segment row
     pub no_room : RoomWith segment → ⊥
     pub number_is : number ≡ 17
-    pub element-is : element ≡ 0
+    pub element_is : element ≡ 0
 
   -- 0: the next segment is an SE, every rule holds, and there is room; its terminator ends the transaction. `kept` are the segments that have
   -- records, and `numbers` their rows. The four numbers of the answer count the segments, the levels and the bytes
@@ -89,8 +89,8 @@ module _ (profile : Profile) (how : How) (t : Tables) (gs : List Placed) (rows :
     pub keeping : Keeping segment row
     pub last : T (is_se (view_of how.separators segment))
     pub room : RoomWith segment
-    pub kept-is : kept ≡ gs ++ (record { at = end; segment = segment } ∷ [])
-    pub numbers-is : numbers ≡ rows ++ (row ∷ [])
+    pub kept_is : kept ≡ gs ++ (record { at = end; segment = segment } ∷ [])
+    pub numbers_is : numbers ≡ rows ++ (row ∷ [])
     pub counts : four ≡ 0 ∷ length kept ∷ length (levels_in profile (onto [] (seen how kept))) ∷ (end + length segment + 1) ∷ []
 
   -- a refusal: only what was passed has records, and the four numbers are the answer's number, the next segment, where it starts, and the element
@@ -98,8 +98,8 @@ module _ (profile : Profile) (how : How) (t : Tables) (gs : List Placed) (rows :
     pub number : ℕ
     pub element : ℕ
     pub cause : Stopped number element ⊎ (Breaks number element ⊎ Full number element)
-    pub kept-is : kept ≡ gs
-    pub numbers-is : numbers ≡ rows
+    pub kept_is : kept ≡ gs
+    pub numbers_is : numbers ≡ rows
     pub place : four ≡ number ∷ (length gs + 1) ∷ end ∷ element ∷ []
 
   abbrev pub Ends : Answer → List Placed → List ℕ → Type 0

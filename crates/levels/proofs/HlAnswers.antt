@@ -34,9 +34,9 @@ module _ (profile : LevelProfile) (ls : List Level) (c : Claim) where
 
   module _ (fresh : called c.id ls ≡ 0) where
     -- without a parent
-    pub judged-root : length c.parent ≡ 0 → judged_root profile c.code c.mark ≡ judged profile ls c
+    pub judged_root_lem : length c.parent ≡ 0 → judged_root profile c.code c.mark ≡ judged profile ls c
     unfolding judged judged_root
-    judged-root none =
+    judged_root_lem none =
         let own = code_of profile c.code in
         let v = first_broken (root_checks profile own c.mark) in
         let without : eqb (length c.parent) 0 ≡ true = eq-eqb (length c.parent) 0 none in
@@ -46,15 +46,15 @@ module _ (profile : LevelProfile) (ls : List Level) (c : Claim) where
 
     module _ (above : ℕ) (a : above ≡ called c.parent ls) (some : length c.parent ≡ 0 → ⊥) where
       -- 13
-      pub judged-nobody : above ≡ 0 → Refused 13 2 ≡ judged profile ls c
+      pub judged_nobody : above ≡ 0 → Refused 13 2 ≡ judged profile ls c
       unfolding judged
-      judged-nobody z = rw (fresh, ne_eqb (length c.parent) 0 some, ← a, z)
+      judged_nobody z = rw (fresh, ne_eqb (length c.parent) 0 some, ← a, z)
 
       -- under a parent
-      pub judged-child : (above ≡ 0 → ⊥) → (l : Level) → l ≡ level_at above ls
+      pub judged_child_lem : (above ≡ 0 → ⊥) → (l : Level) → l ≡ level_at above ls
           → judged_child profile (as_parent above l) c.code c.mark ≡ judged profile ls c
       unfolding judged judged_child
-      judged-child named l m =
+      judged_child_lem named l m =
           let own = code_of profile c.code in
           let v = first_broken (child_checks profile l.code (same l.mark (bytes "0")) own c.mark) in
           let known : leb 1 above ≡ true = le-leb 1 above (omega arith) in

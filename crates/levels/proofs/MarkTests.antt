@@ -30,8 +30,8 @@ module _ (profile : LevelProfile) (code : ℕ) (mark : Bytes) where
   fits_absent e = rw (eq-eqb (length mark) 0 e)
 
   module _ (some : length mark ≡ 0 → ⊥) where
-    pub fits-zero : true ≡ same mark (bytes "0") → true ≡ mark_fits profile code mark
-    fits-zero e = rw (ne_eqb (length mark) 0 some, ← e)
+    pub fits_zero : true ≡ same mark (bytes "0") → true ≡ mark_fits profile code mark
+    fits_zero e = rw (ne_eqb (length mark) 0 some, ← e)
 
     pub fits_one : (one may : Bool) → false ≡ same mark (bytes "0") → one ≡ same mark (bytes "1") → may ≡ may_be_marked profile code
         → one && may ≡ mark_fits profile code mark

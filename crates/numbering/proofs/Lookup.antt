@@ -124,25 +124,25 @@ module _ {table : List ℕ} {r : ℕ} {again : Bool} {t : ℕ} where
 
     -- a row there, which means itself
     module _ (h : stands_at table r t < 128) where
-      by-entry : (x : ℕ) → cond (again && (eqb (stands_at table r t) r && eqb (max_of r) 2)) 0 (stands_at table r t) ≡ x
+      by_entry : (x : ℕ) → cond (again && (eqb (stands_at table r t) r && eqb (max_of r) 2)) 0 (stands_at table r t) ≡ x
           → RowAfter table r again t x
-      by-entry x e =
+      by_entry x e =
           answer_means table r again t x
           (sym (after_entry table r again t lo hi ht ∙ rw (lt-leb 128 (stands_at table r t) h) e))
 
       -- a third of a row of maximum 2
-      pub third-refused : again ≡ true → stands_at table r t ≡ r → eqb (max_of r) 2 ≡ true → RowAfter table r again t 0
-      third-refused p q s = by-entry 0 (rw (p, eq-eqb (stands_at table r t) r q, s))
+      pub third_refused : again ≡ true → stands_at table r t ≡ r → eqb (max_of r) 2 ≡ true → RowAfter table r again t 0
+      third_refused p q s = by_entry 0 (rw (p, eq-eqb (stands_at table r t) r q, s))
 
       -- a row of another maximum once more
-      pub other-maximum : again ≡ true → stands_at table r t ≡ r → eqb (max_of r) 2 ≡ false
+      pub other_maximum : again ≡ true → stands_at table r t ≡ r → eqb (max_of r) 2 ≡ false
           → RowAfter table r again t (stands_at table r t)
-      other-maximum p q s = by-entry (stands_at table r t) (rw (p, eq-eqb (stands_at table r t) r q, s))
+      other_maximum p q s = by_entry (stands_at table r t) (rw (p, eq-eqb (stands_at table r t) r q, s))
 
       -- another row after one that stands right behind itself
       pub other_row : again ≡ true → (stands_at table r t ≡ r → ⊥) → RowAfter table r again t (stands_at table r t)
-      other_row p q = by-entry (stands_at table r t) (rw (p, ne_eqb (stands_at table r t) r q))
+      other_row p q = by_entry (stands_at table r t) (rw (p, ne_eqb (stands_at table r t) r q))
 
       -- any row after one that stands once
-      pub first-time : again ≡ false → RowAfter table r again t (stands_at table r t)
-      first-time p = by-entry (stands_at table r t) (rw p)
+      pub first_time : again ≡ false → RowAfter table r again t (stands_at table r t)
+      first_time p = by_entry (stands_at table r t) (rw p)

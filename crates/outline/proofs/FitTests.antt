@@ -50,16 +50,16 @@ module _ (t : List ℕ) (k : ℕ) {parent depth : ℕ} (p : parent ≡ parent_in
 
   module _ (some : parent ≡ 0 → ⊥) where
     -- one with a parent is not, where the parent is not earlier or the depth not 1 to 4
-    pub outside-unfit : outside k parent depth ≡ true → Fit t k → ⊥
-    outside-unfit e fit =
+    pub outside_unfit : outside k parent depth ≡ true → Fit t k → ⊥
+    outside_unfit e fit =
         ⊎_elim
         (λ top. some (p ∙ top.parent))
         (λ under. true≢false (sym e ∙ inside k parent depth (omega (arith, under.parent_below)) (omega (arith, under.depth)) (omega (arith, fit.shallow))))
         fit.hangs
 
     -- else it is fit exactly if its parent is one less deep
-    pub child-decides : outside k parent depth ≡ false → {above : ℕ} → above ≡ depth_in t parent → Decides (eqb above (depth - 1)) (Fit t k)
-    child-decides e {above} a =
+    pub child_decides : outside k parent depth ≡ false → {above : ℕ} → above ≡ depth_in t parent → Decides (eqb above (depth - 1)) (Fit t k)
+    child_decides e {above} a =
         let near = not_outside k parent depth e in
         equal_decides above (depth - 1)
         (λ same. record {

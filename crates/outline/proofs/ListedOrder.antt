@@ -18,7 +18,7 @@ use Rattle.outline.specs.Outline.{parent_in, path_to, Sooner, Outline}
 use Rattle.outline.specs.Walks.{FitTable}
 use Rattle.outline.specs.internal.Listing.{gathered, listed}
 use Rattle.outline.proofs.Paths.{sooner_not_self, sooner_aside, sooner_further, path_of_in, fit_path}
-use Rattle.outline.proofs.SortedLists.{Sorted, sorted_append, sorted_at, sorted-length, place_of_lem, held_at}
+use Rattle.outline.proofs.SortedLists.{Sorted, sorted_append, sorted_at, sorted_length, place_of_lem, held_at}
 use Rattle.outline.proofs.ListedLevels.{listed_only, listed_every}
 
 -- one level before another
@@ -110,4 +110,4 @@ module _ (t : List ℕ) (count : ℕ) (fit : FitTable t count) where
 
   -- and has as many places as there are levels
   pub listed_length : length (listed 4 t count 0) ≡ count
-  listed_length = sorted-length (Before t) (λ x. sooner_not_self (path_to t x)) count (listed 4 t count 0) sorted every (listed_only t count 4 0)
+  listed_length = sorted_length (Before t) (λ x. sooner_not_self (path_to t x)) count (listed 4 t count 0) sorted every (listed_only t count 4 0)

@@ -40,27 +40,27 @@ module _ (t : List ℕ) (count : ℕ) (before : List ℕ) where
     abbrev Same : Type 0
     Same = (r ≡ r') × (after ≡ after')
 
-    fit-once : WithFit r after → WithFit r' after' → Same
-    fit-once (inl x) (inl y) = (x.answer ∙ sym y.answer, x.unchanged ∙ sym y.unchanged)
-    fit-once (inl x) (inr y) = absurd (omega (arith, x.shorter, y.long))
-    fit-once (inr x) (inl y) = absurd (omega (arith, y.shorter, x.long))
-    fit-once (inr x) (inr y) = (
+    fit_once : WithFit r after → WithFit r' after' → Same
+    fit_once (inl x) (inl y) = (x.answer ∙ sym y.answer, x.unchanged ∙ sym y.unchanged)
+    fit_once (inl x) (inr y) = absurd (omega (arith, x.shorter, y.long))
+    fit_once (inr x) (inl y) = absurd (omega (arith, y.shorter, x.long))
+    fit_once (inr x) (inr y) = (
       x.answer ∙ sym y.answer,
       x.written ∙ ap (over before) (outline_once t count x.order y.order x.outline y.outline) ∙ sym y.written,
     )
 
-    room-once : WithRoom r after → WithRoom r' after' → Same
-    room-once (inl x) (inl y) = (
+    room_once : WithRoom r after → WithRoom r' after' → Same
+    room_once (inl x) (inl y) = (
       x.answer ∙ ap (λ (n : ℕ). Refused 20 n) (first_once r r' after after' x y) ∙ sym y.answer,
       x.unchanged ∙ sym y.unchanged,
     )
-    room-once (inl x) (inr v) = absurd (x.unfit (is_fit r' after' v x.level x.from x.upto))
-    room-once (inr u) (inl y) = absurd (y.unfit (is_fit r after u y.level y.from y.upto))
-    room-once (inr u) (inr v) = fit-once u v
+    room_once (inl x) (inr v) = absurd (x.unfit (is_fit r' after' v x.level x.from x.upto))
+    room_once (inr u) (inl y) = absurd (y.unfit (is_fit r after u y.level y.from y.upto))
+    room_once (inr u) (inr v) = fit_once u v
 
     -- the answer and the output of a walk are one
-    pub walks-once : Walks t count before r after → Walks t count before r' after' → Same
-    walks-once (inl x) (inl y) = (x.answer ∙ sym y.answer, x.unchanged ∙ sym y.unchanged)
-    walks-once (inl x) (inr v) = absurd (omega (arith, x.exceeds, has_room r' after' v))
-    walks-once (inr u) (inl y) = absurd (omega (arith, y.exceeds, has_room r after u))
-    walks-once (inr u) (inr v) = room-once u v
+    pub walks_once : Walks t count before r after → Walks t count before r' after' → Same
+    walks_once (inl x) (inl y) = (x.answer ∙ sym y.answer, x.unchanged ∙ sym y.unchanged)
+    walks_once (inl x) (inr v) = absurd (omega (arith, x.exceeds, has_room r' after' v))
+    walks_once (inr u) (inl y) = absurd (omega (arith, y.exceeds, has_room r after u))
+    walks_once (inr u) (inr v) = room_once u v

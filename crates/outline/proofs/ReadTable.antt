@@ -65,30 +65,30 @@ depth_told (l ∷ ls) rest k from upto =
 -- a level whose parent is among those before it, and which is one deeper than that, is fit behind them
 new_fit : (l : Level) (ls : List Level) (rest : List ℕ) → l.parent ≤ length ls → l.depth ≡ suc (level_at l.parent ls).depth → l.depth ≤ 4
     → Fit (records_of (l ∷ ls) ++ rest) (suc (length ls))
-new_fit l ls rest earlier deeper shallow = record { shallow = rw own-depth shallow; hangs = by_cases (dec_lt 0 l.parent) (λ h. inr (hanging h)) (λ h. inl (alone (omega arith))) }
+new_fit l ls rest earlier deeper shallow = record { shallow = rw own_depth shallow; hangs = by_cases (dec_lt 0 l.parent) (λ h. inr (hanging h)) (λ h. inl (alone (omega arith))) }
   where
     t : List ℕ
     t = records_of (l ∷ ls) ++ rest
 
-    own-parent : parent_in t (suc (length ls)) ≡ l.parent
-    own-parent = own_number l ls rest 1
+    own_parent : parent_in t (suc (length ls)) ≡ l.parent
+    own_parent = own_number l ls rest 1
 
-    own-depth : depth_in t (suc (length ls)) ≡ l.depth
-    own-depth = own_number l ls rest 2
+    own_depth : depth_in t (suc (length ls)) ≡ l.depth
+    own_depth = own_number l ls rest 2
 
     alone : l.parent ≡ 0 → Top t (suc (length ls))
     alone e = record {
-      parent = own-parent ∙ e;
-      depth = own-depth ∙ deeper ∙ ap (λ (n : ℕ). suc (level_at n ls).depth) e ∙ ap (λ (n : Level). suc n.depth) (level_nobody ls);
+      parent = own_parent ∙ e;
+      depth = own_depth ∙ deeper ∙ ap (λ (n : ℕ). suc (level_at n ls).depth) e ∙ ap (λ (n : Level). suc n.depth) (level_nobody ls);
     }
 
     hanging : 0 < l.parent → Hangs t (suc (length ls))
     hanging h = record {
-      parent_from = omega (arith, own-parent);
-      parent_below = omega (arith, own-parent);
-      depth = own-depth ∙ deeper ∙ omega (
+      parent_from = omega (arith, own_parent);
+      parent_below = omega (arith, own_parent);
+      depth = own_depth ∙ deeper ∙ omega (
         arith,
-        ap (λ (n : ℕ). depth_in t n) own-parent,
+        ap (λ (n : ℕ). depth_in t n) own_parent,
         ap (λ (u : List ℕ). depth_in u l.parent) (append_assoc (records_of ls) (record_of l) rest),
         depth_told ls (record_of l ++ rest) l.parent h earlier,
       );
@@ -114,7 +114,7 @@ module _ (name : ProfileName) (how : How) (s : Bytes) (before : Tables) where
   -- every segment that has a record kept its rules
   all_kept : (r : Answer) (kept : List Placed) (numbers : List ℕ) → Run profile how before s r kept numbers → From (Kept profile) [] (seen how kept)
   all_kept (Accepted segments levels bytes) kept numbers x = (accepted_transaction profile how before s segments levels bytes kept numbers x).meets.kept
-  all_kept (Refused number segment byte element) kept numbers x = rw x.ends.kept-is x.passed.kept
+  all_kept (Refused number segment byte element) kept numbers x = rw x.ends.kept_is x.passed.kept
 
   -- so each HL among them did
   leveled : (h vs : List View) → From (Kept profile) h vs → From (Leveled profile) h vs

@@ -42,12 +42,12 @@ pub settled : (t : List ℕ) (count : ℕ) → FitTable t count → (of j c : �
 settled t count fit of j zero stray behind before upto shallow hangs = omega arith
 settled t count fit of j (suc k) stray behind before upto shallow hangs =
     let parent = parent_latest t count k (omega arith) (omega arith) in
-    by-parent of shallow hangs (deeper_behind t (depth_in t (suc k) - 1) k j (omega arith) (omega arith)) (fit (suc k) (omega arith) upto).hangs
+    by_parent of shallow hangs (deeper_behind t (depth_in t (suc k) - 1) k j (omega arith) (omega arith)) (fit (suc k) (omega arith) upto).hangs
   where
-    by-parent : (p : ℕ) → depth_in t j ≤ depth_of t p → parent_in t (suc k) ≡ p → depth_in t (suc k) - 1 < depth_in t j
+    by_parent : (p : ℕ) → depth_in t j ≤ depth_of t p → parent_in t (suc k) ≡ p → depth_in t (suc k) - 1 < depth_in t j
         → Top t (suc k) ⊎ Hangs t (suc k) → ⊥
-    by-parent zero s e deep h = omega arith
-    by-parent (suc p) s e deep (inl top) = omega (arith, top.parent)
-    by-parent (suc p) s e deep (inr under) =
+    by_parent zero s e deep h = omega arith
+    by_parent (suc p) s e deep (inl top) = omega (arith, top.parent)
+    by_parent (suc p) s e deep (inr under) =
         let above : depth_in t (parent_in t (suc k)) ≡ depth_in t (suc p) = rw e in
         omega (arith, under.depth)

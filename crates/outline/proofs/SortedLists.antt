@@ -81,17 +81,17 @@ module _ (R : ℕ → ℕ → Type 0) where
 
   module _ (apart : (x : ℕ) → R x x → ⊥) where
     -- one more is counted where the list holds it
-    upto-present : (n : ℕ) (l : List ℕ) → Sorted l → Mem (suc n) l → upto (suc n) l ≡ suc (upto n l)
-    upto-present n (x ∷ l) s (here e) =
+    upto_present : (n : ℕ) (l : List ℕ) → Sorted l → Mem (suc n) l → upto (suc n) l ≡ suc (upto n l)
+    upto_present n (x ∷ l) s (here e) =
         rw (le-leb x (suc n) (omega arith), lt-leb x n (omega arith), upto_absent n l (λ m. apart x (s.0 x (mem-cast (sym e) m)))) (omega arith)
-    upto-present n (x ∷ l) s (later m) =
-        rw (same_test n x (λ e. apart x (s.0 x (mem-cast (sym e) m)))) (omega (arith, upto-present n l s.1 m))
+    upto_present n (x ∷ l) s (later m) =
+        rw (same_test n x (λ e. apart x (s.0 x (mem-cast (sym e) m)))) (omega (arith, upto_present n l s.1 m))
 
     -- a sorted list of exactly the numbers 1 to n has length n
-    pub sorted-length : (n : ℕ) (l : List ℕ) → Sorted l → ((x : ℕ) → 1 ≤ x → x ≤ n → Mem x l)
+    pub sorted_length : (n : ℕ) (l : List ℕ) → Sorted l → ((x : ℕ) → 1 ≤ x → x ≤ n → Mem x l)
         → ((x : ℕ) → Mem x l → (1 ≤ x) × (x ≤ n)) → length l ≡ n
-    sorted-length n l s every only = sym (upto_all n l (λ x m. (only x m).1)) ∙ counted n (omega arith)
+    sorted_length n l s every only = sym (upto_all n l (λ x m. (only x m).1)) ∙ counted n (omega arith)
       where
         counted : (k : ℕ) → k ≤ n → upto k l ≡ k
         counted zero h = upto_none l (λ x m. (only x m).0)
-        counted (suc k) h = upto-present k l s (every (suc k) (omega arith) h) ∙ ap suc (counted k (omega arith))
+        counted (suc k) h = upto_present k l s (every (suc k) (omega arith) h) ∙ ap suc (counted k (omega arith))

@@ -35,8 +35,8 @@ module _ (t : List ℕ) (count : ℕ) where
 
   module _ (fit : FitTable t count) (output : List ℕ) (long : count ≤ length output) where
     -- an output of as many places as there are levels has room for the list
-    pub list-fits : length (listed 4 t count 0) ≤ length output
-    list-fits = omega (arith, listed_length t count fit)
+    pub list_fits : length (listed 4 t count 0) ≤ length output
+    list_fits = omega (arith, listed_length t count fit)
 
     -- which is the outline
     pub list_written : {output' : List ℕ} → count ≤ room_of t → output' ≡ sets output 0 (listed 4 t count 0) → Lists t count output (Listed count) output'
@@ -47,5 +47,5 @@ module _ (t : List ℕ) (count : ℕ) where
       answer = refl;
       order = listed 4 t count 0;
       outline = listed_outline t count fit;
-      written = e ∙ sets_over output (listed 4 t count 0) list-fits;
+      written = e ∙ sets_over output (listed 4 t count 0) list_fits;
     }

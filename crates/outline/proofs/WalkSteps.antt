@@ -42,22 +42,22 @@ module _ {t : List ℕ} {count of depth : ℕ} {before : List ℕ} {at : ℕ} wh
 
   module _ {output : List ℕ} {next level : ℕ} (v : Visited t count of depth before at output next level) where
     -- the output is as long as it was
-    pub output-long : length output ≡ length before
-    output-long = ap length v.stored.1 ∙ length-sets before at (gathered (beneath t count depth) t of level)
+    pub output_long : length output ≡ length before
+    output_long = ap length v.stored.1 ∙ length-sets before at (gathered (beneath t count depth) t of level)
 
     -- behind the last level all is listed
-    pub listed-all : depth < 4 → count ≤ level → Stored before at (listed (4 - depth) t count of) output next
-    listed-all shallow end =
+    pub listed_all : depth < 4 → count ≤ level → Stored before at (listed (4 - depth) t count of) output next
+    listed_all shallow end =
         let e : count ≡ level = omega (arith, v.upto) in
         subst (λ (xs : List ℕ). Stored before at xs output next)
         (sym (listed_gathered t count of depth shallow ∙ ap (gathered (beneath t count depth) t of) e)) v.stored
 
     module _ (inside : level < count) where
       -- and behind the last stray it is where a level is no deeper
-      pub listed-ended : depth < 4 → FitTable t count → {stray deep : ℕ} → stray ≡ last_stray t count → depth ≡ depth_of t of
+      pub listed_ended : depth < 4 → FitTable t count → {stray deep : ℕ} → stray ≡ last_stray t count → depth ≡ depth_of t of
           → deep ≡ depth_in t (level + 1) → ltb stray (level + 1) && leb deep depth ≡ true
           → Stored before at (listed (4 - depth) t count of) output next
-      listed-ended shallow fit {stray} {deep} s d e ends =
+      listed_ended shallow fit {stray} {deep} s d e ends =
           let both : T (ltb stray (level + 1) && leb deep depth) = rw ends tt in
           let past = ltb→lt stray (level + 1) (first_of (ltb stray (level + 1)) (leb deep depth) both) in
           let no_deeper = leb→le deep depth (second_of (ltb stray (level + 1)) (leb deep depth) both) in
@@ -68,8 +68,8 @@ module _ {t : List ℕ} {count of depth : ℕ} {before : List ℕ} {at : ℕ} wh
           v.stored
 
       -- the next level, where it is no child
-      pub visited-other : (parent_in t (level + 1) ≡ of → ⊥) → Visited t count of depth before at output next (level + 1)
-      visited-other other = record {
+      pub visited_other : (parent_in t (level + 1) ≡ of → ⊥) → Visited t count of depth before at output next (level + 1)
+      visited_other other = record {
         from = omega (arith, v.from);
         upto = omega arith;
         stored = rw (gathered_other (beneath t count depth) t of level other) v.stored;
@@ -77,22 +77,22 @@ module _ {t : List ℕ} {count of depth : ℕ} {before : List ℕ} {at : ℕ} wh
 
       module _ (child : parent_in t (level + 1) ≡ of) where
         -- a child and what is beneath it have room
-        pub child-room : depth < 4 → at + length (listed (4 - depth) t count of) ≤ length before
+        pub child_room : depth < 4 → at + length (listed (4 - depth) t count of) ≤ length before
             → next + (1 + length (beneath t count depth (level + 1))) ≤ length output
-        child-room shallow room =
+        child_room shallow room =
             omega (
               arith,
-              output-long,
+              output_long,
               v.stored.0,
               ap length (listed_gathered t count of depth shallow),
               gathered_room (beneath t count depth) t of level count inside child,
             )
 
         -- and are listed
-        pub visited-child : {output' : List ℕ} {next' : ℕ}
+        pub visited_child : {output' : List ℕ} {next' : ℕ}
             → Stored (set output next (level + 1)) (next + 1) (beneath t count depth (level + 1)) output' next'
             → Visited t count of depth before at output' next' (level + 1)
-        visited-child s = record {
+        visited_child s = record {
           from = omega (arith, v.from);
           upto = omega arith;
           stored =

@@ -26,7 +26,7 @@ use Rattle.text.proofs.Pieces.{rejoined, exchanged}
 use Rattle.text.proofs.Bins.{bin_parts}
 use Rattle.text.proofs.BinView.{view_bin, view_plain}
 use Rattle.text.proofs.BinSpans.{attached_bin, attached_plain}
-use Rattle.text.proofs.BinCut.{Plainly, cut-gives}
+use Rattle.text.proofs.BinCut.{Plainly, cut_gives}
 use Rattle.text.proofs.Serving.{serves_apart, digit_id_byte}
 use Rattle.rewriting.specs.internal.Output.{put_at, stretch, byte_again}
 use Rattle.rewriting.proofs.Stretches.{stretch_long, stretch_next, stretch_none}
@@ -111,7 +111,7 @@ module _ (old new : Separators) where
   -- a segment that was cut off, written again byte by byte
   pub segment_again : Fitted old → (s segment more : Bytes) → cut_of old s ≡ Whole segment more
       → written new (view_of old segment) ≡ map (byte_again old new) (front segment) ++ back segment
-  segment_again fit s segment more cut = by (cut-gives old fit s segment more cut)
+  segment_again fit s segment more cut = by (cut_gives old fit s segment more cut)
     where
       by : T (is_bin old.element segment) ⊎ Plainly old segment
           → written new (view_of old segment) ≡ map (byte_again old new) (front segment) ++ back segment
@@ -135,15 +135,15 @@ module _ (f : ℕ → ℕ) (first s : Bytes) (from to : ℕ) where
   written_none m l r = record { inside = l; so_far = so_far_none first from (map f (stretch from to s)) (omega (arith, left_long from l)) }
 
   module _ {output : Bytes} {i : ℕ} (w : WrittenTo output i) where
-    pub written-inside : i < to → i < length output
-    written-inside l = omega (arith, so_far_room w.so_far, so_far_length w.so_far, left_long i w.inside)
+    pub written_inside : i < to → i < length output
+    written_inside l = omega (arith, so_far_room w.so_far, so_far_length w.so_far, left_long i w.inside)
 
-    pub written-more : i < to → WrittenTo (set output i (f (get_or s i 0))) (i + 1)
-    written-more l = record {
+    pub written_more : i < to → WrittenTo (set output i (f (get_or s i 0))) (i + 1)
+    written_more l = record {
       inside = w.inside;
       so_far =
           so_far_more w.so_far (f (get_or s i 0) ∷ []) (map f (stretch (i + 1) to s)) _ (i + 1) (ap (map f) (stretch_next s to i w.inside l))
-          (put_byte output i (f (get_or s i 0)) (written-inside l)) refl;
+          (put_byte output i (f (get_or s i 0)) (written_inside l)) refl;
     }
 
     pub written_all : to ≤ i → output ≡ put_at from (map f (stretch from to s)) first

@@ -51,13 +51,13 @@ bin_apart old new segment h fit =
     rw (
       view_bin old segment h,
       inspected_bin (bin_view d (attached_in old.element segment)) refl,
-      passes (apart_from new (bytes "BIN" ∷ [])) (id-bytes-apart new fit (bytes "BIN") tt),
-      passes (apart_from new (d ∷ [])) (id-bytes-apart new fit d (every_weaker is_digit is_id_byte digit_id_byte d digits)),
+      passes (apart_from new (bytes "BIN" ∷ [])) (id_bytes_apart new fit (bytes "BIN") tt),
+      passes (apart_from new (d ∷ [])) (id_bytes_apart new fit d (every_weaker is_digit is_id_byte digit_id_byte d digits)),
     )
   where
     -- capitals and digits are no separators
-    id-bytes-apart : (q : Separators) → Fitted q → (s : Bytes) → T (every is_id_byte s) → T (apart_from q (s ∷ []))
-    id-bytes-apart q fit s t =
+    id_bytes_apart : (q : Separators) → Fitted q → (s : Bytes) → T (every is_id_byte s) → T (apart_from q (s ∷ []))
+    id_bytes_apart q fit s t =
         first_of (apart_from q (s ∷ [])) true
         (clean_unseparated q ((s ∷ []) ∷ []) ((id_bytes_free q.element fit.element_serves s t, tt), tt)
         ((id_bytes_free q.component fit.component_serves s t, tt), tt) ((id_bytes_free q.terminator fit.terminator_serves s t, tt), tt))
@@ -80,16 +80,16 @@ module _ (old new : Separators) (segment : Bytes) where
   apart_none n c = record { so_far = ap first_broken (plain_checks old new segment n c) ∙ clash_first old new segment; few = omega arith }
 
   module _ {element i : ℕ} (a : ApartTo element i) where
-    pub apart-all : length segment ≤ i → Holds ≡ found
-    apart-all l = sym (a.so_far ∙ rw (drop_of_length-le segment {i = i} l))
+    pub apart_all : length segment ≤ i → Holds ≡ found
+    apart_all l = sym (a.so_far ∙ rw (drop_of_length-le segment {i = i} l))
 
     -- the byte at i
     module _ (inside : i < length segment) where
       abbrev byte : ℕ
       byte = get_or segment i 0
 
-      pub apart-behind : byte ≡ old.element → ApartTo (element + 1) (i + 1)
-      apart-behind e = record {
+      pub apart_behind : byte ≡ old.element → ApartTo (element + 1) (i + 1)
+      apart_behind e = record {
         so_far = a.so_far ∙ rw (add-one i, add-one element, drop-cons segment i 0 inside, eq-eqb byte old.element e);
         few = omega (arith, a.few);
       }
@@ -104,5 +104,5 @@ module _ (old new : Separators) (segment : Bytes) where
         pub apart_more : not (eqb byte old.component) && is_separator new byte ≡ false → ApartTo element (i + 1)
         apart_more e = record { so_far = by_test false e; few = omega (arith, a.few) }
 
-        pub apart-not : not (eqb byte old.component) && is_separator new byte ≡ true → Broken 18 element ≡ found
-        apart-not e = sym (by_test true e)
+        pub apart_not : not (eqb byte old.component) && is_separator new byte ≡ true → Broken 18 element ≡ found
+        apart_not e = sym (by_test true e)

@@ -18,7 +18,7 @@ use Rattle.text.specs.declared.separators.Separators.{Separators}
 use Rattle.text.proofs.Bools.{first_of, second_of, and_assoc, and_true, passes}
 use Rattle.text.proofs.Everys.{every_at, every_both}
 use Rattle.text.proofs.View.{plain_unseparated}
-use Rattle.text.proofs.BinCut.{Plainly, cut-gives}
+use Rattle.text.proofs.BinCut.{Plainly, cut_gives}
 use Rattle.text.proofs.Writable.{plain_inspected}
 use Rattle.elements.specs.Checks.{first_broken}
 use Rattle.elements.specs.declared.verdict.Verdict.{Verdict}
@@ -36,7 +36,7 @@ use Rattle.rewriting.proofs.CollidingBytes.{clash_from, clash_first, plain_check
 
 -- a segment that was cut off is looked into whole, if it is no whole BIN
 pub as_cut : (old : Separators) → Fitted old → (s segment more : Bytes) → cut_of old s ≡ Whole segment more → AsCut old segment
-as_cut old fit s segment more e n = by (cut-gives old fit s segment more e)
+as_cut old fit s segment more e n = by (cut_gives old fit s segment more e)
   where
     by : T (is_bin old.element segment) ⊎ Plainly old segment → inspected (plain_view old segment) ≡ plain_view old segment
     by (inl h) = absurd (subst (λ (b : Bool). T b) n h)
@@ -49,20 +49,20 @@ module _ (old new : Separators) where
       pub inside : to ≤ length s
       pub all : every (harmless_byte old new) (stretch from to s) ≡ so_far && every (harmless_byte old new) (stretch i to s)
 
-    pub tested-none : to ≤ length s → TestedTo true from
-    tested-none l = record { inside = l; all = refl }
+    pub tested_none : to ≤ length s → TestedTo true from
+    tested_none l = record { inside = l; all = refl }
 
     module _ {so_far : Bool} {i : ℕ} (t : TestedTo so_far i) where
-      pub tested-more : i < to → TestedTo (so_far && harmless_byte old new (get_or s i 0)) (i + 1)
-      tested-more l =
+      pub tested_more : i < to → TestedTo (so_far && harmless_byte old new (get_or s i 0)) (i + 1)
+      tested_more l =
           let f = harmless_byte old new in
           record {
             inside = t.inside;
             all = t.all ∙ rw (stretch_next s to i t.inside l) (sym (and_assoc so_far (f (get_or s i 0)) (every f (stretch (i + 1) to s))));
           }
 
-      pub tested-all : to ≤ i → so_far ≡ every (harmless_byte old new) (stretch from to s)
-      tested-all l = sym (t.all ∙ rw (stretch_none s to i l) (and_true so_far))
+      pub tested_all : to ≤ i → so_far ≡ every (harmless_byte old new) (stretch from to s)
+      tested_all l = sym (t.all ∙ rw (stretch_none s to i l) (and_true so_far))
 
   -- one byte: it separates elements, or components, or is harmless and no old separator
   spared : (e c is_new is-old : Bool) (k : ℕ) {x y x' y' : Verdict} → T (not is_new || is-old) → (x ≡ Holds → x' ≡ Holds) → (y ≡ Holds → y' ≡ Holds)
@@ -92,9 +92,9 @@ module _ (old new : Separators) where
       clash_first old new segment ∙ none_either 0 segment h (sym (clash_first old old segment) ∙ none)
 
   module _ (old_fit : Fitted old) (new_fit : Fitted new) where
-    pub harmless-holds : (s segment m : Bytes) → cut_of old s ≡ Whole segment m → T (every (harmless_byte old new) segment)
+    pub harmless_holds : (s segment m : Bytes) → cut_of old s ≡ Whole segment m → T (every (harmless_byte old new) segment)
         → first_broken (collision_checks new (view_of old segment)) ≡ Holds
-    harmless-holds s segment m e h = by (cut-gives old old_fit s segment m e)
+    harmless_holds s segment m e h = by (cut_gives old old_fit s segment m e)
       where
         by : T (is_bin old.element segment) ⊎ Plainly old segment → first_broken (collision_checks new (view_of old segment)) ≡ Holds
         by (inl b) = sym (bin_apart old new segment (passes (is_bin old.element segment) b) new_fit)
@@ -103,19 +103,19 @@ module _ (old new : Separators) where
             ∙ harmless_plain segment h (plain_unseparated old segment p.free)
 
     -- and so it is of all segments that were read
-    pub harmless-nowhere : (n at : ℕ) (s : Bytes) (gs : List Placed) (end : ℕ) (rest : Bytes) → LedStrictly old at s gs end rest
+    pub harmless_nowhere : (n at : ℕ) (s : Bytes) (gs : List Placed) (end : ℕ) (rest : Bytes) → LedStrictly old at s gs end rest
         → T (every (harmless_byte old new) (closed old.terminator (texts gs))) → collision old new n gs ≡ Nowhere
-    harmless-nowhere n at s [] end rest l h = refl
-    harmless-nowhere n at s (g ∷ gs) end rest l h =
+    harmless_nowhere n at s [] end rest l h = refl
+    harmless_nowhere n at s (g ∷ gs) end rest l h =
         let f = harmless_byte old new in
         let t = old.terminator in
         let behind = closed t (texts gs) in
         let halves = rw (every_both f g.segment (t ∷ behind)) at h in
         let here =
-        harmless-holds s g.segment l.0 l.1 (first_of (every f g.segment) (every f (t ∷ behind)) halves) in
+        harmless_holds s g.segment l.0 l.1 (first_of (every f g.segment) (every f (t ∷ behind)) halves) in
         let later = second_of (f t) (every f behind) (second_of (every f g.segment) (every f (t ∷ behind)) halves) in
         rw here
-        (harmless-nowhere (suc n) (at + length g.segment + 1 + 0) l.0 gs end rest l.3 later)
+        (harmless_nowhere (suc n) (at + length g.segment + 1 + 0) l.0 gs end rest l.3 later)
 
 -- what the quick test tells of the bytes that segments use
 pub harmless_used : (old new : Separators) (s : Bytes) (gs : List Placed) → CutOff old s gs → Fitted new → (bytes : ℕ) → bytes ≡ used_by gs
@@ -124,4 +124,4 @@ harmless_used old new s gs c new_fit bytes b h =
     let same : bytes - 0 ≡ used_by gs = omega (arith, b) in
     let used : stretch 0 bytes s ≡ closed old.terminator (texts gs) =
     ap (λ (n : ℕ). take n s) same ∙ used_taken old s gs c.end c.rest c.leads in
-    harmless-nowhere old new c.fit new_fit 1 0 s gs c.end c.rest c.leads (rw (← used, h) tt)
+    harmless_nowhere old new c.fit new_fit 1 0 s gs c.end c.rest c.leads (rw (← used, h) tt)

@@ -28,9 +28,9 @@ use Rattle.rewriting.specs.internal.CutOff.{CutOff}
 use Rattle.rewriting.specs.internal.QuickTest.{harmless_byte}
 use Rattle.rewriting.specs.internal.Output.{stretch}
 use Rattle.rewriting.proofs.CollidingBytes.{bin_apart}
-use Rattle.rewriting.proofs.HarmlessBytes.{harmless-holds}
+use Rattle.rewriting.proofs.HarmlessBytes.{harmless_holds}
 use Rattle.rewriting.proofs.RecordByRecord.{segments_left, all_left, none_left, next_left}
-use Rattle.rewriting.proofs.Runs.{Run, run_start, run-next, run-passed, place_is, end_is, run-bytes, run-behind, last-bytes}
+use Rattle.rewriting.proofs.Runs.{Run, run_start, run_next, run_passed, place_is, end_is, run_bytes, run_behind, last_bytes}
 
 module _ (s : Bytes) (table : List ℕ) (count : ℕ) (old new : Separators) where
   abbrev all : List Placed
@@ -71,34 +71,34 @@ module _ (s : Bytes) (table : List ℕ) (count : ℕ) (old new : Separators) whe
       passed_over : first_broken (collision_checks new (view_of old g)) ≡ Holds → collision old new (k + 1) (left k) ≡ collision old new (k + 1 + 1) (left (k + 1))
       passed_over h = rw (next_left s table count k l, h, add-one (k + 1))
 
-      pub tested-passed : TestedBefore so_far from (k + 1)
-      tested-passed =
-          let n = run-next s table count old w.runs l in
+      pub tested_passed : TestedBefore so_far from (k + 1)
+      tested_passed =
+          let n = run_next s table count old w.runs l in
           record {
             at = _;
             run = _;
             tail = _;
-            runs = run-passed s table count old w.runs l;
+            runs = run_passed s table count old w.runs l;
             new_fit = w.new_fit;
             told = λ x y.
                 let t = old.terminator in
                 let parts = rw (every_both (harmless_byte old new) w.run (g ++ t ∷ []), every_both (harmless_byte old new) g (t ∷ [])) at y in
                 let here = first_of (fine g) (fine (t ∷ [])) (second_of (fine w.run) (fine g && fine (t ∷ [])) parts) in
                 w.told x (first_of (fine w.run) (fine g && fine (t ∷ [])) parts)
-                ∙ passed_over (harmless-holds old new w.runs.fit w.new_fit w.tail g n.more n.cut here);
+                ∙ passed_over (harmless_holds old new w.runs.fit w.new_fit w.tail g n.more n.cut here);
           }
 
       module _ (part : Part) (is : part ≡ attached_part old.element s table k) where
-        pub tested-bin : part.from < part.to → (test : Bool) → test ≡ fine (stretch from part.from s) → TestedBefore (so_far && test) part.to (k + 1)
-        tested-bin b test e =
+        pub tested_bin : part.from < part.to → (test : Bool) → test ≡ fine (stretch from part.from s) → TestedBefore (so_far && test) part.to (k + 1)
+        tested_bin b test e =
             let a = attached_from old.element g in
             let bin = bin_of old.element g (omega (arith, place_is s table count old w.runs l part is, end_is s table count old w.runs l part is)) in
-            let all-run : test ≡ fine (w.run ++ take a g) = e ∙ ap fine (run-bytes s table count old w.runs l part is) in
+            let all-run : test ≡ fine (w.run ++ take a g) = e ∙ ap fine (run_bytes s table count old w.runs l part is) in
             record {
               at = _;
               run = _;
               tail = _;
-              runs = run-behind s table count old w.runs l part is;
+              runs = run_behind s table count old w.runs l part is;
               new_fit = w.new_fit;
               told = λ x y.
                   let tested = rw (all-run, every_both (harmless_byte old new) w.run (take a g)) at (second_of so_far test x) in
@@ -107,9 +107,9 @@ module _ (s : Bytes) (table : List ℕ) (count : ℕ) (old new : Separators) whe
             }
 
     -- none is ahead
-    pub tested-end : (bytes : ℕ) → count ≤ k → bytes ≡ used_by all → (test : Bool) → test ≡ fine (stretch from bytes s) → so_far && test ≡ true
+    pub tested_end : (bytes : ℕ) → count ≤ k → bytes ≡ used_by all → (test : Bool) → test ≡ fine (stretch from bytes s) → so_far && test ≡ true
         → collision old new 1 all ≡ Nowhere
-    tested-end bytes l b test e h =
+    tested_end bytes l b test e h =
         let both : T (so_far && test) = rw h tt in
-        w.told (first_of so_far test both) (rw (e, last-bytes s table count old w.runs bytes l b) at (second_of so_far test both))
+        w.told (first_of so_far test both) (rw (e, last_bytes s table count old w.runs bytes l b) at (second_of so_far test both))
         ∙ rw (none_left s table count k l)

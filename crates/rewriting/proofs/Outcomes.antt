@@ -54,21 +54,21 @@ module _ (profile : ProfileName) (old new : Separators) (s : Bytes) (before : Ta
   old_unfit e = rw e (record { answer = refl; tables_kept = refl; output_kept = refl })
 
   module _ (old-fits : fit_separators old ≡ true) where
-    pub new-unfit : fit_separators new ≡ false → Rewrites profile old new s before output (Refused 1 0 0 1) before output
+    pub new_unfit : fit_separators new ≡ false → Rewrites profile old new s before output (Refused 1 0 0 1) before output
     unfolding Rewrites
-    new-unfit e = rw (old-fits, e) (record { answer = refl; tables_kept = refl; output_kept = refl })
+    new_unfit e = rw (old-fits, e) (record { answer = refl; tables_kept = refl; output_kept = refl })
 
     module _ (new-fits : fit_separators new ≡ true) (tables : Tables) where
-      pub reading-refused : (number segment byte element : ℕ) → Reads (strictly profile old) s before (Refused number segment byte element) tables
+      pub reading_refused : (number segment byte element : ℕ) → Reads (strictly profile old) s before (Refused number segment byte element) tables
           → Rewrites profile old new s before output (Refused number segment byte element) tables output
       unfolding Rewrites
-      reading-refused number segment byte element x =
+      reading_refused number segment byte element x =
           rw (old-fits, new-fits) (record { answer = Refused number segment byte element; reads = x; follows = (refl, refl) })
 
-      pub reading-accepted : (a l b : ℕ) → Reads (strictly profile old) s before (Accepted a l b) tables → (r : Answer) (after : Bytes)
+      pub reading_accepted : (a l b : ℕ) → Reads (strictly profile old) s before (Accepted a l b) tables → (r : Answer) (after : Bytes)
           → OutcomeOf old new (segments_from s tables.segments 0 a) (Accepted a l b) b output r after
           → Rewrites profile old new s before output r tables after
       unfolding Rewrites
-      reading-accepted a l b x r after y =
+      reading_accepted a l b x r after y =
           rw (old-fits, new-fits)
           (record { answer = Accepted a l b; reads = x; follows = accepting profile old s before a l b tables x new output r after y })

@@ -54,8 +54,8 @@ module _ (s : Bytes) (table : List ℕ) (count : ℕ) where
       pub rest : Bytes
       pub leads : LedStrictly old at tail (segments_left k) (used_by all) rest
 
-    pub ahead-start : NamesFrom s table 0 count → CutOff old s all → Ahead 0 0 s
-    ahead-start n c =
+    pub ahead_start : NamesFrom s table 0 count → CutOff old s all → Ahead 0 0 s
+    ahead_start n c =
         let end : c.end ≡ used_by all = omega (arith, ends old 0 s all c.end c.rest c.leads, used_length old s all c.end c.rest c.leads) in
         record { names = names_all n; rest = c.rest; leads = rw (all_left, ← end) c.leads }
 
@@ -68,8 +68,8 @@ module _ (s : Bytes) (table : List ℕ) (count : ℕ) where
       pub later : Ahead (k + 1) (at + length (segment_in s table k) + 1) more
 
     module _ {k at : ℕ} {tail : Bytes} (a : Ahead k at tail) where
-      pub ahead-next : k < count → Next k at tail
-      ahead-next l =
+      pub ahead_next : k < count → Next k at tail
+      ahead_next l =
           let led = rw (next_left k l) at a.leads in
           let names = names_next k l a.names in
           let behind = at + length (segment_in s table k) + 1 in
@@ -94,12 +94,12 @@ module _ (s : Bytes) (table : List ℕ) (count : ℕ) where
       pub tail : Bytes
       pub ahead : Ahead old k at tail
 
-    pub apart-start : NamesFrom s table 0 count → CutOff old s all → ApartBefore 0
-    apart-start n c = record { so_far = rw all_left; at = 0; tail = s; ahead = ahead-start old n c }
+    pub apart_start : NamesFrom s table 0 count → CutOff old s all → ApartBefore 0
+    apart_start n c = record { so_far = rw all_left; at = 0; tail = s; ahead = ahead_start old n c }
 
     module _ {k : ℕ} (a : ApartBefore k) where
-      pub apart-end : count ≤ k → Nowhere ≡ collision old new 1 all
-      apart-end l = sym (a.so_far ∙ rw (none_left k l))
+      pub apart_end : count ≤ k → Nowhere ≡ collision old new 1 all
+      apart_end l = sym (a.so_far ∙ rw (none_left k l))
 
       -- what is found in the segment of record k
       module _ (segment : Bytes) (v : Verdict) (l : k < count) (is : segment ≡ segment_in s table k)
@@ -108,7 +108,7 @@ module _ (s : Bytes) (table : List ℕ) (count : ℕ) where
         decided = a.so_far ∙ rw (next_left k l, found, is)
 
         pub apart_next : v ≡ Holds → ApartBefore (k + 1)
-        apart_next e = record { so_far = decided ∙ rw (e, add-one (k + 1)); at = _; tail = _; ahead = (ahead-next old a.ahead l).later }
+        apart_next e = record { so_far = decided ∙ rw (e, add-one (k + 1)); at = _; tail = _; ahead = (ahead_next old a.ahead l).later }
 
-        pub apart-clash : (number element : ℕ) → v ≡ Broken number element → At (k + 1) (start_in table k) element ≡ collision old new 1 all
-        apart-clash number element e = sym (decided ∙ rw e)
+        pub apart_clash : (number element : ℕ) → v ≡ Broken number element → At (k + 1) (start_in table k) element ≡ collision old new 1 all
+        apart_clash number element e = sym (decided ∙ rw e)

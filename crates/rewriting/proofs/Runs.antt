@@ -18,7 +18,7 @@ use Rattle.rewriting.specs.internal.SegmentTable.{segment_in, segments_from, att
 use Rattle.rewriting.specs.internal.CutOff.{CutOff}
 use Rattle.rewriting.specs.internal.Output.{stretch}
 use Rattle.rewriting.specs.declared.table.Part.{Part}
-use Rattle.rewriting.proofs.RecordByRecord.{Ahead, Next, ahead-start, ahead-next, ahead_none}
+use Rattle.rewriting.proofs.RecordByRecord.{Ahead, Next, ahead_start, ahead_next, ahead_none}
 
 module _ (s : Bytes) (table : List ℕ) (count : ℕ) (old : Separators) where
   -- the run that starts at `from` has the bytes `run` so far; the segment of record k, which starts at `at`, is next
@@ -29,16 +29,16 @@ module _ (s : Bytes) (table : List ℕ) (count : ℕ) (old : Separators) where
     pub there : drop from s ≡ run ++ tail
 
   pub run_start : NamesFrom s table 0 count → CutOff old s (segments_from s table 0 count) → Run 0 0 0 [] s
-  run_start n c = record { ahead = ahead-start s table count old n c; fit = c.fit; reach = refl; there = refl }
+  run_start n c = record { ahead = ahead_start s table count old n c; fit = c.fit; reach = refl; there = refl }
 
   module _ {from k at : ℕ} {run tail : Bytes} (r : Run from k at run tail) where
     -- the segment of record k
     module _ (l : k < count) where
-      pub run-next : Next s table count old k at tail
-      run-next = ahead-next s table count old r.ahead l
+      pub run_next : Next s table count old k at tail
+      run_next = ahead_next s table count old r.ahead l
 
       abbrev n : Next s table count old k at tail
-      n = run-next
+      n = run_next
 
       abbrev g : Bytes
       g = segment_in s table k
@@ -64,8 +64,8 @@ module _ (s : Bytes) (table : List ℕ) (count : ℕ) (old : Separators) where
           )
 
       -- it and its terminator join the run
-      pub run-passed : Run from (k + 1) (at + length g + 1) (run ++ (g ++ old.terminator ∷ [])) n.more
-      run-passed = record {
+      pub run_passed : Run from (k + 1) (at + length g + 1) (run ++ (g ++ old.terminator ∷ [])) n.more
+      run_passed = record {
         ahead = n.later;
         fit = r.fit;
         reach = omega (arith, r.reach, length-append run (g ++ old.terminator ∷ []), length-append g (old.terminator ∷ []));
@@ -90,8 +90,8 @@ module _ (s : Bytes) (table : List ℕ) (count : ℕ) (old : Separators) where
         pub end_is : end ≡ at + length g
         end_is = ap (λ (p : Part). p.to) is ∙ ap (λ (m : ℕ). m + length g) n.here
 
-        pub run-to : (from ≤ place) × (place ≤ end) × (end < length s)
-        run-to = (omega (arith, place_is, r.reach), omega (arith, place_is, end_is, most), omega (arith, end_is, inside))
+        pub run_to : (from ≤ place) × (place ≤ end) × (end < length s)
+        run_to = (omega (arith, place_is, r.reach), omega (arith, place_is, end_is, most), omega (arith, end_is, inside))
 
         halves : drop from s ≡ run ++ take a g ++ (drop a g ++ old.terminator ∷ n.more)
         halves =
@@ -103,34 +103,34 @@ module _ (s : Bytes) (table : List ℕ) (count : ℕ) (old : Separators) where
         pub run_long : length (run ++ take a g) ≡ place - from
         run_long = length-append run (take a g) ∙ omega (arith, length-take-le a g most, place_is, r.reach)
 
-        pub run-bytes : stretch from place s ≡ run ++ take a g
-        run-bytes = ap (take (place - from)) halves ∙ take_at (run ++ take a g) (drop a g ++ old.terminator ∷ n.more) (place - from) run_long
+        pub run_bytes : stretch from place s ≡ run ++ take a g
+        run_bytes = ap (take (place - from)) halves ∙ take_at (run ++ take a g) (drop a g ++ old.terminator ∷ n.more) (place - from) run_long
 
         from_place : drop place s ≡ drop a g ++ old.terminator ∷ n.more
         from_place =
-            let sum : place ≡ from + (place - from) = omega (arith, run-to.0) in
+            let sum : place ≡ from + (place - from) = omega (arith, run_to.0) in
             ap (λ (m : ℕ). drop m s) sum ∙ sym (drop-drop (place - from) from s) ∙ ap (drop (place - from)) halves
             ∙ drop_at (run ++ take a g) (drop a g ++ old.terminator ∷ n.more) (place - from) run_long
 
-        pub attached-long : length (drop a g) ≡ end - place
-        attached-long = omega (arith, length-drop a g, place_is, end_is)
+        pub attached_long : length (drop a g) ≡ end - place
+        attached_long = omega (arith, length-drop a g, place_is, end_is)
 
-        pub attached-bytes : stretch place end s ≡ drop a g
-        attached-bytes = ap (take (end - place)) from_place ∙ take_at (drop a g) (old.terminator ∷ n.more) (end - place) attached-long
+        pub attached_bytes : stretch place end s ≡ drop a g
+        attached_bytes = ap (take (end - place)) from_place ∙ take_at (drop a g) (old.terminator ∷ n.more) (end - place) attached_long
 
         from_end : drop end s ≡ old.terminator ∷ n.more
         from_end =
-            let sum : end ≡ place + (end - place) = omega (arith, run-to.1) in
+            let sum : end ≡ place + (end - place) = omega (arith, run_to.1) in
             ap (λ (m : ℕ). drop m s) sum ∙ sym (drop-drop (end - place) place s) ∙ ap (drop (end - place)) from_place
-            ∙ drop_at (drop a g) (old.terminator ∷ n.more) (end - place) attached-long
+            ∙ drop_at (drop a g) (old.terminator ∷ n.more) (end - place) attached_long
 
-        pub run-behind : Run end (k + 1) (at + length g + 1) (old.terminator ∷ []) n.more
-        run-behind = record { ahead = n.later; fit = r.fit; reach = omega (arith, end_is); there = from_end }
+        pub run_behind : Run end (k + 1) (at + length g + 1) (old.terminator ∷ []) n.more
+        run_behind = record { ahead = n.later; fit = r.fit; reach = omega (arith, end_is); there = from_end }
 
     -- none is ahead: the last run goes up to the end
     module _ (bytes : ℕ) (l : count ≤ k) (b : bytes ≡ used_by (segments_from s table 0 count)) where
-      pub last-long : from + length run ≡ bytes
-      last-long = r.reach ∙ ahead_none s table count old r.ahead l ∙ sym b
+      pub last_long : from + length run ≡ bytes
+      last_long = r.reach ∙ ahead_none s table count old r.ahead l ∙ sym b
 
-      pub last-bytes : stretch from bytes s ≡ run
-      last-bytes = ap (take (bytes - from)) r.there ∙ take_at run tail (bytes - from) (omega (arith, last-long))
+      pub last_bytes : stretch from bytes s ≡ run
+      last_bytes = ap (take (bytes - from)) r.there ∙ take_at run tail (bytes - from) (omega (arith, last_long))

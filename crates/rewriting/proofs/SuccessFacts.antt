@@ -25,11 +25,11 @@ use Rattle.rewriting.proofs.AcceptedTable.{bytes_of}
 
 -- an acceptance is no refusal
 accepted_refused : {a l b n k y e : ℕ} → Accepted a l b ≡ Refused n k y e → ⊥
-accepted_refused p = let z : ◌≡◌ {A = ℕ} 1 0 = ap isAccepted p in omega arith
+accepted_refused p = let z : ◌≡◌ {A = ℕ} 1 0 = ap is_accepted p in omega arith
   where
-    isAccepted : Answer → ℕ
-    isAccepted (Accepted a l b) = 1
-    isAccepted (Refused n k y e) = 0
+    is_accepted : Answer → ℕ
+    is_accepted (Accepted a l b) = 1
+    is_accepted (Refused n k y e) = 0
 
 pub record Success (profile : ProfileName) (old new : Separators) (s : Bytes) (before : Tables) (output : Bytes) (a l b : ℕ) (tables : Tables) (after : Bytes) : Type 0 where
   pub old_fit : T (fit_separators old)

@@ -23,7 +23,7 @@ use Rattle.rewriting.proofs.OutputSoFar.{SoFar, so_far_none, so_far_room, so_far
 use Rattle.rewriting.proofs.ByteByByte.{terminator_again, segment_again}
 use Rattle.rewriting.proofs.WrittenSegments.{rewritten_length}
 use Rattle.rewriting.proofs.RecordByRecord.{segments_left, all_left, none_left, next_left}
-use Rattle.rewriting.proofs.Runs.{Run, run_start, run-next, run-passed, place_is, end_is, run-to, run_long, run-bytes, attached-long, attached-bytes, run-behind, last-long, last-bytes}
+use Rattle.rewriting.proofs.Runs.{Run, run_start, run_next, run_passed, place_is, end_is, run_to, run_long, run_bytes, attached_long, attached_bytes, run_behind, last_long, last_bytes}
 
 module _ (s : Bytes) (table : List ℕ) (count : ℕ) (old new : Separators) where
   abbrev all : List Placed
@@ -76,7 +76,7 @@ module _ (s : Bytes) (table : List ℕ) (count : ℕ) (old new : Separators) whe
 
       todo : left k ≡ again (take a g) ++ drop a g ++ new.terminator ∷ left (k + 1)
       todo =
-          let n = run-next s table count old w.runs l in
+          let n = run_next s table count old w.runs l in
           rw (next_left s table count k l)
           (ap (λ (x : Bytes). x ++ new.terminator ∷ left (k + 1)) (segment_again old new w.runs.fit w.tail g n.more n.cut))
 
@@ -99,8 +99,8 @@ module _ (s : Bytes) (table : List ℕ) (count : ℕ) (old new : Separators) whe
 
       module _ (part : Part) (is : part ≡ attached_part old.element s table k) where
         -- where it is no BIN, it joins the run
-        pub written-passed : part.to ≤ part.from → WrittenBefore first output from (k + 1)
-        written-passed p =
+        pub written_passed : part.to ≤ part.from → WrittenBefore first output from (k + 1)
+        written_passed p =
             let p : length g ≤ a = omega (arith, place_is s table count old w.runs l part is, end_is s table count old w.runs l part is) in
             let all-again : again (take a g) ++ drop a g ≡ again g = rw (take_all a g p, drop_of_length-le g {i = a} p) (append-nil (again g)) in
             let next : again w.run ++ left k ≡ again (w.run ++ (g ++ old.terminator ∷ [])) ++ left (k + 1) =
@@ -110,50 +110,50 @@ module _ (s : Bytes) (table : List ℕ) (count : ℕ) (old new : Separators) whe
               at = _;
               run = _;
               tail = _;
-              runs = run-passed s table count old w.runs l;
+              runs = run_passed s table count old w.runs l;
               so_far = subst (SoFar first 0 (rewritten old new all) output from) next w.so_far;
             }
 
         -- where it is one, the run and BIN02 have room
-        pub bin-room : part.to < length first
-        bin-room = omega (arith, end_is s table count old w.runs l part is, room)
+        pub bin_room : part.to < length first
+        bin_room = omega (arith, end_is s table count old w.runs l part is, room)
 
         -- and are written
-        todo-run : again w.run ++ left k ≡ again (w.run ++ take a g) ++ (drop a g ++ new.terminator ∷ left (k + 1))
-        todo-run =
+        todo_run : again w.run ++ left k ≡ again (w.run ++ take a g) ++ (drop a g ++ new.terminator ∷ left (k + 1))
+        todo_run =
             let rest = drop a g ++ new.terminator ∷ left (k + 1) in
             ap (λ (x : Bytes). again w.run ++ x) (todo ∙ append_assoc (again (take a g)) (drop a g) (new.terminator ∷ left (k + 1)))
             ∙ sym (append_assoc (again w.run) (again (take a g)) rest)
             ∙ ap (λ (x : Bytes). x ++ rest) (sym (map-append (byte_again old new) w.run (take a g)))
 
-        pub written-bin : (output₁ output₂ : Bytes) → output₁ ≡ put_at from (again (stretch from part.from s)) output
+        pub written_bin : (output₁ output₂ : Bytes) → output₁ ≡ put_at from (again (stretch from part.from s)) output
             → output₂ ≡ put_at part.from (stretch part.from part.to s) output₁ → WrittenBefore first output₂ part.to (k + 1)
-        written-bin output₁ output₂ o₁ o₂ =
-            let run_is = run-bytes s table count old w.runs l part is in
-            let bin-is = attached-bytes s table count old w.runs l part is in
-            let to = run-to s table count old w.runs l part is in
+        written_bin output₁ output₂ o₁ o₂ =
+            let run_is = run_bytes s table count old w.runs l part is in
+            let bin-is = attached_bytes s table count old w.runs l part is in
+            let to = run_to s table count old w.runs l part is in
             let run-written =
-            so_far_more w.so_far (again (w.run ++ take a g)) (drop a g ++ new.terminator ∷ left (k + 1)) output₁ part.from todo-run
+            so_far_more w.so_far (again (w.run ++ take a g)) (drop a g ++ new.terminator ∷ left (k + 1)) output₁ part.from todo_run
             (o₁ ∙ ap (λ (x : Bytes). put_at from (again x) output) run_is)
             (omega (arith, length-map (w.run ++ take a g) (byte_again old new), run_long s table count old w.runs l part is, to.0)) in
             let bin_written =
             so_far_more run-written (drop a g) (new.terminator ∷ left (k + 1)) output₂ part.to refl
             (o₂ ∙ ap (λ (x : Bytes). put_at part.from x output₁) bin-is)
-            (omega (arith, attached-long s table count old w.runs l part is, to.1)) in
+            (omega (arith, attached_long s table count old w.runs l part is, to.1)) in
             record {
               at = _;
               run = _;
               tail = _;
-              runs = run-behind s table count old w.runs l part is;
+              runs = run_behind s table count old w.runs l part is;
               so_far = rw (terminator_again old new w.runs.fit) bin_written;
             }
 
     -- none is ahead: the last run is written
-    pub written-end : (bytes : ℕ) (output' : Bytes) → count ≤ k → bytes ≡ used_by all → output' ≡ put_at from (again (stretch from bytes s)) output
+    pub written_end : (bytes : ℕ) (output' : Bytes) → count ≤ k → bytes ≡ used_by all → output' ≡ put_at from (again (stretch from bytes s)) output
         → output' ≡ put_at 0 (rewritten old new all) first
-    written-end bytes output' l b o =
+    written_end bytes output' l b o =
         let none : again w.run ++ left k ≡ again w.run ++ [] = rw (none_left s table count k l) in
         so_far_all
         (so_far_more w.so_far (again w.run) [] output' bytes none
-        (o ∙ ap (λ (x : Bytes). put_at from (again x) output) (last-bytes s table count old w.runs bytes l b))
-        (omega (arith, length-map w.run (byte_again old new), last-long s table count old w.runs bytes l b))) refl
+        (o ∙ ap (λ (x : Bytes). put_at from (again x) output) (last_bytes s table count old w.runs bytes l b))
+        (omega (arith, length-map w.run (byte_again old new), last_long s table count old w.runs bytes l b))) refl

@@ -12,7 +12,7 @@ use Rattle.text.specs.View.{View, view_of, written, empty, inspected}
 use Rattle.text.specs.Cut.{cut_of, Placed, Whole}
 use Rattle.text.specs.declared.separators.Separators.{Separators}
 use Rattle.text.proofs.SeenAlike.{written_length, part_alike, bytes_alike, elements_alike}
-use Rattle.text.proofs.Writable.{Writable, cut_writable, writable-cut, writable-seen, writable_again}
+use Rattle.text.proofs.Writable.{Writable, cut_writable, writable_cut, writable_seen, writable_again}
 use Rattle.text.specs.Separators.{Fitted}
 use Rattle.elements.specs.Checks.{first_broken}
 use Rattle.elements.specs.declared.verdict.Verdict.{Verdict}
@@ -79,8 +79,8 @@ module _ (old new : Separators) (old_fit : Fitted old) (new_fit : Fitted new) wh
       let w : Writable new v =
       writable_again old new v (cut_writable old old_fit s g.segment l.0 l.1) (apart_everywhere new v i.0) in (
         record {
-          view = writable-seen new new_fit v w;
-          cut = writable-cut new new_fit v w;
+          view = writable_seen new new_fit v w;
+          cut = writable_cut new new_fit v w;
           long = written_length old new g.segment;
         },
         all_keep (suc n) (at + length g.segment + 1 + 0) l.0 gs end rest l.3 i.1,

@@ -19,7 +19,7 @@ use Rattle.elements.specs.declared.verdict.Verdict.{Verdict}
 use Rattle.elements.specs.declared.verdict.Verdict.TheVariants.{Holds, Broken}
 use Rattle.elements.specs.declared.layout.Layout.{Layout}
 use Rattle.elements.proofs.FirstBroken.{and_then, broken_append, first_holds}
-use Rattle.elements.proofs.ByLayout.{at-past}
+use Rattle.elements.proofs.ByLayout.{at_past}
 use Rattle.elements.proofs.ElementPass.{elements_upto}
 use Rattle.ruling.proofs.TooMany.{few_count}
 
@@ -54,7 +54,7 @@ module _ (s : Bytes) (starts : List ℕ) (layout : Layout) (component tag : ℕ)
       → upto ≤ length (rules_of tag).elements → elements_verdict (rules_of tag) at upto ≡ early
   early_elements upto few far enough near =
       sym
-      (early_is ∙ ap₂ and_then (sym few) (elements_upto tag layout.count upto at (at-past s starts layout component) far enough near))
+      (early_is ∙ ap₂ and_then (sym few) (elements_upto tag layout.count upto at (at_past s starts layout component) far enough near))
 
   -- where they are silent, there are no more elements than rules
   pub early_few : Holds ≡ early → layout.count ≤ length (rules_of tag).elements
@@ -65,20 +65,20 @@ module _ (s : Bytes) (starts : List ℕ) (layout : Layout) (component tag : ℕ)
     abbrev unwanted : Verdict
     unwanted = unused_verdict (is_unused (element_profile profile) tag) there layout.count
 
-    pub by-profile : early_by profile tag there at layout.count ≡ and_then unwanted early
+    pub by_profile : early_by profile tag there at layout.count ≡ and_then unwanted early
     unfolding early_by early_verdict
-    by-profile =
+    by_profile =
         broken_append (each 9 1 layout.count (λ (k : ℕ). not (is_unused (element_profile profile) tag k && there k))) (early_checks (rules_of tag) at layout.count)
 
-    pub unwanted-decides : (n e : ℕ) → Broken n e ≡ unwanted → Broken n e ≡ early_by profile tag there at layout.count
-    unwanted-decides n e q = sym (by-profile ∙ ap (λ (v : Verdict). and_then v early) (sym q))
+    pub unwanted_decides : (n e : ℕ) → Broken n e ≡ unwanted → Broken n e ≡ early_by profile tag there at layout.count
+    unwanted_decides n e q = sym (by_profile ∙ ap (λ (v : Verdict). and_then v early) (sym q))
 
-    pub others-decide : Holds ≡ unwanted → early ≡ early_by profile tag there at layout.count
-    others-decide q = sym (by-profile ∙ ap (λ (v : Verdict). and_then v early) (sym q))
+    pub others_decide : Holds ≡ unwanted → early ≡ early_by profile tag there at layout.count
+    others_decide q = sym (by_profile ∙ ap (λ (v : Verdict). and_then v early) (sym q))
 
     -- silent by the profile, they are silent
-    pub silent-others : Holds ≡ early_by profile tag there at layout.count → Holds ≡ early
-    silent-others q = sym (second_holds unwanted early (sym by-profile ∙ sym q))
+    pub silent_others : Holds ≡ early_by profile tag there at layout.count → Holds ≡ early
+    silent_others q = sym (second_holds unwanted early (sym by_profile ∙ sym q))
       where
         second_holds : (v w : Verdict) → and_then v w ≡ Holds → w ≡ Holds
         second_holds Holds w e = e

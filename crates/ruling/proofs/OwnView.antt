@@ -32,7 +32,7 @@ use Rattle.elements.specs.Data.{element_profile}
 use Rattle.elements.specs.Rules.{ruled_checks}
 use Rattle.elements.specs.internal.Layouts.{element_in, part_between, piece_in, components_by, layout_view}
 use Rattle.elements.specs.declared.layout.Layout.{Layout}
-use Rattle.elements.proofs.ByLayout.{part_inside, view-count, view-element, view-at, at-past}
+use Rattle.elements.proofs.ByLayout.{part_inside, view_count, view_element, view_at, at_past}
 use Rattle.ruling.proofs.UpTo31.{ruled_agree}
 
 -- the layout is of this segment: it stands there, has so many elements, and they start where they are said to; "single" is said of none with
@@ -75,8 +75,8 @@ module _ {q : Separators} {s segment : Bytes} {starts : List ℕ} {layout : Layo
         rw (le-ltb k layout.count (omega arith))
         (omega (arith, laid.ends, last_end q.element ps (length segment) k there (omega (arith, laid.counted)) whole)))
 
-    own-piece : piece_in s starts layout k ≡ get_or ps k []
-    own-piece =
+    own_piece : piece_in s starts layout k ≡ get_or ps k []
+    own_piece =
         let lie = lies_element q.element segment k in
         let from = layout.at + place.start in
         let to = from + place.len in
@@ -92,45 +92,45 @@ module _ {q : Separators} {s segment : Bytes} {starts : List ℕ} {layout : Layo
   text_own k high =
       by_cases (dec_lt layout.count k)
       (λ l. rw (lt-leb k layout.count l) (sym (get_or-eq_default ps [] {n = k} (omega (arith, laid.counted)))))
-      (λ l. let low : k ≤ layout.count = omega arith in rw (le-leb k layout.count low) (own-piece k low high))
+      (λ l. let low : k ≤ layout.count = omega arith in rw (le-leb k layout.count low) (own_piece k low high))
 
   -- where it is no BIN, its components are too
   module _ (plain : is_bin q.element segment ≡ false) where
     pieces_are : ps ≡ pieces q.element segment
     pieces_are = elements_plain q.element segment plain
 
-    own-pieces : (k : ℕ) → components_by layout.single q.component (get_or ps k []) ≡ pieces q.component (get_or ps k [])
-    own-pieces k = by-single layout.single laid.singly
+    own_pieces : (k : ℕ) → components_by layout.single q.component (get_or ps k []) ≡ pieces q.component (get_or ps k [])
+    own_pieces k = by_single layout.single laid.singly
       where
-        by-single : (t : Bool) → (t ≡ true → Free q.component segment)
+        by_single : (t : Bool) → (t ≡ true → Free q.component segment)
             → components_by t q.component (get_or ps k []) ≡ pieces q.component (get_or ps k [])
-        by-single true f =
+        by_single true f =
             sym
             (pieces_free q.component (get_or ps k [])
             (clean_at q.component ps k (rw pieces_are (free_pieces q.element q.component segment (f refl)))))
-        by-single false f = refl
+        by_single false f = refl
 
-    own-element : (k : ℕ) → element_of (view_of q segment) k ≡ pieces q.component (get_or ps k [])
-    own-element k = rw (view_plain q segment plain, pieces_are) (get_or-map (pieces q.component) (pieces q.element segment) k [])
+    own_element : (k : ℕ) → element_of (view_of q segment) k ≡ pieces q.component (get_or ps k [])
+    own_element k = rw (view_plain q segment plain, pieces_are) (get_or-map (pieces q.component) (pieces q.element segment) k [])
 
     -- the elements agree up to 31, and their numbers do
-    pub view-own : (k : ℕ) → k ≤ 31 → element_of view k ≡ element_of (view_of q segment) k
-    view-own k high =
+    pub view_own : (k : ℕ) → k ≤ 31 → element_of view k ≡ element_of (view_of q segment) k
+    view_own k high =
         by_cases (dec_lt layout.count k)
         (λ l.
-        view-at s starts layout q.component k ∙ at-past s starts layout q.component k l
-        ∙ sym (own-element k ∙ ap (pieces q.component) (get_or-eq_default ps [] {n = k} (omega (arith, laid.counted)))))
+        view_at s starts layout q.component k ∙ at_past s starts layout q.component k l
+        ∙ sym (own_element k ∙ ap (pieces q.component) (get_or-eq_default ps [] {n = k} (omega (arith, laid.counted)))))
         (λ l.
         let low : k ≤ layout.count = omega arith in
-        view-element s starts layout q.component k low ∙ ap (components_by layout.single q.component) (own-piece k low high)
-        ∙ own-pieces k ∙ sym (own-element k))
+        view_element s starts layout q.component k low ∙ ap (components_by layout.single q.component) (own_piece k low high)
+        ∙ own_pieces k ∙ sym (own_element k))
 
-    pub count-own : element_count view ≡ element_count (view_of q segment)
-    count-own =
-        view-count s starts layout q.component
+    pub count_own : element_count view ≡ element_count (view_of q segment)
+    count_own =
+        view_count s starts layout q.component
         ∙ rw (view_plain q segment plain) (omega (arith, laid.counted, ap length pieces_are, length-map (pieces q.element segment) (pieces q.component)))
 
     -- so the verdict by the layout is that over the segment
-    pub ruled-own : (profile : ProfileName) (tag : ℕ)
+    pub ruled_own : (profile : ProfileName) (tag : ℕ)
         → first_broken (ruled_checks (element_profile profile) tag view) ≡ first_broken (ruled_checks (element_profile profile) tag (view_of q segment))
-    ruled-own profile tag = ruled_agree view (view_of q segment) count-own view-own profile tag
+    ruled_own profile tag = ruled_agree view (view_of q segment) count_own view_own profile tag

@@ -80,14 +80,14 @@ module _ (there : ℕ → Bool) where
       record { left = n; place = omega arith; so_far = w ∙ note_kept (Paired (k ∷ (k + 1) ∷ [])) (pairs_from (k + 2) n) e }
 
   module _ {k : ℕ} (w : Pairs k) where
-    pub pairs-inside : k < 32 → k < 31
-    pairs-inside l = omega (arith, w.place)
+    pub pairs_inside : k < 32 → k < 31
+    pairs_inside l = omega (arith, w.place)
 
-    pub pairs-broken : k < 32 → note_holds there (Paired (k ∷ (k + 1) ∷ [])) ≡ false → Broken 11 k ≡ verdict (pairs_from 4 14)
-    pairs-broken l e = pair_fails k w.left l w.place e ∙ sym w.so_far
+    pub pairs_broken : k < 32 → note_holds there (Paired (k ∷ (k + 1) ∷ [])) ≡ false → Broken 11 k ≡ verdict (pairs_from 4 14)
+    pairs_broken l e = pair_fails k w.left l w.place e ∙ sym w.so_far
 
-    pub pairs-more : k < 32 → note_holds there (Paired (k ∷ (k + 1) ∷ [])) ≡ true → Pairs (k + 2)
-    pairs-more l e = more_pairs k w.left l w.place e w.so_far
+    pub pairs_more : k < 32 → note_holds there (Paired (k ∷ (k + 1) ∷ [])) ≡ true → Pairs (k + 2)
+    pairs_more l e = more_pairs k w.left l w.place e w.so_far
 
-    pub pairs-all : ((j : ℕ) → k ≤ j → there j ≡ false) → Holds ≡ verdict (pairs_from 4 14)
-    pairs-all h = sym (w.so_far ∙ pairs_absent k w.left h)
+    pub pairs_all : ((j : ℕ) → k ≤ j → there j ≡ false) → Holds ≡ verdict (pairs_from 4 14)
+    pairs_all h = sym (w.so_far ∙ pairs_absent k w.left h)

@@ -19,9 +19,9 @@ use Rattle.elements.specs.declared.verdict.Verdict.{Verdict}
 use Rattle.elements.specs.declared.verdict.Verdict.TheVariants.{Holds, Broken}
 use Rattle.elements.specs.declared.layout.Layout.{Layout}
 use Rattle.elements.proofs.FirstBroken.{and_then, broken_append, then_assoc, each_same, each_decides, each_under, each_silent}
-use Rattle.elements.proofs.ByLayout.{element_past, view-count, view-at, at-present}
+use Rattle.elements.proofs.ByLayout.{element_past, view_count, view_at, at_present}
 use Rattle.elements.proofs.EveryTag.{ruled_by, ruled_none}
-use Rattle.ruling.proofs.EarlyRules.{early_is, unwanted-decides, others-decide}
+use Rattle.ruling.proofs.EarlyRules.{early_is, unwanted_decides, others_decide}
 use Rattle.ruling.proofs.UnusedElements.{few_so_far}
 
 module _ (s : Bytes) (starts : List ℕ) (layout : Layout) where
@@ -39,36 +39,36 @@ module _ (s : Bytes) (starts : List ℕ) (layout : Layout) where
     abbrev view : View
     view = layout_view s starts layout component
 
-    elements-are : element_of view ≡ at
-    elements-are = λ i k. view-at s starts layout component k i
+    elements_are : element_of view ≡ at
+    elements_are = λ i k. view_at s starts layout component k i
 
-    presence-is : present_at view ≡ there
-    presence-is = λ i k. (ap present (view-at s starts layout component k) ∙ at-present s starts layout component k) i
+    presence_is : present_at view ≡ there
+    presence_is = λ i k. (ap present (view_at s starts layout component k) ∙ at_present s starts layout component k) i
 
     -- 9, 8, 10 and 11 over the view are those over the elements
-    many-found : (rules : Rules) (unused : ℕ → Bool)
+    many_found : (rules : Rules) (unused : ℕ → Bool)
         → too_many_checks rules unused view ≡ each 9 1 layout.count (λ (k : ℕ). few_by rules k (at k) && absent_if (unused k) (at k))
-    many-found rules unused =
-        ap₂ (λ (n : ℕ) (f : ℕ → Piece). each 9 1 n (λ (k : ℕ). few_by rules k (f k) && absent_if (unused k) (f k))) (view-count s starts layout component)
-        elements-are
+    many_found rules unused =
+        ap₂ (λ (n : ℕ) (f : ℕ → Piece). each 9 1 n (λ (k : ℕ). few_by rules k (f k) && absent_if (unused k) (f k))) (view_count s starts layout component)
+        elements_are
 
-    missing-found : (rules : Rules) → missing_checks rules view ≡ each 8 1 (length rules.elements) (complete_at_of rules at)
+    missing_found : (rules : Rules) → missing_checks rules view ≡ each 8 1 (length rules.elements) (complete_at_of rules at)
     unfolding complete_at_of
-    missing-found rules = ap (λ (f : ℕ → Piece). each 8 1 (length rules.elements) (complete_at_of rules f)) elements-are
+    missing_found rules = ap (λ (f : ℕ → Piece). each 8 1 (length rules.elements) (complete_at_of rules f)) elements_are
 
     unfit_found : (rules : Rules) → unfit_checks rules view ≡ each 10 1 (length rules.elements) (suits_at_of rules at)
     unfolding suits_at_of
-    unfit_found rules = ap (λ (f : ℕ → Piece). each 10 1 (length rules.elements) (suits_at_of rules f)) elements-are
+    unfit_found rules = ap (λ (f : ℕ → Piece). each 10 1 (length rules.elements) (suits_at_of rules f)) elements_are
 
-    notes-found : (ns : List Note) → note_checks ns (present_at view) ≡ note_checks ns there
-    notes-found ns = ap (note_checks ns) presence-is
+    notes_found : (ns : List Note) → note_checks ns (present_at view) ≡ note_checks ns there
+    notes_found ns = ap (note_checks ns) presence_is
 
     -- grouped as the code tests them
-    checks-found : (rules : Rules) (unused : ℕ → Bool)
+    checks_found : (rules : Rules) (unused : ℕ → Bool)
         → first_broken (checks_by rules unused view)
         ≡ and_then (first_broken (each 9 1 layout.count (λ (k : ℕ). few_by rules k (at k) && absent_if (unused k) (at k))))
         (and_then (elements_verdict rules at (length rules.elements)) (first_broken (note_checks rules.notes there)))
-    checks-found rules unused =
+    checks_found rules unused =
         let many = too_many_checks rules unused view in
         let missing = missing_checks rules view in
         let unfit = unfit_checks rules view in
@@ -81,12 +81,12 @@ module _ (s : Bytes) (starts : List ℕ) (layout : Layout) where
         ∙ ap (λ (v : Verdict). and_then v d)
         (broken_append (many ++ missing) unfit ∙ ap (λ (v : Verdict). and_then v c) (broken_append many missing) ∙ then_assoc a b c)
         ∙ then_assoc a (and_then b c) d
-        ∙ ap₂ (λ (v w : Verdict). and_then v (and_then w d)) (ap first_broken (many-found rules unused))
+        ∙ ap₂ (λ (v w : Verdict). and_then v (and_then w d)) (ap first_broken (many_found rules unused))
         (sym (broken_append missing unfit)
-        ∙ ap₂ (λ (x y : List Check). first_broken (x ++ y)) (missing-found rules) (unfit_found rules))
+        ∙ ap₂ (λ (x y : List Check). first_broken (x ++ y)) (missing_found rules) (unfit_found rules))
         ∙ ap (λ (x : List Check). and_then (first_broken (each 9 1 layout.count (λ (k : ℕ). few_by rules k (at k) && absent_if (unused k) (at k))))
         (and_then (elements_verdict rules at (length rules.elements)) (first_broken x)))
-        (notes-found rules.notes)
+        (notes_found rules.notes)
 
     module _ (profile : ProfileName) (tag : ℕ) where
       abbrev whole : Verdict
@@ -109,8 +109,8 @@ module _ (s : Bytes) (starts : List ℕ) (layout : Layout) where
       many = first_broken (each 9 1 layout.count few)
 
       -- a plain segment
-      pub decide-plain : length (rules_of tag).elements ≡ 0 → Holds ≡ whole
-      decide-plain e = sym (ap first_broken (ruled_none profile tag view e))
+      pub decide_plain : length (rules_of tag).elements ≡ 0 → Holds ≡ whole
+      decide_plain e = sym (ap first_broken (ruled_none profile tag view e))
 
       abbrev eight_ten : Verdict
       eight_ten = elements_verdict (rules_of tag) at (length (rules_of tag).elements)
@@ -119,48 +119,48 @@ module _ (s : Bytes) (starts : List ℕ) (layout : Layout) where
       notes = first_broken (note_checks (rules_of tag).notes there)
 
       -- an element is as absent by its components as it is by the layout
-      unwanted-is : first_broken (each 9 1 layout.count (λ (k : ℕ). absent_if (unused k) (at k))) ≡ unwanted
-      unwanted-is =
+      unwanted_is : first_broken (each 9 1 layout.count (λ (k : ℕ). absent_if (unused k) (at k))) ≡ unwanted
+      unwanted_is =
           ap first_broken
           (each_same 9 1 layout.count (λ (k : ℕ). absent_if (unused k) (at k)) (λ (k : ℕ). not (unused k && there k))
-          (λ k l u. ap (λ (t : Bool). not (unused k && t)) (at-present s starts layout component k)))
+          (λ k l u. ap (λ (t : Bool). not (unused k && t)) (at_present s starts layout component k)))
 
       -- such an element decides over the other reasons for 9
-      nine-unwanted : (n e : ℕ) → Broken n e ≡ unwanted → nine ≡ Broken n e
-      nine-unwanted n e q =
-          let d = unwanted-is ∙ sym q in
+      nine_unwanted : (n e : ℕ) → Broken n e ≡ unwanted → nine ≡ Broken n e
+      nine_unwanted n e q =
+          let d = unwanted_is ∙ sym q in
           let f = each_decides 9 1 layout.count (λ (k : ℕ). absent_if (unused k) (at k)) n e d in
           each_under 9 1 layout.count few (λ (k : ℕ). absent_if (unused k) (at k)) n e d
-          (λ j l u. few_so_far profile tag e (unwanted-so (unused e) (present (at e)) f.1) j (at j) u)
+          (λ j l u. few_so_far profile tag e (unwanted_so (unused e) (present (at e)) f.1) j (at j) u)
         where
-          unwanted-so : (a b : Bool) → not (a && b) ≡ false → T a
-          unwanted-so true b x = tt
-          unwanted-so false b x = absurd (true≢false x)
+          unwanted_so : (a b : Bool) → not (a && b) ≡ false → T a
+          unwanted_so true b x = tt
+          unwanted_so false b x = absurd (true≢false x)
 
       -- where there is none, those decide
-      nine-many : Holds ≡ unwanted → nine ≡ many
-      nine-many q = each_silent 9 1 layout.count few (λ (k : ℕ). absent_if (unused k) (at k)) (unwanted-is ∙ sym q)
+      nine_many : Holds ≡ unwanted → nine ≡ many
+      nine_many q = each_silent 9 1 layout.count few (λ (k : ℕ). absent_if (unused k) (at k)) (unwanted_is ∙ sym q)
 
       module _ (ruled : length (rules_of tag).elements ≡ 0 → ⊥) where
         grouped : whole ≡ and_then nine (and_then eight_ten notes)
-        grouped = ap first_broken (ruled_by profile tag view ruled) ∙ checks-found (rules_of tag) unused
+        grouped = ap first_broken (ruled_by profile tag view ruled) ∙ checks_found (rules_of tag) unused
 
         -- 9 by the profile, 8 and 10, then 11
-        early-notes : whole ≡ and_then (early_by profile tag there at layout.count) notes
-        early-notes = by unwanted refl
+        early_notes : whole ≡ and_then (early_by profile tag there at layout.count) notes
+        early_notes = by unwanted refl
           where
             by : (u : Verdict) → unwanted ≡ u → whole ≡ and_then (early_by profile tag there at layout.count) notes
             by (Broken n e) q =
-                grouped ∙ ap (λ (v : Verdict). and_then v (and_then eight_ten notes)) (nine-unwanted n e (sym q))
-                ∙ ap (λ (v : Verdict). and_then v notes) (unwanted-decides s starts layout component tag profile there n e (sym q))
+                grouped ∙ ap (λ (v : Verdict). and_then v (and_then eight_ten notes)) (nine_unwanted n e (sym q))
+                ∙ ap (λ (v : Verdict). and_then v notes) (unwanted_decides s starts layout component tag profile there n e (sym q))
             by Holds q =
-                grouped ∙ ap (λ (v : Verdict). and_then v (and_then eight_ten notes)) (nine-many (sym q)) ∙ sym (then_assoc many eight_ten notes)
+                grouped ∙ ap (λ (v : Verdict). and_then v (and_then eight_ten notes)) (nine_many (sym q)) ∙ sym (then_assoc many eight_ten notes)
                 ∙ ap (λ (v : Verdict). and_then v notes)
-                (sym (early_is s starts layout component tag) ∙ others-decide s starts layout component tag profile there (sym q))
+                (sym (early_is s starts layout component tag) ∙ others_decide s starts layout component tag profile there (sym q))
 
         -- 9, 8 or 10 decides; where all three are silent, 11 does
-        pub decide-early : (n e : ℕ) → Broken n e ≡ early_by profile tag there at layout.count → Broken n e ≡ whole
-        decide-early n e q = sym (early-notes ∙ ap (λ (v : Verdict). and_then v notes) (sym q))
+        pub decide_early : (n e : ℕ) → Broken n e ≡ early_by profile tag there at layout.count → Broken n e ≡ whole
+        decide_early n e q = sym (early_notes ∙ ap (λ (v : Verdict). and_then v notes) (sym q))
 
-        pub decide-notes : Holds ≡ early_by profile tag there at layout.count → notes ≡ whole
-        decide-notes q = sym (early-notes ∙ ap (λ (v : Verdict). and_then v notes) (sym q))
+        pub decide_notes : Holds ≡ early_by profile tag there at layout.count → notes ≡ whole
+        decide_notes q = sym (early_notes ∙ ap (λ (v : Verdict). and_then v notes) (sym q))

@@ -36,11 +36,11 @@ module _ (tag count : ℕ) (at : ℕ → Piece) where
   pub too_many_five : (count < 5 → at 5 ≡ empty) → few_components (rule_of (rules_of tag) 5).shape (at 5) ≡ false
       → Broken 9 5 ≡ first_broken (each 9 1 count few)
   too_many_five past e =
-      sym (each_broken 9 1 count 5 few (λ j l m. before j m) (omega arith) (omega (arith, there)) (rw e (last-false (leb 5 last))))
+      sym (each_broken 9 1 count 5 few (λ j l m. before j m) (omega arith) (omega (arith, there)) (rw e (last_false (leb 5 last))))
     where
-      last-false : (t : Bool) → t && false ≡ false
-      last-false true = refl
-      last-false false = refl
+      last_false : (t : Bool) → t && false ≡ false
+      last_false true = refl
+      last_false false = refl
 
       there : 5 ≤ count
       there =
@@ -56,24 +56,24 @@ module _ (tag count : ℕ) (at : ℕ → Piece) where
       before j m = rw (le-leb j last (omega (arith, ruled))) (few_but_five tag j (at j) (λ z. omega arith))
 
   module _ (five : few_components (rule_of (rules_of tag) 5).shape (at 5) ≡ true) where
-    few-each : (j : ℕ) → few_components (rule_of (rules_of tag) j).shape (at j) ≡ true
-    few-each j = by_test (eqb j 5) refl
+    few_each : (j : ℕ) → few_components (rule_of (rules_of tag) j).shape (at j) ≡ true
+    few_each j = by_test (eqb j 5) refl
       where
         by_test : (t : Bool) → eqb j 5 ≡ t → few_components (rule_of (rules_of tag) j).shape (at j) ≡ true
         by_test true e = rw (eqb-true j 5 e) five
         by_test false e = few_but_five tag j (at j) (eqb-false j 5 e)
 
-    past-last : last < count → Broken 9 (last + 1) ≡ first_broken (each 9 1 count few)
-    past-last l =
+    past_last : last < count → Broken 9 (last + 1) ≡ first_broken (each 9 1 count few)
+    past_last l =
         sym
-        (each_broken 9 1 count (last + 1) few (λ j p m. rw (le-leb j last (omega arith)) (few-each j)) (omega arith) (omega arith)
+        (each_broken 9 1 count (last + 1) few (λ j p m. rw (le-leb j last (omega arith)) (few_each j)) (omega arith) (omega arith)
         (rw (lt-leb (last + 1) last (omega arith))))
 
-    pub too-many-past : (n : ℕ) → n ≡ last → n < count → Broken 9 (n + 1) ≡ first_broken (each 9 1 count few)
-    too-many-past n e l = rw e (past-last (rw e at l))
+    pub too_many_past : (n : ℕ) → n ≡ last → n < count → Broken 9 (n + 1) ≡ first_broken (each 9 1 count few)
+    too_many_past n e l = rw e (past_last (rw e at l))
 
-    pub few-all : count ≤ last → Holds ≡ first_broken (each 9 1 count few)
-    few-all l = sym (each_holds 9 1 count few (λ j p m. rw (le-leb j last (omega arith)) (few-each j)))
+    pub few_all : count ≤ last → Holds ≡ first_broken (each 9 1 count few)
+    few_all l = sym (each_holds 9 1 count few (λ j p m. rw (le-leb j last (omega arith)) (few_each j)))
 
 -- where 9 is silent there are no more elements than rules
 pub few_count : (tag count : ℕ) (at : ℕ → Piece) → first_broken (each 9 1 count (λ (k : ℕ). few_by (rules_of tag) k (at k))) ≡ Holds

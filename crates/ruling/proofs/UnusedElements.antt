@@ -86,28 +86,28 @@ module _ (there : ℕ → Bool) (count t : ℕ) where
     within : (k : ℕ) → there k ≡ true → k ≤ count
     within k e = by_cases (dec_lt count k) (λ l. absurd (true≢false (sym e ∙ past k l))) (λ l. omega arith)
 
-    fine-else : (k : ℕ) → (k ≡ 2 → there 2 ≡ false) → (k ≡ 4 → there 4 ≡ false) → fine k ≡ true
+    fine_else : (k : ℕ) → (k ≡ 2 → there 2 ≡ false) → (k ≡ 4 → there 4 ≡ false) → fine k ≡ true
     unfolding tag_number
-    fine-else k two four = rw hl (by (eqb 2 k) refl (eqb 4 k) refl)
+    fine_else k two four = rw hl (by (eqb 2 k) refl (eqb 4 k) refl)
       where
         by : (a : Bool) → eqb 2 k ≡ a → (b : Bool) → eqb 4 k ≡ b → not ((a || (b || false)) && there k) ≡ true
         by true e b f = let z = eqb-true 2 k e in rw (← z, two (sym z))
         by false e true f = let z = eqb-true 4 k f in rw (← z, four (sym z))
         by false e false f = refl
 
-    pub second-there : there 2 ≡ true → Broken 9 2 ≡ unused_verdict (is_unused (element_profile Reply) t) there count
+    pub second_there : there 2 ≡ true → Broken 9 2 ≡ unused_verdict (is_unused (element_profile Reply) t) there count
     unfolding tag_number
-    second-there e =
+    second_there e =
         sym
-        (each_broken 9 1 count 2 fine (λ j l u. fine-else j (λ z. absurd (omega arith)) (λ z. absurd (omega arith))) (omega arith)
+        (each_broken 9 1 count 2 fine (λ j l u. fine_else j (λ z. absurd (omega arith)) (λ z. absurd (omega arith))) (omega arith)
         (omega (arith, within 2 e)) (rw (hl, e)))
 
-    pub fourth-there : there 2 ≡ false → there 4 ≡ true → Broken 9 4 ≡ unused_verdict (is_unused (element_profile Reply) t) there count
+    pub fourth_there : there 2 ≡ false → there 4 ≡ true → Broken 9 4 ≡ unused_verdict (is_unused (element_profile Reply) t) there count
     unfolding tag_number
-    fourth-there none e =
+    fourth_there none e =
         sym
-        (each_broken 9 1 count 4 fine (λ j l u. fine-else j (λ z. none) (λ z. absurd (omega arith))) (omega arith)
+        (each_broken 9 1 count 4 fine (λ j l u. fine_else j (λ z. none) (λ z. absurd (omega arith))) (omega arith)
         (omega (arith, within 4 e)) (rw (hl, e)))
 
-    pub neither-there : there 2 ≡ false → there 4 ≡ false → Holds ≡ unused_verdict (is_unused (element_profile Reply) t) there count
-    neither-there two four = sym (each_holds 9 1 count fine (λ k l u. fine-else k (λ z. two) (λ z. four)))
+    pub neither_there : there 2 ≡ false → there 4 ≡ false → Holds ≡ unused_verdict (is_unused (element_profile Reply) t) there count
+    neither_there two four = sym (each_holds 9 1 count fine (λ k l u. fine_else k (λ z. two) (λ z. four)))

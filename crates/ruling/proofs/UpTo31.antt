@@ -52,39 +52,39 @@ module _ (v w : View) (count : element_count v ≡ element_count w) (same : (k :
       (notes_same ns (and_second (note_within n) (every note_within ns) e))
 
   module _ (rules : Rules) (unused : ℕ → Bool) (few : length rules.elements ≤ 31) where
-    abbrev fewAt : View → ℕ → Bool
-    fewAt x k = few_by rules k (element_of x k) && absent_if (unused k) (element_of x k)
+    abbrev few_at : View → ℕ → Bool
+    few_at x k = few_by rules k (element_of x k) && absent_if (unused k) (element_of x k)
 
-    few-same : (k : ℕ) → fewAt v k ≡ fewAt w k
-    few-same k =
+    few_same : (k : ℕ) → few_at v k ≡ few_at w k
+    few_same k =
         by_cases (dec_lt 31 k) (λ l. rw (lt-leb k (length rules.elements) (omega arith)))
         (λ l. ap (λ (p : Piece). few_by rules k p && absent_if (unused k) p) (same k (omega arith)))
 
-    many-same : too_many_checks rules unused v ≡ too_many_checks rules unused w
-    many-same =
-        ap (λ (n : ℕ). each 9 1 n (fewAt v)) count
-        ∙ each_same 9 1 (element_count w) (fewAt v) (fewAt w) (λ k l u. few-same k)
+    many_same : too_many_checks rules unused v ≡ too_many_checks rules unused w
+    many_same =
+        ap (λ (n : ℕ). each 9 1 n (few_at v)) count
+        ∙ each_same 9 1 (element_count w) (few_at v) (few_at w) (λ k l u. few_same k)
 
-    missing-same : missing_checks rules v ≡ missing_checks rules w
-    missing-same =
+    missing_same : missing_checks rules v ≡ missing_checks rules w
+    missing_same =
         each_same 8 1 (length rules.elements) (λ (k : ℕ). complete_by (rule_of rules k) (element_of v k))
         (λ (k : ℕ). complete_by (rule_of rules k) (element_of w k)) (λ k l u. ap (complete_by (rule_of rules k)) (same k (omega arith)))
 
-    unfit-same : unfit_checks rules v ≡ unfit_checks rules w
-    unfit-same =
+    unfit_same : unfit_checks rules v ≡ unfit_checks rules w
+    unfit_same =
         each_same 10 1 (length rules.elements) (λ (k : ℕ). suits_by (rule_of rules k) (element_of v k))
         (λ (k : ℕ). suits_by (rule_of rules k) (element_of w k)) (λ k l u. ap (suits_by (rule_of rules k)) (same k (omega arith)))
 
-    checks-same : every note_within rules.notes ≡ true → checks_by rules unused v ≡ checks_by rules unused w
-    checks-same e =
-        ap₂ ◌++◌ (ap₂ ◌++◌ (ap₂ ◌++◌ many-same missing-same) unfit-same) (notes_same rules.notes e)
+    checks_same : every note_within rules.notes ≡ true → checks_by rules unused v ≡ checks_by rules unused w
+    checks_same e =
+        ap₂ ◌++◌ (ap₂ ◌++◌ (ap₂ ◌++◌ many_same missing_same) unfit_same) (notes_same rules.notes e)
 
   -- the same tests, and so the same verdict
   pub checks_agree : (profile : ProfileName) (tag : ℕ) → ruled_checks (element_profile profile) tag v ≡ ruled_checks (element_profile profile) tag w
   checks_agree profile tag =
       by_cases (dec_lt 0 (length (rules_of tag).elements))
       (λ l. ruled_by profile tag v (λ z. omega arith)
-      ∙ checks-same (rules_of tag) (is_unused (element_profile profile) tag) (last_small tag) (notes_small tag)
+      ∙ checks_same (rules_of tag) (is_unused (element_profile profile) tag) (last_small tag) (notes_small tag)
       ∙ sym (ruled_by profile tag w (λ z. omega arith)))
       (λ l. let none : length (rules_of tag).elements ≡ 0 = omega arith in ruled_none profile tag v none ∙ sym (ruled_none profile tag w none))
 

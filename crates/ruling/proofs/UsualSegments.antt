@@ -29,7 +29,7 @@ use Rattle.elements.specs.declared.verdict.Verdict.{Verdict}
 use Rattle.elements.specs.declared.verdict.Verdict.TheVariants.{Holds}
 use Rattle.elements.proofs.FirstBroken.{and_then, broken_append, each_holds}
 use Rattle.elements.proofs.EveryTag.{few_empty}
-use Rattle.ruling.proofs.TooMany.{few-all}
+use Rattle.ruling.proofs.TooMany.{few_all}
 use Rattle.ruling.proofs.EarlyRules.{early_elements}
 
 -- what a quick test passes suits its rule; nothing suits a rule that does not ask for it
@@ -105,7 +105,7 @@ module _ (s : Bytes) (starts : List ℕ) (layout : Layout) (tag : ℕ) (w : Suit
   alone k = rw single
 
   few : Holds ≡ many_verdict (rules_of tag) at layout.count
-  few = few-all tag layout.count at (rw (← alone 5) (few_one tag (element_in s starts layout 5))) (omega (arith, w.far, w.near))
+  few = few_all tag layout.count at (rw (← alone 5) (few_one tag (element_in s starts layout 5))) (omega (arith, w.far, w.near))
 
   each_suits : (k : ℕ) → 1 ≤ k → k < 1 + w.upto → SuitsAt s starts layout tag k
   each_suits k l u = from_one (SuitsAt s starts layout tag) w.upto w.suit k l (omega arith)

@@ -20,8 +20,8 @@ use Rattle.text.specs.declared.separators.Separators.{Separators}
 use Rattle.text.proofs.Bools.{fails}
 use Rattle.text.proofs.Bins.{bin_parts, bin_made, begins_mark, bin_begins}
 use Rattle.text.proofs.CutLaws.{CutLaw, Faulty}
-use Rattle.text.proofs.CountedCut.{counts_digits, digits_counts, counted_jump, counted_whole, attached-whole, attached-broken}
-use Rattle.text.proofs.CountedBytes.{Counted, Wanting, Tells, counted-tells}
+use Rattle.text.proofs.CountedCut.{counts_digits, digits_counts, counted_jump, counted_whole, attached_whole, attached_broken}
+use Rattle.text.proofs.CountedBytes.{Counted, Wanting, Tells, counted_tells}
 use Rattle.text.proofs.DocumentCut.{Says, cut_says, cut_plainly, cut_marked, plain_before, cut_law}
 
 module _ (q : Separators) where
@@ -87,15 +87,15 @@ module _ (q : Separators) where
         )
 
     -- a cut that blames the bytes so far leaves no beginning
-    no-beginning : (s : Bytes) (element : ℕ) (u m : Bytes) → (◌≡◌ {A = ℕ} 10 3) ⊎ Faulty (cut_of q) s 10 element u m → Beginning q u → ⊥
-    no-beginning s element u m (inl z) b = omega (arith, z)
-    no-beginning s element u m (inr f) b =
+    no_beginning : (s : Bytes) (element : ℕ) (u m : Bytes) → (◌≡◌ {A = ℕ} 10 3) ⊎ Faulty (cut_of q) s 10 element u m → Beginning q u → ⊥
+    no_beginning s element u m (inl z) b = omega (arith, z)
+    no_beginning s element u m (inr f) b =
         let whole : cut_of q (u ++ b.0) ≡ Whole b.1.segment [] = ap (cut_of q) b.1.ended ∙ bin_whole b.1.segment [] b.1.bin in
         never_both (sym whole ∙ f.still b.0)
 
     -- where the length is at fault, the bytes before are no whole BIN
-    not-counted : (f : Bytes) (b : ℕ) (m u v : Bytes) → cut_counted q 0 0 (f ++ b ∷ m) ≡ Stop 10 1 u v → Counted q 0 0 f → ⊥
-    not-counted f b m u v e c =
+    not_counted : (f : Bytes) (b : ℕ) (m u v : Bytes) → cut_counted q 0 0 (f ++ b ∷ m) ≡ Stop 10 1 u v → Counted q 0 0 f → ⊥
+    not_counted f b m u v e c =
         let jump : cut_counted q 0 0 (f ++ b ∷ m) ≡ behind (c.count ++ (q.element ∷ [])) (cut_attached q (length c.attached) (c.attached ++ b ∷ m)) =
         ap (cut_counted q 0 0) (ap (λ (x : Bytes). x ++ b ∷ m) c.is ∙ append_assoc c.count (q.element ∷ c.attached) (b ∷ m))
         ∙ counted_jump q 0 0 c.count (c.attached ++ b ∷ m) c.free c.digits
@@ -105,9 +105,9 @@ module _ (q : Separators) where
         by : (i : Bool) → eqb b q.terminator ≡ i
             → Stop 10 1 u v ≡ behind (c.count ++ (q.element ∷ [])) (cut_attached q (length c.attached) (c.attached ++ b ∷ m)) → ⊥
         by true h z =
-            never_both (sym (z ∙ ap (behind (c.count ++ (q.element ∷ []))) (attached-whole q c.attached b m (eqb-true b q.terminator h))))
+            never_both (sym (z ∙ ap (behind (c.count ++ (q.element ∷ []))) (attached_whole q c.attached b m (eqb-true b q.terminator h))))
         by false h z =
-            other_element (z ∙ ap (behind (c.count ++ (q.element ∷ []))) (attached-broken q c.attached b m (eqb-false b q.terminator h)))
+            other_element (z ∙ ap (behind (c.count ++ (q.element ∷ []))) (attached_broken q c.attached b m (eqb-false b q.terminator h)))
 
     -- from the count to the BIN
     by_count : (s : Bytes) (r : Cut) → cut_counted q 0 0 s ≡ r → Tells q 0 0 s r → CutLaw q.terminator (cut_of q) (bin_mark q.element ++ s) (behind (bin_mark q.element) r)
@@ -117,7 +117,7 @@ module _ (q : Separators) where
         inl
         (record {
           number_is = t.number_is;
-          element-is = t.element-is;
+          element_is = t.element_is;
           all = ap (λ (x : Bytes). bin_mark q.element ++ x) t.all;
           none = t.none;
           inside = inside s t.wanting;
@@ -131,8 +131,8 @@ module _ (q : Separators) where
           upto_is = ap (λ (x : Bytes). bin_mark q.element ++ x) t.upto_is;
           whole = ap (λ (x : Bytes). bin_mark q.element ++ x) t.whole;
           inside = inside t.front t.wanting;
-          broken = no-beginning (bin_mark q.element ++ s) element (bin_mark q.element ++ u) m (rw t.number_is at law);
-          element-is = which t.element-is;
+          broken = no_beginning (bin_mark q.element ++ s) element (bin_mark q.element ++ u) m (rw t.number_is at law);
+          element_is = which t.element_is;
         })
       where
         stops : (element ≡ 1) → cut_counted q 0 0 (t.front ++ t.last ∷ m) ≡ Stop 10 1 u m
@@ -142,14 +142,14 @@ module _ (q : Separators) where
         which : (element ≡ 1) ⊎ ((element ≡ 2) × Counted q 0 0 t.front)
             → ((element ≡ 1) × (T (is_bin q.element (bin_mark q.element ++ t.front)) → ⊥))
             ⊎ ((element ≡ 2) × T (is_bin q.element (bin_mark q.element ++ t.front)))
-        which (inl w) = inl (w, λ h. not-counted t.front t.last m u m (stops w) (bin_counted t.front h))
+        which (inl w) = inl (w, λ h. not_counted t.front t.last m u m (stops w) (bin_counted t.front h))
         which (inr w) = inr (w.0, rw (counted_bin t.front w.1) tt)
 
-    pub cut-of-bin : (s : Bytes) → T (begins_bin q.element s) → CutOfBin q s (cut_of q s)
-    cut-of-bin s h =
+    pub cut_of_bin : (s : Bytes) → T (begins_bin q.element s) → CutOfBin q s (cut_of q s)
+    cut_of_bin s h =
         subst (λ (x : Bytes). CutOfBin q x (cut_of q x)) (sym (begins_mark q.element s h))
         (rw (cut_marked q (drop 4 s))
-        (by_count (drop 4 s) (cut_counted q 0 0 (drop 4 s)) refl (counted-tells q fit 0 0 (drop 4 s) tt)
+        (by_count (drop 4 s) (cut_counted q 0 0 (drop 4 s)) refl (counted_tells q fit 0 0 (drop 4 s) tt)
         (rw (cut_marked q (drop 4 s)) at (cut_law q fit (bin_mark q.element ++ drop 4 s)))))
 
     pub plainly : (g m : Bytes) → begins_bin q.element (g ++ q.terminator ∷ m) ≡ false → Free q.terminator g → Plainly g
@@ -163,11 +163,11 @@ module _ (q : Separators) where
         }
 
     -- what is cut off is a whole BIN or such a segment
-    pub cut-gives : (s g m : Bytes) → cut_of q s ≡ Whole g m → T (is_bin q.element g) ⊎ Plainly g
-    cut-gives s g m e = by (begins_bin q.element s) refl
+    pub cut_gives : (s g m : Bytes) → cut_of q s ≡ Whole g m → T (is_bin q.element g) ⊎ Plainly g
+    cut_gives s g m e = by (begins_bin q.element s) refl
       where
         by : (b : Bool) → begins_bin q.element s ≡ b → T (is_bin q.element g) ⊎ Plainly g
-        by true h = inl (subst (λ (c : Cut). CutOfBin q s c) e (cut-of-bin s (rw h tt))).0
+        by true h = inl (subst (λ (c : Cut). CutOfBin q s c) e (cut_of_bin s (rw h tt))).0
         by false h =
             let w : Says q s (Whole g m) = subst (λ (c : Cut). Says q s c) (sym (cut_plainly q s h) ∙ e) (cut_says q s) in
             inr (plainly g m (ap (begins_bin q.element) (sym w.0) ∙ h) w.1)

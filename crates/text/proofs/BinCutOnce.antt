@@ -16,7 +16,7 @@ use Rattle.text.specs.Cut.{Cut, Whole, Stop, cut_of}
 use Rattle.text.specs.BinCut.{WholeBin, Inside, BrokenAt, CutOfBin}
 use Rattle.text.specs.declared.separators.Separators.{Separators}
 use Rattle.text.proofs.Lists.{Fronts, alike, shorter, longer, fronts, same_but_last}
-use Rattle.text.proofs.BinCut.{bin_whole, cut-of-bin}
+use Rattle.text.proofs.BinCut.{bin_whole, cut_of_bin}
 
 -- the element of a break, by whether a whole BIN stands before it
 abbrev ElementBy : Bool → ℕ → Type 0
@@ -41,15 +41,15 @@ module _ (q : Separators) where
   -- the bytes s begin with u, which is just enough to tell: whatever is shorter wants a byte, and u wants none
   record Enough (s u m : Bytes) : Type 0 where
     pub whole : s ≡ u ++ m
-    pub shorter-wants : (xs : Bytes) (b : ℕ) (z : Bytes) → u ≡ xs ++ b ∷ z → Inside q xs
-    pub wants-none : Inside q u → ⊥
+    pub shorter_wants : (xs : Bytes) (b : ℕ) (z : Bytes) → u ≡ xs ++ b ∷ z → Inside q xs
+    pub wants_none : Inside q u → ⊥
 
   -- a whole BIN and its terminator are enough
   enough_whole : (s g m : Bytes) → CutOfBin q s (Whole g m) → Enough s (g ++ q.terminator ∷ []) m
   enough_whole s g m (h, e) = record {
     whole = e ∙ sym (append_snoc g q.terminator m);
-    shorter-wants = λ xs b z p. (b, z, record { segment = g; bin = h; ended = sym p });
-    wants-none = λ i. no_more i.0 i.1 i.2;
+    shorter_wants = λ xs b z p. (b, z, record { segment = g; bin = h; ended = sym p });
+    wants_none = λ i. no_more i.0 i.1 i.2;
   }
     where
       no_more : (b : ℕ) (z : Bytes) → WholeBin q (g ++ q.terminator ∷ [] ++ b ∷ z) → ⊥
@@ -61,8 +61,8 @@ module _ (q : Separators) where
   enough_broken : {s u m : Bytes} {number element : ℕ} → BrokenAt q s number element u m → Enough s u m
   enough_broken t = record {
     whole = t.whole;
-    shorter-wants = λ xs b z e. let p = sym t.upto_is ∙ e in by xs b z p (fronts t.front (t.last ∷ []) xs (b ∷ z) p);
-    wants-none = λ i. t.broken (i.0 ∷ i.1, i.2);
+    shorter_wants = λ xs b z e. let p = sym t.upto_is ∙ e in by xs b z p (fronts t.front (t.last ∷ []) xs (b ∷ z) p);
+    wants_none = λ i. t.broken (i.0 ∷ i.1, i.2);
   }
     where
       by : (xs : Bytes) (b : ℕ) (z : Bytes) → t.front ++ t.last ∷ [] ≡ xs ++ b ∷ z → Fronts t.front (t.last ∷ []) xs (b ∷ z) → Inside q xs
@@ -72,7 +72,7 @@ module _ (q : Separators) where
 
   -- bytes that begin with enough do not end inside a BIN
   enough_ends : {s u m : Bytes} → Enough s u m → Inside q s → ⊥
-  enough_ends {s} {u} {m} w i = w.wants-none (inside_front u m (subst (Inside q) w.whole i))
+  enough_ends {s} {u} {m} w i = w.wants_none (inside_front u m (subst (Inside q) w.whole i))
 
   -- and they begin with enough in one way
   enough_once : {s u m u' m' : Bytes} → Enough s u m → Enough s u' m' → (u ≡ u') × (m ≡ m')
@@ -80,8 +80,8 @@ module _ (q : Separators) where
     where
       by : Fronts u m u' m' → (u ≡ u') × (m ≡ m')
       by (alike e f) = (e, f)
-      by (shorter b z e) = absurd (w.wants-none (w'.shorter-wants u b z e))
-      by (longer b z e) = absurd (w'.wants-none (w.shorter-wants u' b z e))
+      by (shorter b z e) = absurd (w.wants_none (w'.shorter_wants u b z e))
+      by (longer b z e) = absurd (w'.wants_none (w.shorter_wants u' b z e))
 
   -- where a whole BIN is cut off the bytes do not stop
   never_stops : (s g m u v : Bytes) (number element : ℕ) → CutOfBin q s (Whole g m) → CutOfBin q s (Stop number element u v) → ⊥
@@ -94,7 +94,7 @@ module _ (q : Separators) where
   broken_once t t' =
       let same = enough_once (enough_broken t) (enough_broken t') in
       let before = same_but_last t.front t'.front t.last t'.last (sym t.upto_is ∙ same.0 ∙ t'.upto_is) in
-      let element = same_element (ap (is_bin q.element) before) t.element-is t'.element-is in
+      let element = same_element (ap (is_bin q.element) before) t.element_is t'.element_is in
       λ i. Stop ((t.number_is ∙ sym t'.number_is) i) (element i) (same.0 i) (same.1 i)
 
   -- two cuts that `CutOfBin` allows are one
@@ -102,11 +102,11 @@ module _ (q : Separators) where
   bin_cut_once s (Whole g m) (Whole g' m') w w' = whole_once g m g' m' w w'
   bin_cut_once s (Whole g m) (Stop n e u v) w w' = absurd (never_stops s g m u v n e w w')
   bin_cut_once s (Stop n e u v) (Whole g m) w w' = absurd (never_stops s g m u v n e w' w)
-  bin_cut_once s (Stop n e u v) (Stop n' e' u' v') (inl t) (inl t') = cc (t.number_is, t'.number_is, t.element-is, t'.element-is, t.all, t'.all, t.none, t'.none)
+  bin_cut_once s (Stop n e u v) (Stop n' e' u' v') (inl t) (inl t') = cc (t.number_is, t'.number_is, t.element_is, t'.element_is, t.all, t'.all, t.none, t'.none)
   bin_cut_once s (Stop n e u v) (Stop n' e' u' v') (inl t) (inr t') = absurd (enough_ends (enough_broken t') t.inside)
   bin_cut_once s (Stop n e u v) (Stop n' e' u' v') (inr t) (inl t') = absurd (enough_ends (enough_broken t) t'.inside)
   bin_cut_once s (Stop n e u v) (Stop n' e' u' v') (inr t) (inr t') = broken_once t t'
 
   -- so the cut that it allows is the one that `cut_of` gives
   pub bin_cut_is : Fitted q → (s : Bytes) → T (begins_bin q.element s) → (c : Cut) → CutOfBin q s c → c ≡ cut_of q s
-  bin_cut_is fit s h c w = bin_cut_once s c (cut_of q s) w (cut-of-bin q fit s h)
+  bin_cut_is fit s h c w = bin_cut_once s c (cut_of q s) w (cut_of_bin q fit s h)

@@ -74,15 +74,15 @@ module _ (e : ℕ) (g : Bytes) where
       counted = marked_counts e g f.count f.rest whole f.free
 
       -- it ends with the bytes
-      pub attached-here : length g - end - 1 ≡ number → end + 1 ≡ attached_from e g
-      attached-here h =
+      pub attached_here : length g - end - 1 ≡ number → end + 1 ≡ attached_from e g
+      attached_here h =
           let c = digits_counts f.count f.rest f.digits (sym f.number_is ∙ omega (arith, long)) in
           let n : count_in e g ≡ f.count = ap (count_in e) whole ∙ count_made e f.count f.rest f.free in
           sym (attached_bin (counted ∙ counts_passes f.count f.rest c) ∙ omega (arith, ap length n, f.end_is))
 
       -- or not
-      pub attached-elsewhere : (length g - end - 1 ≡ number → ⊥) → length g ≡ attached_from e g
-      attached-elsewhere h =
+      pub attached_elsewhere : (length g - end - 1 ≡ number → ⊥) → length g ≡ attached_from e g
+      attached_elsewhere h =
           sym
           (attached_plain
           (counted
@@ -100,11 +100,11 @@ module _ (e : ℕ) (g : Bytes) where
         let d = count_in e g in
         n (value_of d) (4 + length d) (is ∙ ap (count_from e 0 0 4) (ap (drop 4) b.whole) ∙ count_found e 0 0 4 d (attached_in e g) b.free (counts_digits b.counted)))))
 
-    pub count-open : r ≡ Open → length g ≡ attached_from e g
-    count-open z = uncounted (λ n m w. let x : ◌≡◌ {A = ℕ} 0 1 = cc in omega arith)
+    pub count_open : r ≡ Open → length g ≡ attached_from e g
+    count_open z = uncounted (λ n m w. let x : ◌≡◌ {A = ℕ} 0 1 = cc in omega arith)
 
-    pub count-broken : r ≡ Broken → length g ≡ attached_from e g
-    count-broken z = uncounted (λ n m w. let x : ◌≡◌ {A = ℕ} 0 1 = cc in omega arith)
+    pub count_broken : r ≡ Broken → length g ≡ attached_from e g
+    count_broken z = uncounted (λ n m w. let x : ◌≡◌ {A = ℕ} 0 1 = cc in omega arith)
 
   -- the elements by that place
   pub bin_of : attached_from e g < length g → is_bin e g ≡ true

@@ -18,7 +18,7 @@ use Rattle.text.specs.declared.separators.Separators.{Separators}
 use Rattle.text.specs.internal.Search.{Free}
 use Rattle.text.proofs.Bools.{first_of, second_of, both, or_cases}
 use Rattle.text.proofs.Serving.{serves_apart}
-use Rattle.text.proofs.CountedCut.{Digits, may_few, attached_short, attached-whole, attached-broken}
+use Rattle.text.proofs.CountedCut.{Digits, may_few, attached_short, attached_whole, attached_broken}
 
 module _ (q : Separators) where
   -- behind k digits that write n: more digits, the separator, and as many bytes as all of them count
@@ -41,7 +41,7 @@ module _ (q : Separators) where
   -- 3
   pub record Ends (k n : ℕ) (s : Bytes) (number element : ℕ) (upto more : Bytes) : Type 0 where
     pub number_is : number ≡ 3
-    pub element-is : element ≡ 0
+    pub element_is : element ≡ 0
     pub all : upto ≡ s
     pub none : more ≡ []
     pub wanting : Wanting k n s
@@ -54,7 +54,7 @@ module _ (q : Separators) where
     pub upto_is : upto ≡ front ++ (last ∷ [])
     pub whole : s ≡ upto ++ more
     pub wanting : Wanting k n front
-    pub element-is : (element ≡ 1) ⊎ ((element ≡ 2) × Counted k n front)
+    pub element_is : (element ≡ 1) ⊎ ((element ≡ 2) × Counted k n front)
 
   abbrev pub Tells : ℕ → ℕ → Bytes → Cut → Type 0
   Tells k n s (Whole segment more) = Counted k n segment × (s ≡ segment ++ q.terminator ∷ more)
@@ -76,8 +76,8 @@ module _ (q : Separators) where
       value = c.value;
     }
 
-    wanting-more : (s : Bytes) → Wanting (suc k) (n * 10 + (b - byte "0")) s → Wanting k n (b ∷ s)
-    wanting-more s w = record {
+    wanting_more : (s : Bytes) → Wanting (suc k) (n * 10 + (b - byte "0")) s → Wanting k n (b ∷ s)
+    wanting_more s w = record {
       more = w.more;
       some = w.some;
       made = b ∷ w.made;
@@ -91,10 +91,10 @@ module _ (q : Separators) where
         inl
         (record {
           number_is = w.number_is;
-          element-is = w.element-is;
+          element_is = w.element_is;
           all = ap (λ (x : Bytes). b ∷ x) w.all;
           none = w.none;
-          wanting = wanting-more s w.wanting;
+          wanting = wanting_more s w.wanting;
         })
     tells_more s (Stop number element u m) (inr w) =
         inr
@@ -104,8 +104,8 @@ module _ (q : Separators) where
           number_is = w.number_is;
           upto_is = ap (λ (x : Bytes). b ∷ x) w.upto_is;
           whole = ap (λ (x : Bytes). b ∷ x) w.whole;
-          wanting = wanting-more w.front w.wanting;
-          element-is = by w.element-is;
+          wanting = wanting_more w.front w.wanting;
+          element_is = by w.element_is;
         })
       where
         by : (element ≡ 1) ⊎ ((element ≡ 2) × Counted (suc k) (n * 10 + (b - byte "0")) w.front)
@@ -115,8 +115,8 @@ module _ (q : Separators) where
 
   -- the separator, where the digits so far write n, and n bytes
   module _ (k n : ℕ) (few : k ≤ 15) (some : 1 ≤ n) where
-    counted-here : (p : Bytes) → length p ≡ n → Counted k n (q.element ∷ p)
-    counted-here p l = record {
+    counted_here : (p : Bytes) → length p ≡ n → Counted k n (q.element ∷ p)
+    counted_here p l = record {
       count = [];
       attached = p;
       is = refl;
@@ -125,27 +125,27 @@ module _ (q : Separators) where
       value = sym l;
     }
 
-    wanting-rest : (s : Bytes) → length s ≤ n → Wanting k n (q.element ∷ s)
-    wanting-rest s l =
+    wanting_rest : (s : Bytes) → length s ≤ n → Wanting k n (q.element ∷ s)
+    wanting_rest s l =
         let rest = replicate (n - length s) (byte "A") in
         record {
           more = rest ++ (q.terminator ∷ []);
           some = simp length-append (omega arith);
           made = q.element ∷ (s ++ rest);
-          counted = counted-here (s ++ rest) (rw (length-append s rest, length-replicate (n - length s) (byte "A")) (omega arith));
+          counted = counted_here (s ++ rest) (rw (length-append s rest, length-replicate (n - length s) (byte "A")) (omega arith));
           ended = ap (λ (x : Bytes). q.element ∷ x) (sym (append_assoc s rest (q.terminator ∷ [])));
         }
 
-    tells-behind : (p : Bytes) (b : ℕ) (x : Bytes) → length p ≡ n
+    tells_behind : (p : Bytes) (b : ℕ) (x : Bytes) → length p ≡ n
         → Tells k n (q.element ∷ (p ++ b ∷ x)) (behind (q.element ∷ []) (cut_attached q n (p ++ b ∷ x)))
-    tells-behind p b x l = rw (← l) (by (eqb b q.terminator) refl)
+    tells_behind p b x l = rw (← l) (by (eqb b q.terminator) refl)
       where
         by : (i : Bool) → eqb b q.terminator ≡ i → Tells k (length p) (q.element ∷ (p ++ b ∷ x)) (behind (q.element ∷ []) (cut_attached q (length p) (p ++ b ∷ x)))
         by true h =
             let w = eqb-true b q.terminator h in
-            rw (attached-whole q p b x w) (rw (← l) at (counted-here p l), ap (λ (y : ℕ). q.element ∷ (p ++ y ∷ x)) w)
+            rw (attached_whole q p b x w) (rw (← l) at (counted_here p l), ap (λ (y : ℕ). q.element ∷ (p ++ y ∷ x)) w)
         by false h =
-            rw (attached-broken q p b x (eqb-false b q.terminator h))
+            rw (attached_broken q p b x (eqb-false b q.terminator h))
             (inr
             (record {
               front = q.element ∷ p;
@@ -153,65 +153,65 @@ module _ (q : Separators) where
               number_is = refl;
               upto_is = refl;
               whole = ap (λ (y : Bytes). q.element ∷ y) (sym (append_snoc p b x));
-              wanting = rw (← l) at (wanting-rest p (omega arith));
-              element-is = inr (refl, rw (← l) at (counted-here p l));
+              wanting = rw (← l) at (wanting_rest p (omega arith));
+              element_is = inr (refl, rw (← l) at (counted_here p l));
             }))
 
-    tells-attached : (s : Bytes) → Tells k n (q.element ∷ s) (behind (q.element ∷ []) (cut_attached q n s))
-    tells-attached s =
+    tells_attached : (s : Bytes) → Tells k n (q.element ∷ s) (behind (q.element ∷ []) (cut_attached q n s))
+    tells_attached s =
         by_cases (dec_lt n (length s))
         (λ l.
         subst (λ (x : Bytes). Tells k n (q.element ∷ x) (behind (q.element ∷ []) (cut_attached q n x))) (sym (split_at s n 0 l))
-        (tells-behind (take n s) (get_or s n 0) (drop (suc n) s) (length-take-le n s (omega arith))))
+        (tells_behind (take n s) (get_or s n 0) (drop (suc n) s) (length-take-le n s (omega arith))))
         (λ l.
         let short : length s ≤ n = omega arith in
         rw (attached_short q n s short)
-        (inl (record { number_is = refl; element-is = refl; all = refl; none = refl; wanting = wanting-rest s short })))
+        (inl (record { number_is = refl; element_is = refl; all = refl; none = refl; wanting = wanting_rest s short })))
 
   module _ (fit : Fitted q) where
     -- digits that may go on can be counted with: by what they write, or by a 1 behind them
-    wanting-none : (k n : ℕ) → T (may_count k n) → Wanting k n []
-    wanting-none k zero h =
+    wanting_none : (k n : ℕ) → T (may_count k n) → Wanting k n []
+    wanting_none k zero h =
         let l : k < 15 = or_cases (ltb k 15) (eqb k 15 && leb 1 0) (ltb→lt k 15) (λ z. absurd (second_of (eqb k 15) (leb 1 0) z)) h in
         record {
           more = byte "1" ∷ q.element ∷ byte "A" ∷ q.terminator ∷ [];
           some = omega arith;
           made = byte "1" ∷ q.element ∷ byte "A" ∷ [];
           counted = counted_more k 0 (byte "1") tt (serves_apart (byte "1") q.element tt fit.element_serves) (q.element ∷ byte "A" ∷ [])
-              (counted-here (suc k) 1 (omega arith) (omega arith) (byte "A" ∷ []) refl);
+              (counted_here (suc k) 1 (omega arith) (omega arith) (byte "A" ∷ []) refl);
           ended = refl;
         }
-    wanting-none k (suc n) h =
+    wanting_none k (suc n) h =
         let p = replicate (suc n) (byte "A") in
         record {
           more = q.element ∷ (p ++ (q.terminator ∷ []));
           some = omega arith;
           made = q.element ∷ p;
-          counted = counted-here k (suc n) (may_few k (suc n) h) (omega arith) p (length-replicate (suc n) (byte "A"));
+          counted = counted_here k (suc n) (may_few k (suc n) h) (omega arith) p (length-replicate (suc n) (byte "A"));
           ended = refl;
         }
 
-    broken-here : (k n : ℕ) → T (may_count k n) → (b : ℕ) (s : Bytes) → Tells k n (b ∷ s) (Stop 10 1 (b ∷ []) s)
-    broken-here k n h b s =
-        inr (record { front = []; last = b; number_is = refl; upto_is = refl; whole = refl; wanting = wanting-none k n h; element-is = inl refl })
+    broken_here : (k n : ℕ) → T (may_count k n) → (b : ℕ) (s : Bytes) → Tells k n (b ∷ s) (Stop 10 1 (b ∷ []) s)
+    broken_here k n h b s =
+        inr (record { front = []; last = b; number_is = refl; upto_is = refl; whole = refl; wanting = wanting_none k n h; element_is = inl refl })
 
-    at-separator : (k n : ℕ) → T (may_count k n) → (b : ℕ) (s : Bytes) → b ≡ q.element → (i : Bool) → leb 1 n ≡ i
+    at_separator : (k n : ℕ) → T (may_count k n) → (b : ℕ) (s : Bytes) → b ≡ q.element → (i : Bool) → leb 1 n ≡ i
         → Tells k n (b ∷ s) (cond i (behind (b ∷ []) (cut_attached q n s)) (Stop 10 1 (b ∷ []) s))
-    at-separator k n h b s z true w = rw z (tells-attached k n (may_few k n h) (leb-true 1 n w) s)
-    at-separator k n h b s z false w = broken-here k n h b s
+    at_separator k n h b s z true w = rw z (tells_attached k n (may_few k n h) (leb-true 1 n w) s)
+    at_separator k n h b s z false w = broken_here k n h b s
 
-    pub counted-tells : (k n : ℕ) (s : Bytes) → T (may_count k n) → Tells k n s (cut_counted q k n s)
-    counted-tells k n [] h = inl (record { number_is = refl; element-is = refl; all = refl; none = refl; wanting = wanting-none k n h })
-    counted-tells k n (b ∷ s) h =
-        by (eqb b q.element) refl (is_digit b && may_count (suc k) (n * 10 + (b - byte "0"))) (λ g. g) (counted-tells (suc k) (n * 10 + (b - byte "0")) s)
+    pub counted_tells : (k n : ℕ) (s : Bytes) → T (may_count k n) → Tells k n s (cut_counted q k n s)
+    counted_tells k n [] h = inl (record { number_is = refl; element_is = refl; all = refl; none = refl; wanting = wanting_none k n h })
+    counted_tells k n (b ∷ s) h =
+        by (eqb b q.element) refl (is_digit b && may_count (suc k) (n * 10 + (b - byte "0"))) (λ g. g) (counted_tells (suc k) (n * 10 + (b - byte "0")) s)
       where
         by : (i : Bool) → eqb b q.element ≡ i → (j : Bool) → (T j → T (is_digit b && may_count (suc k) (n * 10 + (b - byte "0"))))
             → (T (may_count (suc k) (n * 10 + (b - byte "0"))) → Tells (suc k) (n * 10 + (b - byte "0")) s (cut_counted q (suc k) (n * 10 + (b - byte "0")) s))
             → Tells k n (b ∷ s) (cond i (cond (leb 1 n) (behind (b ∷ []) (cut_attached q n s)) (Stop 10 1 (b ∷ []) s))
             (cond j (behind (b ∷ []) (cut_counted q (suc k) (n * 10 + (b - byte "0")) s)) (Stop 10 1 (b ∷ []) s)))
-        by true z j g r = at-separator k n h b s (eqb-true b q.element z) (leb 1 n) refl
+        by true z j g r = at_separator k n h b s (eqb-true b q.element z) (leb 1 n) refl
         by false z true g r =
             let d = first_of (is_digit b) (may_count (suc k) (n * 10 + (b - byte "0"))) (g tt) in
             let m = second_of (is_digit b) (may_count (suc k) (n * 10 + (b - byte "0"))) (g tt) in
             tells_more k n b d (eqb-false b q.element z) s (cut_counted q (suc k) (n * 10 + (b - byte "0")) s) (r m)
-        by false z false g r = broken-here k n h b s
+        by false z false g r = broken_here k n h b s

@@ -100,15 +100,15 @@ module _ (q : Separators) where
     longer : leb (length (p ++ b ∷ x)) (length p) ≡ false
     longer = lt-leb (length (p ++ b ∷ x)) (length p) (rw (length-append p (b ∷ x)) (omega arith))
 
-    pub attached-whole : b ≡ t → cut_attached q (length p) (p ++ b ∷ x) ≡ Whole p x
+    pub attached_whole : b ≡ t → cut_attached q (length p) (p ++ b ∷ x) ≡ Whole p x
     unfolding cut_attached
-    attached-whole z =
+    attached_whole z =
         rw (longer, get_or_at p b x 0 (length p) refl, eq-eqb b t z, take_at p (b ∷ x) (length p) refl)
         (ap (Whole p) (ap (drop (suc (length p))) (sym (append_snoc p b x)) ∙ drop_at (p ++ (b ∷ [])) x (suc (length p)) (simp length-append (omega arith))))
 
-    pub attached-broken : (b ≡ t → ⊥) → cut_attached q (length p) (p ++ b ∷ x) ≡ Stop 10 2 (p ++ (b ∷ [])) x
+    pub attached_broken : (b ≡ t → ⊥) → cut_attached q (length p) (p ++ b ∷ x) ≡ Stop 10 2 (p ++ (b ∷ [])) x
     unfolding cut_attached
-    attached-broken z =
+    attached_broken z =
         let long : length (p ++ (b ∷ [])) ≡ suc (length p) = simp length-append (omega arith) in
         let front : take (suc (length p)) (p ++ b ∷ x) ≡ p ++ (b ∷ []) =
         ap (take (suc (length p))) (sym (append_snoc p b x)) ∙ take_at (p ++ (b ∷ [])) x (suc (length p)) long in
@@ -122,16 +122,16 @@ module _ (q : Separators) where
       by : (i : Bool) → eqb b t ≡ i → CutLaw t (cut_attached q (length p)) (p ++ b ∷ x) (cut_attached q (length p) (p ++ b ∷ x))
       by true h =
           let w = eqb-true b t h in
-          rw (attached-whole p b x w) (ap (λ (y : ℕ). p ++ y ∷ x) w, λ y. attached-whole p t y refl)
+          rw (attached_whole p b x w) (ap (λ (y : ℕ). p ++ y ∷ x) w, λ y. attached_whole p t y refl)
       by false h =
           let w = eqb-false b t h in
-          rw (attached-broken p b x w)
+          rw (attached_broken p b x w)
           (inr
           (record {
             is_10 = refl;
             whole = sym (append_snoc p b x);
             some = simp length-append (omega arith);
-            still = λ y. ap (cut_attached q (length p)) (append_snoc p b y) ∙ attached-broken p b y w;
+            still = λ y. ap (cut_attached q (length p)) (append_snoc p b y) ∙ attached_broken p b y w;
           }))
 
   pub attached_law : (n : ℕ) (s : Bytes) → CutLaw t (cut_attached q n) s (cut_attached q n s)
@@ -184,4 +184,4 @@ module _ (q : Separators) where
       → cut_counted q 0 0 (d ++ e ∷ (p ++ t ∷ x)) ≡ Whole (d ++ e ∷ p) x
   counted_whole d p x f c v =
       counted_jump 0 0 d (p ++ t ∷ x) f c
-      ∙ rw (v, attached-whole p t x refl) (ap (λ (g : Bytes). Whole g x) (append_snoc d e p))
+      ∙ rw (v, attached_whole p t x refl) (ap (λ (g : Bytes). Whole g x) (append_snoc d e p))

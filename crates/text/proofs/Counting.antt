@@ -78,40 +78,40 @@ module _ {s : Bytes} {e from digits number i : ℕ} (c : Counting s e from digit
     here : drop i s ≡ b ∷ drop (suc i) s
     here = drop-cons s i 0 inside
 
-    now-at : count_from e 0 0 from (drop from s) ≡ count_from e digits number i (b ∷ drop (suc i) s)
-    now-at = c.so_far ∙ ap (count_from e digits number i) here
+    now_at : count_from e 0 0 from (drop from s) ≡ count_from e digits number i (b ∷ drop (suc i) s)
+    now_at = c.so_far ∙ ap (count_from e digits number i) here
 
     -- the separator
     module _ (is : b ≡ e) where
-      pub count-nothing : number ≡ 0 → Broken ≡ count_from e 0 0 from (drop from s)
-      count-nothing z = sym (now-at ∙ rw (eq-eqb b e is, lt-leb 1 number (omega arith)))
+      pub count_nothing : number ≡ 0 → Broken ≡ count_from e 0 0 from (drop from s)
+      count_nothing z = sym (now_at ∙ rw (eq-eqb b e is, lt-leb 1 number (omega arith)))
 
-      pub count-tells : 1 ≤ number → Told number i ≡ count_from e 0 0 from (drop from s)
-      count-tells z = sym (now-at ∙ rw (eq-eqb b e is, le-leb 1 number z))
+      pub count_tells : 1 ≤ number → Told number i ≡ count_from e 0 0 from (drop from s)
+      count_tells z = sym (now_at ∙ rw (eq-eqb b e is, le-leb 1 number z))
 
     -- another byte
     module _ (other : b ≡ e → ⊥) where
-      pub count-other : is_digit b ≡ false → Broken ≡ count_from e 0 0 from (drop from s)
-      count-other h = sym (now-at ∙ rw (ne_eqb b e other, h))
+      pub count_other : is_digit b ≡ false → Broken ≡ count_from e 0 0 from (drop from s)
+      count_other h = sym (now_at ∙ rw (ne_eqb b e other, h))
 
       module _ (digit : is_digit b ≡ true) where
         pub digit_low : 48 ≤ b
         digit_low = leb-true 48 b (passes (leb 48 b) (first_of (leb 48 b) (leb b 57) (rw digit tt)))
 
-        pub digit-high : b ≤ 57
-        digit-high = leb-true b 57 (passes (leb b 57) (second_of (leb 48 b) (leb b 57) (rw digit tt)))
+        pub digit_high : b ≤ 57
+        digit_high = leb-true b 57 (passes (leb b 57) (second_of (leb 48 b) (leb b 57) (rw digit tt)))
 
-        pub count-many : (ltb 15 (digits + 1) || (eqb 15 (digits + 1) && eqb (number * 10 + (b - 48)) 0)) ≡ true → Broken ≡ count_from e 0 0 from (drop from s)
-        count-many h = sym (now-at ∙ rw (ne_eqb b e other, digit, test_stops (suc digits) (number * 10 + (b - 48)) (rw add-one at h)))
+        pub count_many : (ltb 15 (digits + 1) || (eqb 15 (digits + 1) && eqb (number * 10 + (b - 48)) 0)) ≡ true → Broken ≡ count_from e 0 0 from (drop from s)
+        count_many h = sym (now_at ∙ rw (ne_eqb b e other, digit, test_stops (suc digits) (number * 10 + (b - 48)) (rw add-one at h)))
 
         pub counting_more : (ltb 15 (digits + 1) || (eqb 15 (digits + 1) && eqb (number * 10 + (b - 48)) 0)) ≡ false
             → Counting s e from (digits + 1) (number * 10 + (b - 48)) (i + 1)
         counting_more h =
             let on = test_goes (suc digits) (number * 10 + (b - 48)) (rw add-one at h) in
             record {
-              so_far = now-at ∙ rw (ne_eqb b e other, digit, on.may, add-one, add-one);
+              so_far = now_at ∙ rw (ne_eqb b e other, digit, on.may, add-one, add-one);
               few = omega (arith, on.few);
-              small = rw (add-one, pow-suc 10 digits) (omega (arith, c.small, digit_low, digit-high));
+              small = rw (add-one, pow-suc 10 digits) (omega (arith, c.small, digit_low, digit_high));
             }
 
 -- what the answer says: the count and what stands behind it, or how the cut ends

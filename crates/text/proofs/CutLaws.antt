@@ -34,11 +34,11 @@ pub record SkipLaw (skip : Bytes → ℕ) : Type 0 where
 
 -- a whole cut has one segment and one rest
 pub whole_once : {g g' m m' : Bytes} → Whole g m ≡ Whole g' m' → (g ≡ g') × (m ≡ m')
-whole_once p = (ap segment-of p, ap more_of p)
+whole_once p = (ap segment_of_lem p, ap more_of p)
   where
-    segment-of : Cut → Bytes
-    segment-of (Whole g m) = g
-    segment-of (Stop n e u m) = u
+    segment_of_lem : Cut → Bytes
+    segment_of_lem (Whole g m) = g
+    segment_of_lem (Stop n e u m) = u
 
     more_of : Cut → Bytes
     more_of (Whole g m) = m
@@ -115,23 +115,23 @@ module _ (t : ℕ) (cut : Bytes → Cut) (skip : Bytes → ℕ) where
       pub end_is : end ≡ at + length front
       pub still : (b' : ℕ) (z : Bytes) → (b' ≡ b) ⊎ T (is_capital b') → Cuts at (front ++ b' ∷ z) gs end (b' ∷ z)
 
-    whole-law : (s : Bytes) (r : Cut) → cut s ≡ r → (g m : Bytes) → r ≡ Whole g m
+    whole_law : (s : Bytes) (r : Cut) → cut s ≡ r → (g m : Bytes) → r ≡ Whole g m
         → (s ≡ g ++ t ∷ m) × ((x : Bytes) → cut (g ++ t ∷ x) ≡ Whole g x)
-    whole-law s r e g m f = subst (λ (r : Cut). CutLaw t cut s r) (e ∙ f) (laws s)
+    whole_law s r e g m f = subst (λ (r : Cut). CutLaw t cut s r) (e ∙ f) (laws s)
 
-    near-front : (gap front : Bytes) (b b' : ℕ) (y z : Bytes) → (b' ≡ b) ⊎ T (is_capital b')
+    near_front : (gap front : Bytes) (b b' : ℕ) (y z : Bytes) → (b' ≡ b) ⊎ T (is_capital b')
         → skip (gap ++ (front ++ b ∷ y)) ≡ length gap → skip (gap ++ (front ++ b' ∷ z)) ≡ length gap
-    near-front gap [] b b' y z o e = skips.near gap b b' y z o e
-    near-front gap (x ∷ f) b b' y z o e = skips.near gap x x (f ++ b ∷ y) (f ++ b' ∷ z) (inl refl) e
+    near_front gap [] b b' y z o e = skips.near gap b b' y z o e
+    near_front gap (x ∷ f) b b' y z o e = skips.near gap x x (f ++ b ∷ y) (f ++ b' ∷ z) (inl refl) e
 
     -- one segment more in front
-    front-more : (at : ℕ) (s : Bytes) (p : Placed) (ps : List Placed) (end b : ℕ) (y m : Bytes)
+    front_more : (at : ℕ) (s : Bytes) (p : Placed) (ps : List Placed) (end b : ℕ) (y m : Bytes)
         → (s ≡ p.segment ++ t ∷ m) × ((x : Bytes) → cut (p.segment ++ t ∷ x) ≡ Whole p.segment x)
         → (gap : Bytes) → length gap ≡ skip m → m ≡ gap ++ drop (skip m) m → p.at ≡ at
         → (front : Bytes) → drop (skip m) m ≡ front ++ b ∷ y → end ≡ at + length p.segment + 1 + skip m + length front
         → ((b' : ℕ) (z : Bytes) → (b' ≡ b) ⊎ T (is_capital b') → Cuts (at + length p.segment + 1 + skip m) (front ++ b' ∷ z) ps end (b' ∷ z))
         → Front at s (p ∷ ps) end b y
-    front-more at s p ps end b y m w gap gl gm pa front fw fe still =
+    front_more at s p ps end b y m w gap gl gm pa front fw fe still =
         let m-is : m ≡ gap ++ (front ++ b ∷ y) = gm ∙ ap (λ (x : Bytes). gap ++ x) fw in
         let sk : skip (gap ++ (front ++ b ∷ y)) ≡ length gap = ap skip (sym m-is) ∙ sym gl in
         record {
@@ -139,7 +139,7 @@ module _ (t : ℕ) (cut : Bytes → Cut) (skip : Bytes → ℕ) where
           whole = w.0 ∙ ap (λ (x : Bytes). p.segment ++ t ∷ x) m-is ∙ rw (append_assoc, append_assoc);
           end_is = rw (length-append p.segment (t ∷ (gap ++ front)), length-append gap front) (omega (arith, fe, gl));
           still = λ b' z o.
-              let n = near-front gap front b b' y z o sk in
+              let n = near_front gap front b b' y z o sk in
               let q : skip (gap ++ (front ++ b' ∷ z)) ≡ skip m = n ∙ gl in (
                 gap ++ (front ++ b' ∷ z),
                 ap cut (rw (append_assoc, append_assoc)) ∙ w.1 (gap ++ (front ++ b' ∷ z)),
@@ -148,12 +148,12 @@ module _ (t : ℕ) (cut : Bytes → Cut) (skip : Bytes → ℕ) where
               );
         }
 
-    pub leads-front : (at : ℕ) (s : Bytes) (gs : List Placed) (end b : ℕ) (y : Bytes) → Cuts at s gs end (b ∷ y) → Front at s gs end b y
-    leads-front at s [] end b y c = record { front = []; whole = c.1; end_is = omega (arith, c.0); still = λ b' z o. (c.0, refl) }
-    leads-front at s (p ∷ ps) end b y c =
+    pub leads_front : (at : ℕ) (s : Bytes) (gs : List Placed) (end b : ℕ) (y : Bytes) → Cuts at s gs end (b ∷ y) → Front at s gs end b y
+    leads_front at s [] end b y c = record { front = []; whole = c.1; end_is = omega (arith, c.0); still = λ b' z o. (c.0, refl) }
+    leads_front at s (p ∷ ps) end b y c =
         let m = c.0 in
-        let i = leads-front (at + length p.segment + 1 + skip m) (drop (skip m) m) ps end b y c.3 in
-        front-more at s p ps end b y m (whole-law s (Whole p.segment m) c.1 p.segment m refl) (take (skip m) m)
+        let i = leads_front (at + length p.segment + 1 + skip m) (drop (skip m) m) ps end b y c.3 in
+        front_more at s p ps end b y m (whole_law s (Whole p.segment m) c.1 p.segment m refl) (take (skip m) m)
         (length-take-le (skip m) m (skips.few m)) (sym (take-append-drop (skip m) m)) c.2 i.front i.whole i.end_is i.still
 
     -- a segment that can be added behind others: it begins with a capital letter and is cut whole
@@ -181,30 +181,30 @@ module _ (t : ℕ) (cut : Bytes → Cut) (skip : Bytes → ℕ) where
     past at [] = at
     past at (g ∷ gs) = past (at + length g + 1) gs
 
-    no-skip : (gs : List Bytes) → AllAddable gs → skip (ended gs) ≡ 0
-    no-skip [] a = omega (arith, skips.few [])
-    no-skip (g ∷ gs) a =
+    no_skip : (gs : List Bytes) → AllAddable gs → skip (ended gs) ≡ 0
+    no_skip [] a = omega (arith, skips.few [])
+    no_skip (g ∷ gs) a =
         ap (λ (x : Bytes). skip (x ++ t ∷ ended gs)) a.0.is ∙ skips.none a.0.first (a.0.tail ++ t ∷ ended gs) a.0.capital
 
-    pub leads-added : (at : ℕ) (gs : List Bytes) → AllAddable gs → Cuts at (ended gs) (places at gs) (past at gs) []
-    leads-added at [] a = (refl, refl)
-    leads-added at (g ∷ gs) a = (
+    pub leads_added : (at : ℕ) (gs : List Bytes) → AllAddable gs → Cuts at (ended gs) (places at gs) (past at gs) []
+    leads_added at [] a = (refl, refl)
+    leads_added at (g ∷ gs) a = (
       ended gs,
       a.0.cut_is (ended gs),
       refl,
-      rw (no-skip gs a.1, add-zero (at + length g + 1)) (leads-added (at + length g + 1) gs a.1),
+      rw (no_skip gs a.1, add_zero (at + length g + 1)) (leads_added (at + length g + 1) gs a.1),
     )
       where
-        add-zero : (n : ℕ) → n + 0 ≡ n
-        add-zero n = omega arith
+        add_zero : (n : ℕ) → n + 0 ≡ n
+        add_zero n = omega arith
 
     -- what was passed, continued by such segments
-    pub leads-on : (at : ℕ) (s : Bytes) (gs : List Placed) (end b : ℕ) (y : Bytes) → Cuts at s gs end (b ∷ y) → (h : Bytes) (hs : List Bytes)
+    pub leads_on : (at : ℕ) (s : Bytes) (gs : List Placed) (end b : ℕ) (y : Bytes) → Cuts at s gs end (b ∷ y) → (h : Bytes) (hs : List Bytes)
         → AllAddable (h ∷ hs)
         → (front : Bytes) × (s ≡ front ++ b ∷ y) × (end ≡ at + length front)
         × Cuts at (front ++ ended (h ∷ hs)) (gs ++ places end (h ∷ hs)) (past end (h ∷ hs)) []
-    leads-on at s gs end b y c h hs a =
-        let f = leads-front at s gs end b y c in
+    leads_on at s gs end b y c h hs a =
+        let f = leads_front at s gs end b y c in
         let m = a.0 in
         let i : h ++ t ∷ ended hs ≡ m.first ∷ (m.tail ++ t ∷ ended hs) = ap (λ (x : Bytes). x ++ t ∷ ended hs) m.is in
         let z = f.still m.first (m.tail ++ t ∷ ended hs) (inr m.capital) in (
@@ -212,5 +212,5 @@ module _ (t : ℕ) (cut : Bytes → Cut) (skip : Bytes → ℕ) where
           f.whole,
           f.end_is,
           leads_behind at (f.front ++ ended (h ∷ hs)) gs (places end (h ∷ hs)) end (past end (h ∷ hs)) (ended (h ∷ hs)) []
-              (subst (λ (x : Bytes). Cuts at (f.front ++ x) gs end x) (sym i) z) (leads-added end (h ∷ hs) a),
+              (subst (λ (x : Bytes). Cuts at (f.front ++ x) gs end x) (sym i) z) (leads_added end (h ∷ hs) a),
         )

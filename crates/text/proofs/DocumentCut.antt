@@ -85,18 +85,18 @@ module _ (q : Separators) where
   pub cut_splits : (s : Bytes) → Splits s (cut_of q s)
   cut_splits s = by (begins_bin q.element s) refl
     where
-      of-law : (c : Cut) → CutLaw q.terminator (cut_of q) s c → Splits s c
-      of-law (Whole segment more) w = w.0
-      of-law (Stop number element upto more) (inl z) = inl z
-      of-law (Stop number element upto more) (inr f) = inr f.is_10
+      of_law : (c : Cut) → CutLaw q.terminator (cut_of q) s c → Splits s c
+      of_law (Whole segment more) w = w.0
+      of_law (Stop number element upto more) (inl z) = inl z
+      of_law (Stop number element upto more) (inr f) = inr f.is_10
 
-      of-says : (c : Cut) → Says s c → Splits s c
-      of-says (Whole segment more) w = w.0
-      of-says (Stop number element upto more) w = inl w.0
+      of_says : (c : Cut) → Says s c → Splits s c
+      of_says (Whole segment more) w = w.0
+      of_says (Stop number element upto more) w = inl w.0
 
       by : (b : Bool) → begins_bin q.element s ≡ b → Splits s (cut_of q s)
-      by true h = of-law (cut_of q s) (marked_law s (rw h tt))
-      by false h = rw (cut_plainly s h) (of-says (cut_at_terminator q s) (cut_says s))
+      by true h = of_law (cut_of q s) (marked_law s (rw h tt))
+      by false h = rw (cut_plainly s h) (of_says (cut_at_terminator q s) (cut_says s))
 
 -- the mark holds no terminator, so it stands before one or not at all
 module _ (q : Separators) (fit : Fitted q) where

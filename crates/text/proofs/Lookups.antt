@@ -61,8 +61,8 @@ module _ (q : Separators) (g : Bytes) where
 
   module _ (n : ℕ) where
     -- the components in order, with the component separators between them, are the element
-    pub components-make-element : joined q.component (in_order_of (part_in q g n) 1 (length (element_of (view_of q g) n))) ≡ part_in q g n 0
-    components-make-element =
+    pub components_make_element : joined q.component (in_order_of (part_in q g n) 1 (length (element_of (view_of q g) n))) ≡ part_in q g n 0
+    components_make_element =
         ap (joined q.component)
         (all_in_order (part_in q g n) 1 (element_of (view_of q g) n) (λ k. ap (part_in q g n) (omega arith) ∙ (lies_part q g n (suc k)).holds))
         ∙ components_joined q g n ∙ sym (lies_part q g n 0).holds
@@ -72,20 +72,20 @@ module _ (q : Separators) (g : Bytes) where
     long = ap length (components_joined q g n) ∙ sym (element_long q g n)
 
     -- the last of them is the first that ends where the element ends
-    pub last-component-ends : (k : ℕ) → suc k ≡ length (element_of (view_of q g) n) → end_of (part_span q g n (suc k)) ≡ end_of (part_span q g n 0)
+    pub last_component_ends : (k : ℕ) → suc k ≡ length (element_of (view_of q g) n) → end_of (part_span q g n (suc k)) ≡ end_of (part_span q g n 0)
     unfolding part_span
-    last-component-ends k e =
+    last_component_ends k e =
         omega (arith, last_end q.component (element_of (view_of q g) n) (element_span q.element g n).len k (omega arith) e long)
 
-    pub earlier-component-ends : (k : ℕ) → suc k < length (element_of (view_of q g) n) → end_of (part_span q g n (suc k)) < end_of (part_span q g n 0)
+    pub earlier_component_ends : (k : ℕ) → suc k < length (element_of (view_of q g) n) → end_of (part_span q g n (suc k)) < end_of (part_span q g n 0)
     unfolding part_span
-    earlier-component-ends k l = omega (arith, ends_before q.component (element_of (view_of q g) n) (element_span q.element g n).len k l long)
+    earlier_component_ends k l = omega (arith, ends_before q.component (element_of (view_of q g) n) (element_span q.element g n).len k l long)
 
     -- a component is one of what part 0 gives: in a segment that is cut, a piece of that, with its bytes
-    pub component-of-element : is_bin q.element g ≡ false → (k : ℕ)
+    pub component_of_element : is_bin q.element g ≡ false → (k : ℕ)
         → part_span q g n (suc k) ≡ span_within (part_span q g n 0) (piece_span q.component (part_in q g n 0) k)
     unfolding part_span
-    component-of-element h k =
+    component_of_element h k =
         let whole = element_span q.element g n in
         sym (span_pieced q g n (suc k) (omega arith) h)
         ∙ ap (λ (m : ℕ). span_within whole (piece_span q.component (part_of g whole) m)) (omega arith)
@@ -96,36 +96,36 @@ module _ (q : Separators) (g : Bytes) where
         ∙ ap (λ (x : Bytes). get_or (pieces q.component x) k []) (sym (lies_part q g n 0).holds)
 
     -- of a whole BIN all of it
-    pub component-of-bin : is_bin q.element g ≡ true → part_span q g n 1 ≡ part_span q g n 0
-    component-of-bin h =
+    pub component_of_bin : is_bin q.element g ≡ true → part_span q g n 1 ≡ part_span q g n 0
+    component_of_bin h =
         sym (span_only q g n 1 (omega arith) h) ∙ sym (only_whole (element_span q.element g n) 1 (omega arith)) ∙ span_whole q g n 0 refl
 
     -- it stands within the element
-    pub component-within : (k : ℕ) → Within (part_span q g n (suc k)) (part_span q g n 0)
+    pub component_within : (k : ℕ) → Within (part_span q g n (suc k)) (part_span q g n 0)
     unfolding part_span
-    component-within k = record { from = omega arith; to = omega (arith, (lies_component q g n k).inside, element_long q g n) }
+    component_within k = record { from = omega arith; to = omega (arith, (lies_component q g n k).inside, element_long q g n) }
 
     -- past the last component: the empty part at the element's end
-    pub past-components : (k : ℕ) → length (element_of (view_of q g) n) ≤ k
+    pub past_components : (k : ℕ) → length (element_of (view_of q g) n) ≤ k
         → part_span q g n (suc k) ≡ span (end_of (part_span q g n 0)) 0
     unfolding part_span
-    past-components k past = rw (le-ltb k (length (element_of (view_of q g) n)) past)
+    past_components k past = rw (le-ltb k (length (element_of (view_of q g) n)) past)
 
-    pub past-bin : is_bin q.element g ≡ true → (k : ℕ) → part_span q g n (suc (suc k)) ≡ span (end_of (part_span q g n 0)) 0
-    past-bin h k = past-components (suc k) (rw (only_component q g n h) (omega arith))
+    pub past_bin : is_bin q.element g ≡ true → (k : ℕ) → part_span q g n (suc (suc k)) ≡ span (end_of (part_span q g n 0)) 0
+    past_bin h k = past_components (suc k) (rw (only_component q g n h) (omega arith))
 
     -- past the last element: the empty part at the segment's end
     module _ (past : length (elements_of q.element g) ≤ n) where
-      past-whole : part_span q g n 0 ≡ span (length g) 0
+      past_whole : part_span q g n 0 ≡ span (length g) 0
       unfolding part_span element_span
-      past-whole = rw (le-ltb n (length (elements_of q.element g)) past)
+      past_whole = rw (le-ltb n (length (elements_of q.element g)) past)
 
-      pub past-elements : (part : ℕ) → part_span q g n part ≡ span (length g) 0
-      past-elements zero = past-whole
-      past-elements (suc k) =
-          let inside = component-within k in
-          let at = ap (λ (p : Span). p.start) past-whole in
-          let none = ap (λ (p : Span). p.len) past-whole in
+      pub past_elements : (part : ℕ) → part_span q g n part ≡ span (length g) 0
+      past_elements zero = past_whole
+      past_elements (suc k) =
+          let inside = component_within k in
+          let at = ap (λ (p : Span). p.start) past_whole in
+          let none = ap (λ (p : Span). p.len) past_whole in
           let start : (part_span q g n (suc k)).start ≡ length g = omega (arith, at, none, inside.from, inside.to) in
           let len : (part_span q g n (suc k)).len ≡ 0 = omega (arith, at, none, inside.from, inside.to) in
           (λ i. span (start i) (len i))

@@ -60,44 +60,44 @@ module _ {sep : ℕ} {s : Bytes} {k at : ℕ} (b : Begun sep s k at) where
       sym (span_there sep s k h ∙ rw (e, f))
 
   module _ {j : ℕ} (f : FirstAt s at sep j) where
-    rest-is : b.rest ≡ f.gap ++ sep ∷ f.rest
-    rest-is = sym left ∙ f.whole
+    rest_is : b.rest ≡ f.gap ++ sep ∷ f.rest
+    rest_is = sym left ∙ f.whole
 
-    cut-here : pieces sep s ≡ b.gone ++ (f.gap ∷ pieces sep f.rest)
-    cut-here =
-        all ∙ ap (λ (l : Bytes). b.gone ++ pieces sep l) rest-is
+    cut_here : pieces sep s ≡ b.gone ++ (f.gap ∷ pieces sep f.rest)
+    cut_here =
+        all ∙ ap (λ (l : Bytes). b.gone ++ pieces sep l) rest_is
         ∙ ap (λ (l : List Bytes). b.gone ++ l) (pieces_cut sep f.gap f.rest f.free)
 
     pub begun_more : Begun sep s (k + 1) (j + 1)
     begun_more = record {
       gone = b.gone ++ (f.gap ∷ []);
       rest = f.rest;
-      whole = b.whole ∙ rw (rest-is, closed_snoc sep b.gone f.gap, append_assoc, append_assoc);
+      whole = b.whole ∙ rw (rest_is, closed_snoc sep b.gone f.gap, append_assoc, append_assoc);
       clean = clean_snoc sep b.gone f.gap b.clean f.free;
       count = simp length-append (omega (arith, b.count));
       place = rw (closed_snoc sep b.gone f.gap) (simp length-append (omega (arith, b.place, f.place)));
     }
 
-    pub met-inside : j < length s
-    met-inside = omega (arith, simp length-append at (ap length f.whole), length-drop at s, f.place)
+    pub met_inside : j < length s
+    met_inside = omega (arith, simp length-append at (ap length f.whole), length-drop at s, f.place)
 
     -- the piece up to the next separator
-    pub span-cut : span at (j - at) ≡ piece_span sep s k
-    span-cut = ap (span at) (omega (arith, f.place)) ∙ here f.gap (pieces sep f.rest) cut-here
+    pub span_cut : span at (j - at) ≡ piece_span sep s k
+    span_cut = ap (span at) (omega (arith, f.place)) ∙ here f.gap (pieces sep f.rest) cut_here
 
   module _ (f : Free sep (drop at s)) where
-    last-here : pieces sep s ≡ b.gone ++ (drop at s ∷ [])
-    last-here =
+    last_here : pieces sep s ≡ b.gone ++ (drop at s ∷ [])
+    last_here =
         all ∙ ap (λ (l : Bytes). b.gone ++ pieces sep l) (sym left)
         ∙ ap (λ (l : List Bytes). b.gone ++ l) (pieces_free sep (drop at s) f)
 
     -- the last piece
     pub span_last : span at (length s - at) ≡ piece_span sep s k
-    span_last = ap (span at) (sym (length-drop at s)) ∙ here (drop at s) [] last-here
+    span_last = ap (span at) (sym (length-drop at s)) ∙ here (drop at s) [] last_here
 
     -- past the last
-    pub span-past : (n : ℕ) → k < n → span (length s) 0 ≡ piece_span sep s n
-    span-past n l = sym (span_beyond sep s n (rw last-here (simp length-append (omega (arith, b.count)))))
+    pub span_past : (n : ℕ) → k < n → span (length s) 0 ≡ piece_span sep s n
+    span_past n l = sym (span_beyond sep s n (rw last_here (simp length-append (omega (arith, b.count)))))
 
 -- a piece of the bytes with what stands around it
 record Spot (sep : ℕ) (ps : List Bytes) (n : ℕ) : Type 0 where

@@ -26,7 +26,7 @@ use Rattle.text.proofs.BinView.{bin_view, view_bin, view_plain, names_bin_lem, i
 use Rattle.text.proofs.Serving.{id_bytes_free, digit_id_byte}
 use Rattle.text.proofs.CountedCut.{counts_digits, counted_whole}
 use Rattle.text.proofs.DocumentCut.{cut_marked, cut_whole, mark_before}
-use Rattle.text.proofs.BinCut.{Plainly, cut-gives}
+use Rattle.text.proofs.BinCut.{Plainly, cut_gives}
 
 -- the pieces behind the tag are a count and what it counts, of one component each
 abbrev pub counts_pieces : Piece → Piece → Bool
@@ -107,8 +107,8 @@ two_pieces v w e l (inr h) = omega (arith, ap length e)
 module _ (q : Separators) (fit : Fitted q) where
   -- another view, written, does not begin like a BIN
   module _ (v : View) (formed : T (well_formed v)) (bare : T (unseparated q v)) (other : Other v) where
-    other-begins : (x : Bytes) → begins_bin q.element (written q v ++ q.terminator ∷ x) ≡ false
-    other-begins x =
+    other_begins : (x : Bytes) → begins_bin q.element (written q v ++ q.terminator ∷ x) ≡ false
+    other_begins x =
         fails (begins_bin q.element (written q v ++ q.terminator ∷ x))
         (λ h.
         let w = written q v in
@@ -120,13 +120,13 @@ module _ (q : Separators) (fit : Fitted q) where
         (rw (length-map (pieces q.element y) (pieces q.component)) (pieces_some q.element y)) other)
 
     other_cut : (x : Bytes) → cut_of q (written q v ++ q.terminator ∷ x) ≡ Whole (written q v) x
-    other_cut x = cut_whole q (written q v) x (other-begins x) (written_free q fit v bare)
+    other_cut x = cut_whole q (written q v) x (other_begins x) (written_free q fit v bare)
 
-    other-seen : view_of q (written q v) ≡ v
-    other-seen =
+    other_seen : view_of q (written q v) ≡ v
+    other_seen =
         view_plain q (written q v)
         (fails (is_bin q.element (written q v))
-        (λ h. subst (λ (b : Bool). T b) (sym (bin_begins q.element (written q v) (q.terminator ∷ []) h) ∙ other-begins []) tt))
+        (λ h. subst (λ (b : Bool). T b) (sym (bin_begins q.element (written q v) (q.terminator ∷ []) h) ∙ other_begins []) tt))
         ∙ plain_written q fit v formed bare
 
   -- a BIN, written, is cut by its count
@@ -147,20 +147,20 @@ module _ (q : Separators) (fit : Fitted q) where
 
   module _ (v : View) (w : Writable q v) where
     -- what is written is cut off whole, whatever follows,
-    pub writable-cut : (x : Bytes) → cut_of q (written q v ++ q.terminator ∷ x) ≡ Whole (written q v) x
-    writable-cut x = by (kinds v w.counted)
+    pub writable_cut : (x : Bytes) → cut_of q (written q v ++ q.terminator ∷ x) ≡ Whole (written q v) x
+    writable_cut x = by (kinds v w.counted)
       where
         by : OfBin v ⊎ Other v → cut_of q (written q v ++ q.terminator ∷ x) ≡ Whole (written q v) x
         by (inl b) = rw b.is (bin_cut b.count b.attached x b.counts)
         by (inr o) = other_cut v w.formed (rw (other_inspected v o) at w.bare) o x
 
     -- and seen again as it was
-    pub writable-seen : view_of q (written q v) ≡ v
-    writable-seen = by (kinds v w.counted)
+    pub writable_seen : view_of q (written q v) ≡ v
+    writable_seen = by (kinds v w.counted)
       where
         by : OfBin v ⊎ Other v → view_of q (written q v) ≡ v
         by (inl b) = rw b.is (bin_seen b.count b.attached b.counts)
-        by (inr o) = other-seen v w.formed (rw (other_inspected v o) at w.bare) o
+        by (inr o) = other_seen v w.formed (rw (other_inspected v o) at w.bare) o
 
   -- a segment that was cut can be written again
   bin_bare : (d p : Bytes) → Counts d p → T (unseparated q (inspected (bin_view d p)))
@@ -206,7 +206,7 @@ module _ (q : Separators) (fit : Fitted q) where
   plain_inspected g p = other_inspected (plain_view q g) (plain_other g p)
 
   pub cut_writable : (s g m : Bytes) → cut_of q s ≡ Whole g m → Writable q (view_of q g)
-  cut_writable s g m e = by (cut-gives q fit s g m e)
+  cut_writable s g m e = by (cut_gives q fit s g m e)
     where
       by : T (is_bin q.element g) ⊎ Plainly q g → Writable q (view_of q g)
       by (inl h) =

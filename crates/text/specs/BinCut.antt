@@ -25,7 +25,7 @@ module _ (q : Separators) where
   -- 3: the bytes end inside one
   pub record EndsInside (s : Bytes) (number element : ℕ) (upto more : Bytes) : Type 0 where
     pub number_is : number ≡ 3
-    pub element-is : element ≡ 0
+    pub element_is : element ≡ 0
     pub all : upto ≡ s
     pub none : more ≡ []
     pub inside : Inside s
@@ -39,7 +39,7 @@ module _ (q : Separators) where
     pub whole : s ≡ upto ++ more
     pub inside : Inside front
     pub broken : Beginning upto → ⊥
-    pub element-is : ((element ≡ 1) × (T (is_bin q.element front) → ⊥)) ⊎ ((element ≡ 2) × T (is_bin q.element front))
+    pub element_is : ((element ≡ 1) × (T (is_bin q.element front) → ⊥)) ⊎ ((element ≡ 2) × T (is_bin q.element front))
 
   abbrev pub CutOfBin : Bytes → Cut → Type 0
   CutOfBin s (Whole segment more) = T (is_bin q.element segment) × (s ≡ segment ++ q.terminator ∷ more)

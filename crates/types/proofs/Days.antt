@@ -61,20 +61,20 @@ module _ (s : Bytes) where
   time_digits e = rw e (sym (fails_behind (timely (length s)) _ _ _))
 
   module _ (t : timely (length s) ≡ true) (e : is_number s ≡ true) where
-    pub time-hour : 23 < figures 0 2 s → false ≡ is_time s
+    pub time_hour : 23 < figures 0 2 s → false ≡ is_time s
     unfolding is_time
-    time-hour l = rw (t, e, lt-leb (figures 0 2 s) 23 l)
+    time_hour l = rw (t, e, lt-leb (figures 0 2 s) 23 l)
 
     module _ (h : figures 0 2 s ≤ 23) where
-      pub time-minute : 59 < figures 2 2 s → false ≡ is_time s
+      pub time_minute : 59 < figures 2 2 s → false ≡ is_time s
       unfolding is_time
-      time-minute l = rw (t, e, le-leb (figures 0 2 s) 23 h, lt-leb (figures 2 2 s) 59 l)
+      time_minute l = rw (t, e, le-leb (figures 0 2 s) 23 h, lt-leb (figures 2 2 s) 59 l)
 
-      pub time-second : figures 2 2 s ≤ 59 → leb (figures 4 2 s) 59 ≡ is_time s
+      pub time_second : figures 2 2 s ≤ 59 → leb (figures 4 2 s) 59 ≡ is_time s
       unfolding is_time
-      time-second l = rw (t, e, le-leb (figures 0 2 s) 23 h, le-leb (figures 2 2 s) 59 l)
+      time_second l = rw (t, e, le-leb (figures 0 2 s) 23 h, le-leb (figures 2 2 s) 59 l)
 
-      pub time-short : figures 2 2 s ≤ 59 → length s ≡ 4 → true ≡ is_time s
-      time-short l f =
+      pub time_short : figures 2 2 s ≤ 59 → length s ≡ 4 → true ≡ is_time s
+      time_short l f =
           let none : drop 4 s ≡ [] = drop_of_length-le s {i = 4} (omega arith) in
-          rw none at (time-second l)
+          rw none at (time_second l)

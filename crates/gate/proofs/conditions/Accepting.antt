@@ -73,13 +73,13 @@ module _ (profile : Profile) (how : How) (t : Tables) (s : Bytes) where
       let x = r.ends in
       let v = view_of how.separators x.segment in
       let vs : seen how kept ≡ seen how r.gs ++ (v ∷ []) =
-      ap (seen how) x.kept-is ∙ map-append (λ (g : Placed). view_of how.separators g.segment) r.gs (record { at = r.end; segment = x.segment } ∷ []) in
+      ap (seen how) x.kept_is ∙ map-append (λ (g : Placed). view_of how.separators g.segment) r.gs (record { at = r.end; segment = x.segment } ∷ []) in
       record {
         end = r.end + length x.segment + 1 + skip_by how x.keeping.more;
         rest = drop (skip_by how x.keeping.more) x.keeping.more;
-        leads = rw x.kept-is
+        leads = rw x.kept_is
             (led_snoc 0 s r.gs r.end r.rest x.segment x.keeping.more r.passed.leads x.keeping.next);
-        meets = rw (vs, x.numbers-is)
+        meets = rw (vs, x.numbers_is)
             (passed_closed profile (seen how r.gs) r.rows v x.row (numbers r.passed) x.keeping.sound.kept x.keeping.sound.fits x.keeping.sound.admitted x.last);
         room = rw (vs, onto_append) x.room;
       }
@@ -126,8 +126,8 @@ module _ (profile : Profile) (how : How) (t : Tables) (s : Bytes) where
           };
           last = rw se.1 (eqb_refl (tag "SE"));
           room = r;
-          kept-is = refl;
-          numbers-is = refl;
+          kept_is = refl;
+          numbers_is = refl;
           counts = rw (used_snoc gs g);
         };
       }

@@ -23,7 +23,7 @@ use Rattle.text.proofs.BinView.{bin_view, view_bin}
 use Rattle.text.proofs.BinSpans.{bin_long}
 use Rattle.text.proofs.BinCut.{bin_whole}
 use Rattle.text.proofs.View.{fitted}
-use Rattle.text.proofs.CutLaws.{leads-front}
+use Rattle.text.proofs.CutLaws.{leads_front}
 use Rattle.text.proofs.DocumentCut.{cut_law}
 use Rattle.text.proofs.LineEnds.{skip_law}
 use Rattle.rows.specs.Rows.{list842}
@@ -41,7 +41,7 @@ use Rattle.gate.specs.declared.answer.Answer.{Answer}
 use Rattle.gate.specs.declared.how.How.{How}
 use Rattle.gate.proofs.reading.Once.{run_once}
 use Rattle.gate.proofs.reading.Reference.{Says, Fine, Bad, tested, says, Out, compute, computes}
-use Rattle.gate.proofs.reading.SideBySide.{history, put, Alike, history_put, history_length, extents_put, alike_self, alike-recorded, Same, running, refused_same, taken_same, behind_same}
+use Rattle.gate.proofs.reading.SideBySide.{history, put, Alike, history_put, history_length, extents_put, alike_self, alike_recorded, Same, running, refused_same, taken_same, behind_same}
 
 -- two whole BINs with the same count: they differ in their attached bytes at most
 pub record SameButAttached (e : ℕ) (g g' : Bytes) : Type 0 where
@@ -232,7 +232,7 @@ leads_still : (how : How) → Fitted how.separators → (front : Bytes) (gs : Li
     → Leads (cut_by how) (skip_by how) 0 (front ++ b ∷ y) gs end (b ∷ y) → Leads (cut_by how) (skip_by how) 0 (front ++ b ∷ z) gs end (b ∷ z)
 leads_still how fit front gs end b y z l =
     let q = how.separators in
-    let f = leads-front q.terminator (cut_by how) (skip_by how) (cut_law q fit) (skip_law q how.lines) 0 (front ++ b ∷ y) gs end b y l in
+    let f = leads_front q.terminator (cut_by how) (skip_by how) (cut_law q fit) (skip_law q how.lines) 0 (front ++ b ∷ y) gs end b y l in
     let n : length front ≡ length f.front = omega (arith, simp length-append at (ap length f.whole)) in
     subst (λ (u : Bytes). Leads (cut_by how) (skip_by how) 0 (u ++ b ∷ z) gs end (b ∷ z)) (sym (same_front front (b ∷ y) f.front (b ∷ y) f.whole n).0)
     (f.still b z (inl refl))
@@ -275,7 +275,7 @@ module _ (how : How) (front : Bytes) (gs : List Placed) (end : ℕ) (g g' rest :
         kept = o'.1;
         numbers = o'.2;
         run = subst (λ (a : Answer). Run profile how before (input g') a o'.1 o'.2) (sym (u.0 ∙ z.answer)) (computes profile how before (input g'));
-        tables = y.tables ∙ (λ i. recorded profile how before (u.1 i) ((u.2 ∙ z.rows) i)) ∙ alike-recorded how o.1 o'.1 z.kept profile before o'.2;
+        tables = y.tables ∙ (λ i. recorded profile how before (u.1 i) ((u.2 ∙ z.rows) i)) ∙ alike_recorded how o.1 o'.1 z.kept profile before o'.2;
       }
 
 -- the bytes that are attached in a BIN, which is a segment of the input, change neither the answer nor the tables

@@ -33,7 +33,7 @@ use Rattle.gate.proofs.continuing.AddedLevels.{levels_few}
 use Rattle.gate.proofs.reading.Reference.{compute, computes}
 use Rattle.gate.proofs.reading.Listing.{listed}
 use Rattle.gate.proofs.continuing.NotEarly.{fault_continues}
-use Rattle.gate.proofs.conditions.Finality.{refusal-begun, refusal-stands, acceptance_stands}
+use Rattle.gate.proofs.conditions.Finality.{refusal_begun, refusal_stands, acceptance_stands}
 
 -- with fit separators and a length within the limit the promise is that of a reading, and back
 module _ (how : How) (s : Bytes) (fit : T (fit_separators how.separators)) (short : length s ≤ limit) (before : Tables) (r : Answer) (after : Tables) where
@@ -88,7 +88,7 @@ pub refusal_final : (how : How) (s : Bytes) (before : Tables) (n k b e : ℕ) (a
 refusal_final how s before n k b e after f x more short u larger r' after' y =
     let p = fault_proper how s before n k b e after f x in
     only_answer how (up_to_segment how s b ++ more) u (Refused n k b e) p.read.kept p.read.numbers p.fit short
-    (refusal-stands (profile_of how) how (fitted how.separators p.fit) before u larger s n k b e p.read.kept p.read.numbers f p.read.run more) r' after' y
+    (refusal_stands (profile_of how) how (fitted how.separators p.fit) before u larger s n k b e p.read.kept p.read.numbers f p.read.run more) r' after' y
 
 -- an acceptance stands under more bytes within the limit and under more room
 pub acceptance_final : (how : How) (s : Bytes) (before : Tables) (a l b : ℕ) (after : Tables) → Reads how s before (Accepted a l b) after
@@ -103,7 +103,7 @@ pub refusal_begins : (how : How) (s : Bytes) (before : Tables) (n k b e : ℕ) (
     → BeginsWith (up_to_segment how s b) s
 refusal_begins how s before n k b e after f x =
     let p = fault_proper how s before n k b e after f x in
-    refusal-begun (profile_of how) how (fitted how.separators p.fit) before before (record { segments = omega arith; levels = omega arith }) s n k b e p.read.kept p.read.numbers f p.read.run
+    refusal_begun (profile_of how) how (fitted how.separators p.fit) before before (record { segments = omega arith; levels = omega arith }) s n k b e p.read.kept p.read.numbers f p.read.run
 
 -- a refusal comes no sooner than it must: the segments before the fault can be continued to a transaction that meets every rule
 pub refusal_not_early : (how : How) (s : Bytes) (before : Tables) (n k b e : ℕ) (after : Tables) → Fault n → Reads how s before (Refused n k b e) after
@@ -195,10 +195,10 @@ accepted_when : (how : How) (s : Bytes) (before : Tables) (r : Answer) (after : 
     → Reads how s before r after → IsAccepted r ↔ Numbered how s before
 accepted_when how s before (Accepted a l b) after fit short x = (λ _. accepted_numbered how s before a l b after x, λ _. tt)
 accepted_when how s before (Refused n k b e) after fit short x =
-    (λ refused. absurd refused, λ m. refused-accepted (meets_accepted how s before m.gs m.rows fit short m.numbering m.room (Refused n k b e) after x).answer)
+    (λ refused. absurd refused, λ m. refused_accepted (meets_accepted how s before m.gs m.rows fit short m.numbering m.room (Refused n k b e) after x).answer)
   where
-    refused-accepted : {a l c : ℕ} → Refused n k b e ≡ Accepted a l c → ⊥
-    refused-accepted p = let z : ◌≡◌ {A = ℕ} 0 1 = cc in omega arith
+    refused_accepted : {a l c : ℕ} → Refused n k b e ≡ Accepted a l c → ⊥
+    refused_accepted p = let z : ◌≡◌ {A = ℕ} 0 1 = cc in omega arith
 
 accepted_shown : (how : How) (s : Bytes) (before : Tables) (r : Answer) (after : Tables) → Reads how s before r after → IsAccepted r
     → (gs : List Placed) (rows : List ℕ) → Numbering how s gs rows → Shows how before gs rows r after

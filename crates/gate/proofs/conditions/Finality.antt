@@ -12,7 +12,7 @@ use Rattle.text.specs.Bytes.{Bytes}
 use Rattle.text.specs.Separators.{Fitted}
 use Rattle.text.specs.View.{View, view_of}
 use Rattle.text.specs.Cut.{Cut, Whole, Placed}
-use Rattle.text.proofs.CutLaws.{Faulty, CutLaw, Front, leads-front}
+use Rattle.text.proofs.CutLaws.{Faulty, CutLaw, Front, leads_front}
 use Rattle.text.proofs.DocumentCut.{cut_law}
 use Rattle.text.proofs.LineEnds.{skip_law}
 use Rattle.gate.specs.Answers.{Fault}
@@ -61,7 +61,7 @@ module _ (profile : Profile) (how : How) (fit : Fitted how.separators) (t u : Ta
   looked s gs rows end [] old p l = absurd (omega arith)
   looked s gs rows end (b ∷ x) old p l =
       let f =
-      leads-front how.separators.terminator (cut_by how) (skip_by how) (cut_law how.separators fit) (skip_law how.separators how.lines) 0 s gs end b
+      leads_front how.separators.terminator (cut_by how) (skip_by how) (cut_law how.separators fit) (skip_law how.separators how.lines) 0 s gs end b
       (x ++ old) p.leads in
       record {
         front = f.front;
@@ -83,8 +83,8 @@ module _ (profile : Profile) (how : How) (fit : Fitted how.separators) (t u : Ta
     pub x : Bytes
     pub old : Bytes
     pub some : 0 < length x
-    pub rest-is : rest ≡ x ++ old
-    pub looked-is : looked_at how (cut_by how (x ++ old)) ≡ x
+    pub rest_is : rest ≡ x ++ old
+    pub looked_is : looked_at how (cut_by how (x ++ old)) ≡ x
     pub still : (more : Bytes) → Fails profile how u gs rows end (x ++ more) n e
 
   rests : (gs : List Placed) (rows : List ℕ) (end : ℕ) (rest : Bytes) (n e : ℕ) → Fault n → Fails profile how t gs rows end rest n e
@@ -98,8 +98,8 @@ module _ (profile : Profile) (how : How) (fit : Fitted how.separators) (t u : Ta
         x = upto;
         old = old;
         some = y.some;
-        rest-is = y.whole;
-        looked-is = ap (looked_at how) (y.still old);
+        rest_is = y.whole;
+        looked_is = ap (looked_at how) (y.still old);
         still = λ more. inl (record { upto = upto; more = more; stops = y.still more });
       }
   rests gs rows end rest n e fault (inr (inl x)) =
@@ -111,8 +111,8 @@ module _ (profile : Profile) (how : How) (fit : Fitted how.separators) (t u : Ta
         x = g ++ end_mark ∷ [];
         old = x.more;
         some = rw (length-append g (end_mark ∷ [])) (omega arith);
-        rest-is = y.0 ∙ sym (append_assoc g (end_mark ∷ []) x.more);
-        looked-is = ap (looked_at how) (cut x.more);
+        rest_is = y.0 ∙ sym (append_assoc g (end_mark ∷ []) x.more);
+        looked_is = ap (looked_at how) (cut x.more);
         still = λ more. inr (inl (record { segment = g; more = more; next = cut more; first = x.first }));
       }
   rests gs rows end rest n e fault (inr (inr x)) = absurd (fault_room n fault x.number_is)
@@ -123,20 +123,20 @@ module _ (profile : Profile) (how : How) (fit : Fitted how.separators) (t u : Ta
     on = rests r.gs r.rows r.end r.rest n e fault (refused_fails profile how t r.gs r.rows r.end r.rest n k b e kept w r.ends)
 
     there : Looked s r.gs r.rows r.end on.x on.old
-    there = looked s r.gs r.rows r.end on.x on.old (rw on.rest-is at r.passed) on.some
+    there = looked s r.gs r.rows r.end on.x on.old (rw on.rest_is at r.passed) on.some
 
     front_is : up_to_segment how s b ≡ there.front ++ on.x
     front_is =
         upto_is s there.front on.x on.old b there.whole
-        (refused_byte profile how t r.gs r.rows r.end r.rest n k b e kept w r.ends ∙ there.place) on.looked-is
+        (refused_byte profile how t r.gs r.rows r.end r.rest n k b e kept w r.ends ∙ there.place) on.looked_is
 
     -- the bytes up to the end of its segment begin the input
-    pub refusal-begun : BeginsWith (up_to_segment how s b) s
-    refusal-begun = (on.old, there.whole ∙ rw (front_is, append_assoc))
+    pub refusal_begun : BeginsWith (up_to_segment how s b) s
+    refusal_begun = (on.old, there.whole ∙ rw (front_is, append_assoc))
 
     -- it stands whatever follows them
-    pub refusal-stands : (more : Bytes) → Run profile how u (up_to_segment how s b ++ more) (Refused n k b e) kept w
-    refusal-stands more =
+    pub refusal_stands : (more : Bytes) → Run profile how u (up_to_segment how s b ++ more) (Refused n k b e) kept w
+    refusal_stands more =
         rw (front_is, append_assoc)
         (record {
           gs = r.gs;
@@ -148,8 +148,8 @@ module _ (profile : Profile) (how : How) (fit : Fitted how.separators) (t u : Ta
             number = n;
             element = e;
             cause = on.still more;
-            kept-is = r.ends.kept-is;
-            numbers-is = r.ends.numbers-is;
+            kept_is = r.ends.kept_is;
+            numbers_is = r.ends.numbers_is;
             place = cc r.ends.place;
           };
         })
@@ -183,8 +183,8 @@ module _ (profile : Profile) (how : How) (fit : Fitted how.separators) (t u : Ta
           keeping = record { more = more; next = ap (cut_by how) (append_assoc g (end_mark ∷ []) more) ∙ y.1 more; sound = x.keeping.sound };
           last = x.last;
           room = room_larger profile t u (view_of how.separators g ∷ onto [] (seen how r.gs)) larger x.room;
-          kept-is = x.kept-is;
-          numbers-is = x.numbers-is;
+          kept_is = x.kept_is;
+          numbers_is = x.numbers_is;
           counts = x.counts;
         };
       })

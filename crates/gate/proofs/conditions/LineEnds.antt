@@ -70,16 +70,16 @@ module _ (q : Separators) where
       keeping = keeping_moved (profile_of (reading name q lines)) name q lines lines' before gs gs rows end end rest refl x.segment x.row x.keeping;
       last = x.last;
       room = room_moved (profile_of (reading name q lines)) name q lines lines' before gs gs rows end end rest refl x.segment x.room;
-      kept-is = x.kept-is;
-      numbers-is = x.numbers-is;
+      kept_is = x.kept_is;
+      numbers_is = x.numbers_is;
       counts = x.counts;
     }
     ends_same gs rows end rest (Refused n k b e) kept numbers x = record {
       number = x.number;
       element = x.element;
       cause = fails_moved (profile_of (reading name q lines)) name q lines lines' before gs gs rows end end rest refl x.number x.element x.cause;
-      kept-is = x.kept-is;
-      numbers-is = x.numbers-is;
+      kept_is = x.kept_is;
+      numbers_is = x.numbers_is;
       place = x.place;
     }
 

@@ -25,7 +25,7 @@ use Rattle.gate.specs.Reads.{Reads}
 use Rattle.gate.specs.declared.answer.Answer.TheVariants.{Refused}
 use Rattle.gate.proofs.reading.Laws.{as_rules_append}
 use Rattle.gate.proofs.reading.Moved.{reading}
-use Rattle.gate.proofs.reading.Blaming.{AllSay, either, first_says, list_says, early_says, ruled-says, rules_say, refusal-says}
+use Rattle.gate.proofs.reading.Blaming.{AllSay, either, first_says, list_says, early_says, ruled_says, rules_say, refusal_says}
 use Rattle.gate.proofs.continuing.AddedSegments.{levels}
 use Rattle.gate.proofs.conditions.ReplyLevels.{Bare, hl_bare, StandsAlone, kept_alone, alone_filled}
 
@@ -69,7 +69,7 @@ module _ (w : List ℕ) (h : List View) (v : View) (alone : Everyone StandsAlone
   late_says n e f =
       let hl = hl_checks profile h v in
       let se = se_checks profile h v in
-      first_says OfReply ruled (as_rules hl ++ as_rules se) n e (ruled-says OfReply (λ n e l u. below n e (omega arith)) (element_profile Reply) (tag_in_of v) v)
+      first_says OfReply ruled (as_rules hl ++ as_rules se) n e (ruled_says OfReply (λ n e l u. below n e (omega arith)) (element_profile Reply) (tag_in_of v) v)
       (λ k. first_says OfReply hl (as_rules se) n e (hl_says k) (λ j. list_says OfReply se n e se_says))
       (rw (as_rules_append (ruled ++ hl) se, as_rules_append ruled hl, append_assoc) at f)
 
@@ -86,7 +86,7 @@ pub reply_answers : (q : Separators) (lines : LineEnds) (s : Bytes) (before : Ta
     → Reads (reading Reply q lines) s before (Refused n k b e) after → OfReply n e
 reply_answers q lines s before n k b e after x =
     let how = reading Reply q lines in
-    refusal-says OfReply how s before (record {
+    refusal_says OfReply how s before (record {
       unfit = below 1 0 (omega arith);
       too_long = below 2 0 (omega arith);
       cut = λ n e c. ⊎_elim (λ z. below n e (omega (arith, z))) (λ z. below n e (omega (arith, z))) c;

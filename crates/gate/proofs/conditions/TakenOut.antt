@@ -134,8 +134,8 @@ module _ (profile : Profile) (name : ProfileName) (q : Separators) (before : Tab
       keeping = keeping_moved profile name q Skipped Strict before gs (closed_up 0 gs) rows end to rest (seen_closed name q 0 gs) x.segment x.row x.keeping;
       last = x.last;
       room = room_moved profile name q Skipped Strict before gs (closed_up 0 gs) rows end to rest (seen_closed name q 0 gs) x.segment x.room;
-      kept-is = ap (closed_up 0) x.kept-is ∙ closed_more q 0 end gs x.segment to (omega arith);
-      numbers-is = x.numbers-is;
+      kept_is = ap (closed_up 0) x.kept_is ∙ closed_more q 0 end gs x.segment to (omega arith);
+      numbers_is = x.numbers_is;
       counts =
           let c = x.counts in
           let n : segments ≡ length kept = cc in
@@ -150,8 +150,8 @@ module _ (profile : Profile) (name : ProfileName) (q : Separators) (before : Tab
       number = x.number;
       element = x.element;
       cause = fails_moved profile name q Skipped Strict before gs (closed_up 0 gs) rows end to rest (seen_closed name q 0 gs) x.number x.element x.cause;
-      kept-is = ap (closed_up 0) x.kept-is;
-      numbers-is = x.numbers-is;
+      kept_is = ap (closed_up 0) x.kept_is;
+      numbers_is = x.numbers_is;
       place =
           let c = x.place in
           let n : number ≡ x.number = cc in

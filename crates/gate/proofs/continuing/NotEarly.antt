@@ -19,10 +19,10 @@ use Rattle.text.proofs.Bools.{both, first_of, second_of}
 use Rattle.text.proofs.Lists.{map-append}
 use Rattle.text.proofs.Tables.{tab, tab_at}
 use Rattle.text.proofs.View.{fitted}
-use Rattle.text.proofs.CutLaws.{Faulty, CutLaw, Addable, AllAddable, ended, places, past, leads-front, leads-on}
+use Rattle.text.proofs.CutLaws.{Faulty, CutLaw, Addable, AllAddable, ended, places, past, leads_front, leads_on}
 use Rattle.text.proofs.DocumentCut.{cut_law}
 use Rattle.text.proofs.LineEnds.{skip_law}
-use Rattle.text.proofs.Writable.{writes, writes_writable, cut_writable, writable-cut, writable-seen}
+use Rattle.text.proofs.Writable.{writes, writes_writable, cut_writable, writable_cut, writable_seen}
 use Rattle.rows.specs.Tags.{tags, tag_number}
 use Rattle.rows.proofs.TagList.{tag_of_number}
 use Rattle.gate.specs.Answers.{Fault}
@@ -113,14 +113,14 @@ module _ (how : How) where
           tail = b.tail;
           is = b.is;
           capital = b.capital;
-          cut_is = writable-cut q fit v (writes_writable q v w);
+          cut_is = writable_cut q fit v (writes_writable q v w);
         }
 
-    all-added : (vs : List View) → T (every (writes q) vs) → T (every (λ (v : View). ltb (tag_in_of v) 34) vs) → AllAddableBy (map (written q) vs)
-    all-added [] w h = tt
-    all-added (v ∷ vs) w h = (
+    all_added : (vs : List View) → T (every (writes q) vs) → T (every (λ (v : View). ltb (tag_in_of v) 34) vs) → AllAddableBy (map (written q) vs)
+    all_added [] w h = tt
+    all_added (v ∷ vs) w h = (
       added v (first_of (writes q v) (every (writes q) vs) w) (ltb→lt (tag_in_of v) 34 (first_of (ltb (tag_in_of v) 34) (every (λ (v : View). ltb (tag_in_of v) 34) vs) h)),
-      all-added vs (second_of (writes q v) (every (writes q) vs) w) (second_of (ltb (tag_in_of v) 34) (every (λ (v : View). ltb (tag_in_of v) 34) vs) h),
+      all_added vs (second_of (writes q v) (every (writes q) vs) w) (second_of (ltb (tag_in_of v) 34) (every (λ (v : View). ltb (tag_in_of v) 34) vs) h),
     )
 
     -- they are seen again where they stand
@@ -130,7 +130,7 @@ module _ (how : How) where
     seen_placed : (at : ℕ) (vs : List View) → T (every (writes q) vs) → seen how (placed at (map (written q) vs)) ≡ vs
     seen_placed at [] w = refl
     seen_placed at (v ∷ vs) w =
-        let e = writable-seen q fit v (writes_writable q v (first_of (writes q v) (every (writes q) vs) w)) in
+        let e = writable_seen q fit v (writes_writable q v (first_of (writes q v) (every (writes q) vs) w)) in
         let i = seen_placed (at + length (written q v) + 1) vs (second_of (writes q v) (every (writes q) vs) w) in
         λ k. e k ∷ i k
 
@@ -145,11 +145,11 @@ module _ (how : How) where
       going : (vs : List View) → 0 < length vs → AllAddableBy (map (written q) vs) → Going vs
       going [] l a = absurd (omega arith)
       going (v ∷ vs) l a =
-          leads-on q.terminator (cut_by how) (skip_by how) (cut_law q fit) (skip_law q how.lines) 0 s gs end b y p.leads (written q v) (map (written q) vs) a
+          leads_on q.terminator (cut_by how) (skip_by how) (cut_law q fit) (skip_law q how.lines) 0 s gs end b y p.leads (written q v) (map (written q) vs) a
 
       goes_on : (k : ℕ) → length gs + 1 ≡ k → Continued how.profile q (seen how gs) rows → Continues how s k end
       goes_on k n c =
-          let a = all-added c.more c.writable c.tagged in
+          let a = all_added c.more c.writable c.tagged in
           let g = going c.more c.some a in
           let added = placed end (map (written q) c.more) in
           let all : seen how (gs ++ added) ≡ seen how gs ++ c.more =
@@ -170,16 +170,16 @@ module _ (how : How) where
           }
 
       -- so few segments stand in so few bytes
-      end-within : end ≤ length s
-      end-within =
-          let f = leads-front q.terminator (cut_by how) (skip_by how) (cut_law q fit) (skip_law q how.lines) 0 s gs end b y p.leads in
+      end_within : end ≤ length s
+      end_within =
+          let f = leads_front q.terminator (cut_by how) (skip_by how) (cut_law q fit) (skip_law q how.lines) 0 s gs end b y p.leads in
           omega (arith, f.end_is, ap length f.whole ∙ length-append f.front (b ∷ y))
 
       pub continues : (k : ℕ) → length gs + 1 ≡ k → Continues how s k end
       continues k n =
           goes_on k n
           (continued how.profile q fit (seen how gs) rows p.viable p.admitted p.tags p.kept p.ongoing (leads_bare 0 s gs end (b ∷ y) p.leads)
-          (rw (length-map gs (λ (g : Placed). view_of how.separators g.segment)) (omega (arith, leads_few 0 s gs end (b ∷ y) p.leads, end-within, short))))
+          (rw (length-map gs (λ (g : Placed). view_of how.separators g.segment)) (omega (arith, leads_few 0 s gs end (b ∷ y) p.leads, end_within, short))))
 
 -- a fault is found in bytes that there are
 first_byte : (u m : Bytes) → 0 < length u → (b : ℕ) × (y : Bytes) × (u ++ m ≡ b ∷ y)

@@ -66,12 +66,12 @@ module _ (P : ℕ → ℕ → Type 0) where
 
   -- 9, 8, 10 and 11 of a ruled segment
   module _ (p : (n e : ℕ) → 8 ≤ n → n ≤ 11 → P n e) where
-    notes-say : (ns : List Note) (v : View) → AllSay (note_checks ns (present_at v))
-    notes-say [] v = tt
-    notes-say (n ∷ ns) v = (inl (p 11 _ (omega arith) (omega arith)), notes-say ns v)
+    notes_say : (ns : List Note) (v : View) → AllSay (note_checks ns (present_at v))
+    notes_say [] v = tt
+    notes_say (n ∷ ns) v = (inl (p 11 _ (omega arith) (omega arith)), notes_say ns v)
 
-    by-say : (r : Rules) (unused : ℕ → Bool) (v : View) → AllSay (checks_by r unused v)
-    by-say r unused v =
+    by_say : (r : Rules) (unused : ℕ → Bool) (v : View) → AllSay (checks_by r unused v)
+    by_say r unused v =
         both (too_many_checks r unused v ++ missing_checks r v ++ unfit_checks r v) (note_checks r.notes (present_at v))
         (both (too_many_checks r unused v ++ missing_checks r v) (unfit_checks r v)
         (both (too_many_checks r unused v) (missing_checks r v)
@@ -80,19 +80,19 @@ module _ (P : ℕ → ℕ → Type 0) where
         (λ e. p 8 e (omega arith) (omega arith))))
         (all 10 1 (length r.elements) (λ (k : ℕ). not (present (element_of v k)) || fits_shape (rule_of r k).shape (element_of v k))
         (λ e. p 10 e (omega arith) (omega arith))))
-        (notes-say r.notes v)
+        (notes_say r.notes v)
 
-    among-say : (xs : List (ℕ × Rules)) (unused : ℕ → Bool) (tag : ℕ) (v : View) → AllSay (checks_among xs unused tag v)
-    among-say [] unused tag v = tt
-    among-say (x ∷ xs) unused tag v = by (eqb x.0 tag) (among-say xs unused tag v)
+    among_say : (xs : List (ℕ × Rules)) (unused : ℕ → Bool) (tag : ℕ) (v : View) → AllSay (checks_among xs unused tag v)
+    among_say [] unused tag v = tt
+    among_say (x ∷ xs) unused tag v = by (eqb x.0 tag) (among_say xs unused tag v)
       where
         by : (b : Bool) → AllSay (checks_among xs unused tag v) → AllSay (cond b (checks_by x.1 unused v) (checks_among xs unused tag v))
-        by true later = by-say x.1 unused v
+        by true later = by_say x.1 unused v
         by false later = later
 
-    pub ruled-says : (profile : ElementProfile) (tag : ℕ) (v : View) → AllSay (ruled_checks profile tag v)
+    pub ruled_says : (profile : ElementProfile) (tag : ℕ) (v : View) → AllSay (ruled_checks profile tag v)
     unfolding ruled_checks
-    ruled-says profile tag v = among-say profile.ruled (is_unused profile tag) tag v
+    ruled_says profile tag v = among_say profile.ruled (is_unused profile tag) tag v
 
   -- all rules of a segment, where the row's rules and those behind them do
   pub rules_say : (profile : Profile) (w : List ℕ) (h : List View) (v : View) (n e : ℕ) → AllSay (early v)
@@ -111,15 +111,15 @@ module _ (P : ℕ → ℕ → Type 0) where
     pub no_room : P 17 0
 
   module _ (how : How) (s : Bytes) (before : Tables) (p : Says how before s) (n k b e : ℕ) (after : Tables) where
-    read-says : Read (profile_of how) how s before (Refused n k b e) after → P n e
-    read-says x =
+    read_says : Read (profile_of how) how s before (Refused n k b e) after → P n e
+    read_says x =
         by (refused_fails (profile_of how) how before x.run.gs x.run.rows x.run.end x.run.rest n k b e x.kept x.numbers x.run.ends)
       where
         by : Fails (profile_of how) how before x.run.gs x.run.rows x.run.end x.run.rest n e → P n e
         by (inl f) =
             p.cut n e (subst (λ (c : Cut). Splits how.separators x.run.rest c) f.stops (cut_splits how.separators x.run.rest))
         by (inr (inl f)) = p.broken x.run.gs x.run.rows x.run.end x.run.rest f.segment n e x.run.passed f.first
-        by (inr (inr f)) = rw (f.number_is, f.element-is) p.no_room
+        by (inr (inr f)) = rw (f.number_is, f.element_is) p.no_room
 
     -- four numbers of an answer that names no segment
     bare : (m : ℕ) → P m 0 → ◌≡◌ {A = List ℕ} (n ∷ k ∷ b ∷ e ∷ []) (m ∷ 0 ∷ 0 ∷ 0 ∷ []) → P n e
@@ -127,12 +127,12 @@ module _ (P : ℕ → ℕ → Type 0) where
         let element = head-eq_of_cons-eq (tail-eq_of_cons-eq (tail-eq_of_cons-eq (tail-eq_of_cons-eq z))) in
         rw (head-eq_of_cons-eq z, element) q
 
-    pub refusal-says : Reads how s before (Refused n k b e) after → P n e
+    pub refusal_says : Reads how s before (Refused n k b e) after → P n e
     unfolding ReadsBy
-    refusal-says x = by (fit_separators how.separators) x
+    refusal_says x = by (fit_separators how.separators) x
       where
         within : (short : Bool) → ReadsWithin short (profile_of how) how s before (Refused n k b e) after → P n e
-        within true y = read-says y
+        within true y = read_says y
         within false y = bare 2 p.too_long y.answer
 
         by : (fit : Bool) → ReadsFit fit (profile_of how) how s before (Refused n k b e) after → P n e

@@ -23,7 +23,7 @@ use Rattle.gate.specs.Reads.{Reads}
 use Rattle.gate.specs.declared.answer.Answer.{Answer}
 use Rattle.gate.specs.declared.answer.Answer.TheVariants.{Accepted, Refused}
 use Rattle.gate.specs.declared.how.How.{How}
-use Rattle.gate.proofs.reading.Blaming.{AllSay, both, either, list_says, early_says, ruled-says, rules_say, refusal-says}
+use Rattle.gate.proofs.reading.Blaming.{AllSay, both, either, list_says, early_says, ruled_says, rules_say, refusal_says}
 
 -- what the list says of a refusal's number, whatever its element
 abbrev Numbered : ProfileName → ℕ → ℕ → Type 0
@@ -65,7 +65,7 @@ module _ (name : ProfileName) (w : List ℕ) (h : List View) (v : View) where
   late_says =
       both Tells (ruled_checks profile.elements (tag_in_of v) v ++ hl_checks profile h v) (se_checks profile h v)
       (both Tells (ruled_checks profile.elements (tag_in_of v) v) (hl_checks profile h v)
-      (ruled-says Tells (λ n e l u. tested name n e (omega arith) (omega arith)) profile.elements (tag_in_of v) v)
+      (ruled_says Tells (λ n e l u. tested name n e (omega arith) (omega arith)) profile.elements (tag_in_of v) v)
       (either Tells (is_hl v) (level_checks profile.levels (levels_in profile h) (claim_of v)) (λ is. (
         inl (tested name 12 1 (omega arith) (omega arith)),
         (
@@ -93,7 +93,7 @@ pub listed : (how : How) (s : Bytes) (before : Tables) (r : Answer) (after : Tab
 listed how s before (Accepted a l b) after x = tt
 listed how s before (Refused n k b e) after x =
     let name = how.profile in
-    refusal-says (Numbered name) how s before (record {
+    refusal_says (Numbered name) how s before (record {
       unfit = tested name 1 0 (omega arith) (omega arith);
       too_long = tested name 2 0 (omega arith) (omega arith);
       cut = λ n e c. ⊎_elim (λ z. tested name n e (omega (arith, z)) (omega (arith, z))) (λ z. tested name n e (omega (arith, z)) (omega (arith, z))) c;

@@ -76,5 +76,5 @@ module _ (profile : Profile) (name : ProfileName) (q : Separators) (lines lines'
         keeping = keeping_moved x.segment x.row x.keeping;
         no_room = λ r. x.no_room (room_back x.segment r);
         number_is = x.number_is;
-        element-is = x.element-is;
+        element_is = x.element_is;
       }))

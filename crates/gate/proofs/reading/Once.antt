@@ -72,7 +72,7 @@ module _ (profile : Profile) (how : How) (t : Tables) (gs : List Placed) (rows :
   fails_once n e n' e' (inr (inl x)) (inr (inr y)) = absurd (not_kept n e y.row y.segment y.keeping.more x y.keeping.next y.keeping.sound)
   fails_once n e n' e' (inr (inr x)) (inl y) = absurd (whole_no_stop (sym x.keeping.next ∙ y.stops))
   fails_once n e n' e' (inr (inr x)) (inr (inl y)) = absurd (not_kept n' e' x.row x.segment x.keeping.more y x.keeping.next x.keeping.sound)
-  fails_once n e n' e' (inr (inr x)) (inr (inr y)) = (x.number_is ∙ sym y.number_is, x.element-is ∙ sym y.element-is)
+  fails_once n e n' e' (inr (inr x)) (inr (inr y)) = (x.number_is ∙ sym y.number_is, x.element_is ∙ sym y.element_is)
 
   -- what is refused is not accepted
   not_both : (n e : ℕ) (k : List Placed) (w four : List ℕ) → Fails n e → Accepts profile how t gs rows end rest four k w → ⊥
@@ -84,12 +84,12 @@ module _ (profile : Profile) (how : How) (t : Tables) (gs : List Placed) (rows :
       → Accepts profile how t gs rows end rest four' k' w' → (four ≡ four') × (k ≡ k') × (w ≡ w')
   accepts_once four four' k k' w w' x y =
       let g = next_once x.keeping.next y.keeping.next in
-      let k-once : k ≡ k' = cc (g, x.kept-is, y.kept-is) in
+      let k-once : k ≡ k' = cc (g, x.kept_is, y.kept_is) in
       let row-once : x.row ≡ y.row =
       fits_once rows (tag_in_of (view_of how.separators y.segment)) x.row y.row (rw g at x.keeping.sound.fits) y.keeping.sound.fits in (
         cc (k-once, g, x.counts, y.counts),
         k-once,
-        cc (row-once, x.numbers-is, y.numbers-is),
+        cc (row-once, x.numbers_is, y.numbers_is),
       )
 
   -- the numbers of a refusal
@@ -115,7 +115,7 @@ module _ (profile : Profile) (how : How) (t : Tables) (gs : List Placed) (rows :
   ends_once (Refused n s b e) (Accepted s' l' b') k k' w w' x y = absurd (not_both x.number x.element k' w' (0 ∷ s' ∷ l' ∷ b' ∷ []) x.cause y)
   ends_once (Refused n s b e) (Refused n' s' b' e') k k' w w' x y =
       let f = fails_once x.number x.element y.number y.element x.cause y.cause in
-      (cc (f.0, f.1, x.place, y.place), x.kept-is ∙ sym y.kept-is, x.numbers-is ∙ sym y.numbers-is)
+      (cc (f.0, f.1, x.place, y.place), x.kept_is ∙ sym y.kept_is, x.numbers_is ∙ sym y.numbers_is)
 
   -- whatever the answer, the next segment is not passed
   stuck : (r : Answer) (k : List Placed) (w : List ℕ) (g m : Bytes) (row : ℕ) → Ends profile how t gs rows end rest r k w → cut_by how rest ≡ Whole g m

@@ -121,25 +121,25 @@ module _ (profile : Profile) (w : List ℕ) (v : View) where
 
   module _ (h : List View) (p : Viable list842 w) where
     -- the row is of the profile, or 24 is broken
-    by-profile : (r : ℕ) → OneFits w (tag_in_of v) r → Fits w (tag_in_of v) r → (b : Bool) → profile.rows r ≡ b
+    by_profile : (r : ℕ) → OneFits w (tag_in_of v) r → Fits w (tag_in_of v) r → (b : Bool) → profile.rows r ≡ b
         → Right (row_rules profile w v ++ as_rules (late profile h v)) (elim b [ true ↦ tested (late profile h v) (Fine r) | false ↦ Bad 24 0 ])
-    by-profile r s f true e =
+    by_profile r s f true e =
         let seven : Rule = record { number = 7; element = 0; Holds = (r : ℕ) × Fits w (tag_in_of v) r } in
         let last : Rule = record { number = 24; element = 0; Holds = (r : ℕ) × Fits w (tag_in_of v) r × Admitted profile r } in
         let rest = as_rules (late profile h v) in
         let d = tested (late profile h v) (Fine r) in
         right_more seven (last ∷ rest) d (r, f)
         (right_more last rest d (r, f, rw e tt) (rw append-nil at (tested_right (late profile h v) [] (Fine r) (λ _. (tt, f)))))
-    by-profile r s f false e =
+    by_profile r s f false e =
         inr ((r, f), inl ((λ x. let z = (s.alone x.0 x.1).0 in subst T (ap profile.rows z ∙ e) x.2), refl, refl))
 
     by_row : (x : ℕ) → OneFits w (tag_in_of v) x → Right (row_rules profile w v ++ as_rules (late profile h v)) (by_row_of profile x (tested (late profile h v) (Fine x)))
     by_row zero s = inl ((λ r. (s.alone r.0 r.1).1 refl), refl, refl)
-    by_row (suc r) s = by-profile (suc r) s (s.fits (λ e. omega (arith, e))) (profile.rows (suc r)) refl
+    by_row (suc r) s = by_profile (suc r) s (s.fits (λ e. omega (arith, e))) (profile.rows (suc r)) refl
 
-    pub says-right : Right (rules profile w h v) (says profile w h v)
+    pub says_right : Right (rules profile w h v) (says profile w h v)
     unfolding says tag_checks
-    says-right = rw append_assoc (tested_right (early v) (row_rules profile w v ++ as_rules (late profile h v)) _ (λ k.
+    says_right = rw append_assoc (tested_right (early v) (row_rules profile w v ++ as_rules (late profile h v)) _ (λ k.
         let tag_known = (keeps_split (byte_checks v) (tag_checks v) (keeps_split (byte_checks v ++ tag_checks v) (end_checks v) k).0).1.0 in
         by_row (step_of (last_of 0 w) (twice 0 false w) (tag_in_of v)) (step_fits w p (tag_in_of v) (ltb→lt (tag_in_of v) 34 tag_known))))
 
@@ -167,7 +167,7 @@ module _ (profile : Profile) (how : How) (t : Tables) (s : Bytes) where
     end = end;
     rest = rest;
     passed = p;
-    ends = record { number = n; element = e; cause = f; kept-is = refl; numbers-is = refl; place = refl };
+    ends = record { number = n; element = e; cause = f; kept_is = refl; numbers_is = refl; place = refl };
   }
 
   -- the answer at a whole segment
@@ -210,7 +210,7 @@ module _ (profile : Profile) (how : How) (t : Tables) (s : Bytes) where
           keeping = record { more = more; next = next; sound = holds_sound profile w h v r j.1 j.0 };
           no_room = λ x. rw y at (so_room profile t (v ∷ h) x);
           number_is = refl;
-          element-is = refl;
+          element_is = refl;
         })))
     chosen (Fine r) true true o j y z f = record {
       gs = gs;
@@ -224,8 +224,8 @@ module _ (profile : Profile) (how : How) (t : Tables) (s : Bytes) where
         keeping = record { more = more; next = next; sound = holds_sound profile w h v r j.1 j.0 };
         last = rw z tt;
         room = room_so profile t (v ∷ h) (rw y tt);
-        kept-is = refl;
-        numbers-is = refl;
+        kept_is = refl;
+        numbers_is = refl;
         counts = refl;
       };
     }
@@ -247,7 +247,7 @@ module _ (profile : Profile) (how : How) (t : Tables) (s : Bytes) where
       subst (λ (c : Cut). Splits how.separators rest c) next (cut_splits how.separators rest) in
       let shorter : length (drop (skip_by how more) more) < fuel =
       rw length-drop (omega (arith, ap length k ∙ length-append g (how.separators.terminator ∷ more))) in
-      chosen gs w end rest g more p next (says profile w hs vw) (has_room_of profile (segment_room_of t) (level_room_of t) (vw ∷ hs)) (is_se vw) _ (says-right profile w vw hs p.viable) refl refl
+      chosen gs w end rest g more p next (says profile w hs vw) (has_room_of profile (segment_room_of t) (level_room_of t) (vw ∷ hs)) (is_se vw) _ (says_right profile w vw hs p.viable) refl refl
       (λ r e q.
       goes gm (w ++ (row_said (says profile w hs vw) ∷ [])) (vw ∷ hs) (end + length g + 1 + skip_by how more) (drop (skip_by how more) more)
       (rw (seen_more gs w end rest g more p next, onto_append)) (rw e q) shorter)

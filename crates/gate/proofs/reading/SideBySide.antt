@@ -96,38 +96,38 @@ module _ (how : How) where
   alike_self gs = record { extents = refl; levels = refl; first = refl }
 
   module _ (gs gs' : List Placed) (a : Alike how gs gs') where
-    alike-length : length gs ≡ length gs'
-    alike-length = sym (length-map gs (extent how)) ∙ ap length a.extents ∙ length-map gs' (extent how)
+    alike_length : length gs ≡ length gs'
+    alike_length = sym (length-map gs (extent how)) ∙ ap length a.extents ∙ length-map gs' (extent how)
 
-    alike-history : length (history how gs) ≡ length (history how gs')
-    alike-history = history_length gs ∙ alike-length ∙ sym (history_length gs')
+    alike_history : length (history how gs) ≡ length (history how gs')
+    alike_history = history_length gs ∙ alike_length ∙ sym (history_length gs')
 
-    alike-levels : (profile : Profile) → levels_in profile (history how gs) ≡ levels_in profile (history how gs')
+    alike_levels : (profile : Profile) → levels_in profile (history how gs) ≡ levels_in profile (history how gs')
     unfolding levels_in
-    alike-levels profile = rw a.levels
+    alike_levels profile = rw a.levels
 
-    alike-room : (profile : Profile) (m n : ℕ) → has_room_of profile m n (history how gs) ≡ has_room_of profile m n (history how gs')
-    alike-room profile m n = rw (alike-history, alike-levels profile)
+    alike_room : (profile : Profile) (m n : ℕ) → has_room_of profile m n (history how gs) ≡ has_room_of profile m n (history how gs')
+    alike_room profile m n = rw (alike_history, alike_levels profile)
 
     -- they have the same records
-    pub alike-recorded : (profile : Profile) (t : Tables) (rows : List ℕ) → recorded profile how t gs rows ≡ recorded profile how t gs' rows
-    alike-recorded profile t rows = rw (records_extents how [] gs rows, records_extents how [] gs' rows, a.extents, alike-levels profile)
+    pub alike_recorded : (profile : Profile) (t : Tables) (rows : List ℕ) → recorded profile how t gs rows ≡ recorded profile how t gs' rows
+    alike_recorded profile t rows = rw (records_extents how [] gs rows, records_extents how [] gs' rows, a.extents, alike_levels profile)
 
     -- the same is said of the next segment
-    alike-late : (profile : Profile) (v : View) → late profile (history how gs) v ≡ late profile (history how gs') v
+    alike_late : (profile : Profile) (v : View) → late profile (history how gs) v ≡ late profile (history how gs') v
     unfolding hl_checks se_checks
-    alike-late profile v = rw (alike-levels profile, alike-history, a.first)
+    alike_late profile v = rw (alike_levels profile, alike_history, a.first)
 
-    alike-says : (profile : Profile) (w : List ℕ) (v : View) → says profile w (history how gs) v ≡ says profile w (history how gs') v
+    alike_says : (profile : Profile) (w : List ℕ) (v : View) → says profile w (history how gs) v ≡ says profile w (history how gs') v
     unfolding says
-    alike-says profile w v = rw (alike-late profile v)
+    alike_says profile w v = rw (alike_late profile v)
 
     -- and with it they look alike
-    alike-put : (at : ℕ) (g : Bytes) → Alike how (put gs at g) (put gs' at g)
-    alike-put at g = record {
+    alike_put : (at : ℕ) (g : Bytes) → Alike how (put gs at g) (put gs' at g)
+    alike_put at g = record {
       extents = extents_put gs gs' at g g a.extents refl refl;
-      levels = rw (history_put gs at g, history_put gs' at g, alike-history, a.levels);
-      first = rw (history_put gs at g, history_put gs' at g) (opening_same (view g) (history how gs) (history how gs') alike-history a.first);
+      levels = rw (history_put gs at g, history_put gs' at g, alike_history, a.levels);
+      first = rw (history_put gs at g, history_put gs' at g) (opening_same (view g) (history how gs) (history how gs') alike_history a.first);
     }
 
 -- two outcomes that look alike
@@ -152,7 +152,7 @@ module _ (profile : Profile) (how : How) (segments levels : ℕ) where
   -- a refusal behind lists that look alike
   pub refused_same : (gs gs' : List Placed) (w : List ℕ) (at n e : ℕ) → Alike how gs gs'
       → Same how (refuse profile how segments levels gs w at n e) (refuse profile how segments levels gs' w at n e)
-  refused_same gs gs' w at n e a = record { answer = rw (alike-length how gs gs' a); kept = a; rows = refl }
+  refused_same gs gs' w at n e a = record { answer = rw (alike_length how gs gs' a); kept = a; rows = refl }
 
   -- the answer at segments of which the same is said
   chosen_same : (gs gs' : List Placed) (w : List ℕ) (at : ℕ) (g g' : Bytes) (d : Says) (room room' last : Bool) (o o' : Out) → Alike how gs gs'
@@ -166,7 +166,7 @@ module _ (profile : Profile) (how : How) (segments levels : ℕ) where
       by false last b s = refused_same gs gs' w at 17 0 a
       by true false b s = s
       by true true b s = record {
-        answer = rw (alike-length how (put gs at g) (put gs' at g') b, alike-levels how (put gs at g) (put gs' at g') b profile, l);
+        answer = rw (alike_length how (put gs at g) (put gs' at g') b, alike_levels how (put gs at g) (put gs' at g') b profile, l);
         kept = b;
         rows = refl;
       }
@@ -188,7 +188,7 @@ module _ (profile : Profile) (how : How) (segments levels : ℕ) where
       let h = history_put how gs at g in
       let h' = history_put how gs' at g' in
       let room : Alike how (put gs at g) (put gs' at g') → roomy gs g ≡ roomy gs' g' =
-      λ b. ap (has_room_of profile segments levels) (sym h) ∙ alike-room how (put gs at g) (put gs' at g') b profile segments levels ∙ ap (has_room_of profile segments levels) h' in
+      λ b. ap (has_room_of profile segments levels) (sym h) ∙ alike_room how (put gs at g) (put gs' at g') b profile segments levels ∙ ap (has_room_of profile segments levels) h' in
       rw (d, last)
       (chosen_same gs gs' w at g g' (saying gs' w g') (roomy gs g) (roomy gs' g') (is_se (view_of how.separators g')) _ _ a l
       (λ r e. (room (alike r e), alike r e, rw (h, h') at (on (row_said (saying gs' w g')) (alike r e)))))
@@ -208,8 +208,8 @@ module _ (profile : Profile) (how : How) (segments levels : ℕ) where
       by (Whole g more) =
           let next = at + length g + 1 + skip_by how more in
           let rest = drop (skip_by how more) more in
-          taken_same fuel gs gs' w at g g next next rest rest a refl (alike-says how gs gs' a profile w (view_of how.separators g)) refl
-          (λ r e. alike-put how gs gs' a at g) (λ r b. on (put gs at g) (put gs' at g) (w ++ (r ∷ [])) next rest b)
+          taken_same fuel gs gs' w at g g next next rest rest a refl (alike_says how gs gs' a profile w (view_of how.separators g)) refl
+          (λ r e. alike_put how gs gs' a at g) (λ r b. on (put gs at g) (put gs' at g) (w ++ (r ∷ [])) next rest b)
 
   pub behind_same : (fuel : ℕ) → Behind fuel
   behind_same zero gs gs' w at s a = refused_same gs gs' w at 3 0 a

@@ -22,7 +22,7 @@ use Rattle.gate.specs.Profile.{Profile}
 use Rattle.gate.specs.Segments.{is_hl, onto, add_claim, claims, levels_in}
 use Rattle.gate.specs.Rules.{hl_checks, From}
 use Rattle.gate.specs.Meets.{put_if, hls, hl_at, LevelsMeet}
-use Rattle.gate.proofs.whole.OneLevel.{Tells, Distinct, Stands, one_place, parent_named, named_parent, keeps-stands, stands-keeps}
+use Rattle.gate.proofs.whole.OneLevel.{Tells, Distinct, Stands, one_place, parent_named, named_parent, keeps_stands, stands_keeps}
 use Rattle.levels.proofs.CalledLevel.{levels_length}
 
 -- level j is a child of level i
@@ -41,14 +41,14 @@ module _ (profile : LevelProfile) (cs : List Claim) where
       by_cases (dec_lt j (length ks)) (λ l. kept_stand ks t.1 a.1 j l)
       (λ n.
       let here : length ks ≡ j = omega arith in
-      rw here at (keeps-stands profile cs ks t.1 (rw t.0 at a.0)))
+      rw here at (keeps_stands profile cs ks t.1 (rw t.0 at a.0)))
 
   -- and back
   stand_kept : (ks : List (ℕ × Claim)) → Tells cs ks → ((j : ℕ) → j < length ks → Stands profile cs j) → AllKept profile ks
   stand_kept [] t s = tt
   stand_kept (k ∷ ks) t s =
       let before : (j : ℕ) → j < length ks → Stands profile cs j = λ j h. s j (omega arith) in
-      (rw t.0 (stands-keeps profile cs ks t.1 (λ i j l h. (before j h).new i l) (s (length ks) (omega arith))), stand_kept ks t.1 before)
+      (rw t.0 (stands_keeps profile cs ks t.1 (λ i j l h. (before j h).new i l) (s (length ks) (omega arith))), stand_kept ks t.1 before)
 
   -- the parent of level l is level number i + 1
   abbrev under_it : ℕ → Level → Bool
@@ -128,9 +128,9 @@ module _ (profile : LevelProfile) (cs : List Claim) where
   -- all HL segments, latest first
   module _ (ks : List (ℕ × Claim)) (t : Tells cs ks) (long : length ks ≡ length cs) where
     -- where each keeps its tests after those before it, and the marks are filled, they meet the rules over all
-    pub levels-meet : AllKept profile ks → T (filled (levels ks)) → LevelsMeet profile cs
+    pub levels_meet : AllKept profile ks → T (filled (levels ks)) → LevelsMeet profile cs
     unfolding filled
-    levels-meet a f =
+    levels_meet a f =
         let stand : (j : ℕ) → j < length cs → Stands profile cs j = λ j h. kept_stand ks t a j (omega arith) in
         record {
           distinct = λ i j l h. (stand j h).new i l;
@@ -144,13 +144,13 @@ module _ (profile : LevelProfile) (cs : List Claim) where
         }
 
     -- and back
-    pub meet-kept : LevelsMeet profile cs → AllKept profile ks
-    meet-kept m = stand_kept ks t (λ j h. meet_stand m j (omega arith))
+    pub meet_kept : LevelsMeet profile cs → AllKept profile ks
+    meet_kept m = stand_kept ks t (λ j h. meet_stand m j (omega arith))
 
     -- and the marks are filled
-    pub meet-filled : LevelsMeet profile cs → T (filled (levels ks))
+    pub meet_filled : LevelsMeet profile cs → T (filled (levels ks))
     unfolding filled
-    meet-filled m =
+    meet_filled m =
         marks_filled (levels ks) ks t (λ i h e.
         let c = m.filled i (omega arith) e in
         let later = later_child m i c.0 (omega arith) c.1 (c.2, c.3) in

@@ -19,7 +19,7 @@ use Rattle.gate.specs.Segments.{tag_in_of, onto, claims, levels_in, opening}
 use Rattle.gate.specs.Rules.{closing_checks, Kept, From}
 use Rattle.gate.specs.Meets.{Each, hls, first_of, last_from, Meets}
 use Rattle.gate.proofs.reading.Laws.{MeetsFrom}
-use Rattle.gate.proofs.whole.AllLevels.{divided, levels-meet, meet-kept, meet-filled, Leveled, from_kept, kept_from}
+use Rattle.gate.proofs.whole.AllLevels.{divided, levels_meet, meet_kept, meet_filled, Leveled, from_kept, kept_from}
 use Rattle.gate.proofs.whole.Closing.{Closes, word_closes, before, before_count, before_first, before_claims, Closed, from_closing, closing_from}
 
 -- there are as many claims as HL segments
@@ -80,33 +80,33 @@ module _ (profile : Profile) where
     counted = value_of (text_of (element_of (last_from [] vs) 1))
 
     -- the control number of an ST or an SE
-    abbrev controlOf : View → Bytes
-    controlOf v = text_of (element_of v 2)
+    abbrev control_of : View → Bytes
+    control_of v = text_of (element_of v 2)
 
     -- the tests of the last segment after those before it say them
-    keeps-ends : Keeps (closing_checks profile (before [] vs) (last_from [] vs)) → ClosesWell vs
+    keeps_ends : Keeps (closing_checks profile (before [] vs) (last_from [] vs)) → ClosesWell vs
     unfolding levels_in
-    keeps-ends (count, (control, (marks, _))) = record {
+    keeps_ends (count, (control, (marks, _))) = record {
       count = eqb→eq counted (suc (length (before [] vs))) count ∙ before_count vs long;
-      control = same_equal (controlOf (last_from [] vs)) (controlOf (opening (before [] vs))) control ∙ ap controlOf (before_first vs long);
+      control = same_equal (control_of (last_from [] vs)) (control_of (opening (before [] vs))) control ∙ ap control_of (before_first vs long);
       marks = rw (before_claims [] vs c) at marks;
     }
 
     -- and back
-    ends-keeps : ClosesWell vs → Keeps (closing_checks profile (before [] vs) (last_from [] vs))
+    ends_keeps : ClosesWell vs → Keeps (closing_checks profile (before [] vs) (last_from [] vs))
     unfolding levels_in
-    ends-keeps e =
+    ends_keeps e =
         let count = equal_eqb counted (suc (length (before [] vs))) (e.count ∙ sym (before_count vs long)) in
-        let first = ap controlOf (before_first vs long) in
-        let control = equal_same (controlOf (last_from [] vs)) (controlOf (opening (before [] vs))) (e.control ∙ sym first) in
+        let first = ap control_of (before_first vs long) in
+        let control = equal_same (control_of (last_from [] vs)) (control_of (opening (before [] vs))) (e.control ∙ sym first) in
         (count, (control, (rw (before_claims [] vs c) e.marks, tt)))
 
   -- a transaction that meets every rule at once keeps them segment by segment
   pub meets_from : (vs : List View) (rows : List ℕ) → Meets profile vs rows → MeetsFrom profile vs rows
   meets_from vs rows m =
       let closes = word_closes vs rows m.word.word m.tags in
-      let kept = meet-kept profile.levels (hls vs) (claims (onto [] vs)) (divided vs).tells (claims_count vs) m.levels in
-      let marks = meet-filled profile.levels (hls vs) (claims (onto [] vs)) (divided vs).tells (claims_count vs) m.levels in
+      let kept = meet_kept profile.levels (hls vs) (claims (onto [] vs)) (divided vs).tells (claims_count vs) m.levels in
+      let marks = meet_filled profile.levels (hls vs) (claims (onto [] vs)) (divided vs).tells (claims_count vs) m.levels in
       let ends : ClosesWell vs = record { count = m.count; control = m.control; marks = marks } in
       record {
         word = m.word.word;
@@ -117,7 +117,7 @@ module _ (profile : Profile) where
           ends = m.ends;
           elements = m.elements;
           level = (kept_from profile [] vs kept).1;
-          closing = closing_from profile [] vs closes.0 (ends-keeps vs closes.0 closes.1 ends);
+          closing = closing_from profile [] vs closes.0 (ends_keeps vs closes.0 closes.1 ends);
         });
       }
 
@@ -126,7 +126,7 @@ module _ (profile : Profile) where
   from_meets vs rows m =
       let closes = word_closes vs rows m.word m.tags in
       let parts = kept_parts [] vs m.kept in
-      let ends = keeps-ends vs closes.0 closes.1 (from_closing profile [] vs closes.0 parts.closing) in
+      let ends = keeps_ends vs closes.0 closes.1 (from_closing profile [] vs closes.0 parts.closing) in
       record {
         word = record { word = m.word; admitted = m.admitted };
         tags = m.tags;
@@ -134,7 +134,7 @@ module _ (profile : Profile) where
         ends = parts.ends;
         elements = parts.elements;
         levels =
-            levels-meet profile.levels (hls vs) (claims (onto [] vs)) (divided vs).tells (claims_count vs)
+            levels_meet profile.levels (hls vs) (claims (onto [] vs)) (divided vs).tells (claims_count vs)
             (from_kept profile [] vs tt parts.level) ends.marks;
         count = ends.count;
         control = ends.control;

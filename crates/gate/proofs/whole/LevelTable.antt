@@ -21,7 +21,7 @@ use Rattle.gate.specs.Segments.{onto, claims, levels_in}
 use Rattle.gate.specs.Meets.{hls, hl_at, Meets}
 use Rattle.gate.specs.Conditions.{LevelShown}
 use Rattle.gate.proofs.whole.OneLevel.{Tells, Distinct, named_parent}
-use Rattle.gate.proofs.whole.AllLevels.{divided, meet-kept}
+use Rattle.gate.proofs.whole.AllLevels.{divided, meet_kept}
 use Rattle.gate.proofs.whole.AllRules.{claims_count}
 
 -- the claims ks, latest first, are the first HL segments of cs; `before` are those before HL number j
@@ -68,7 +68,7 @@ level_shown name vs rows m j h =
     let b = before_of profile cs ks (divided vs).tells j (omega (arith, count)) in
     record {
       shallow = level_everyone (λ (l : Level). l.depth ≤ 4) (omega arith) (suc j) (levels_of profile ks)
-          (shallow-all (levels_of profile ks) (depth_at_most_4 name ks (meet-kept profile cs ks (divided vs).tells count m.levels)));
+          (shallow_all (levels_of profile ks) (depth_at_most_4 name ks (meet_kept profile cs ks (divided vs).tells count m.levels)));
       root = λ e. b.parent_is ∙ rw e;
       child = λ p.
           let u = m.levels.parented j h p in
@@ -79,6 +79,6 @@ level_shown name vs rows m j h =
           );
     }
   where
-    shallow-all : (ls : List Level) → Everyone Within4 ls → Everyone (λ (l : Level). l.depth ≤ 4) ls
-    shallow-all [] a = tt
-    shallow-all (l ∷ ls) a = (a.0.1, shallow-all ls a.1)
+    shallow_all : (ls : List Level) → Everyone Within4 ls → Everyone (λ (l : Level). l.depth ≤ 4) ls
+    shallow_all [] a = tt
+    shallow_all (l ∷ ls) a = (a.0.1, shallow_all ls a.1)

@@ -177,8 +177,8 @@ module _ (profile : LevelProfile) (cs : List Claim) where
     shut = same parent.mark (bytes "0")
 
     -- the tests of its parent say that it hangs under an HL before
-    tests-under : (this.parent ≡ [] → ⊥) → Passes profile (levels ks) this → (i : ℕ) × Under profile cs i (length ks)
-    tests-under present p =
+    tests_under : (this.parent ≡ [] → ⊥) → Passes profile (levels ks) this → (i : ℕ) × Under profile cs i (length ks)
+    tests_under present p =
         let n : T orphan → ⊥ = λ x. present (none_nil this.parent x) in
         let is : parent_of this (levels ks) ≡ suc (asked - 1) = present_called this (levels ks) present ∙ omega (arith, p.named n) in
         let by = parent_named ks t this (asked - 1) is in
@@ -192,31 +192,31 @@ module _ (profile : LevelProfile) (cs : List Claim) where
         (asked - 1, under)
 
     -- and back, where all HL01 before differ
-    under-tests : Distinct cs (length ks) → (this.parent ≡ [] → ⊥) → (i : ℕ) → Under profile cs i (length ks)
+    under_tests : Distinct cs (length ks) → (this.parent ≡ [] → ⊥) → (i : ℕ) → Under profile cs i (length ks)
         → T (may_hang profile parent.code known) × T (not shut)
-    under-tests d p i u =
+    under_tests d p i u =
         let is : parent_of this (levels ks) ≡ suc i = named_parent ks t d this i u.earlier p u.named in
         let made = level_made ks t i u.earlier in
         let unshut = not_T shut (λ x. u.open_to_children (sym made.1 ∙ (rw is at (same_equal parent.mark (bytes "0") x)))) in
         (rw (is, made.0) u.pair, unshut)
 
     -- the tests of an HL say that its level stands
-    pub keeps-stands : Keeps (level_checks profile (levels ks) this) → Stands profile cs (length ks)
-    keeps-stands k =
+    pub keeps_stands : Keeps (level_checks profile (levels ks) this) → Stands profile cs (length ks)
+    keeps_stands k =
         let p = keeps_passes profile (levels ks) this k in
         record {
           new = λ i h e. omega (arith, p.new, named_called ks t this.id i h e);
           coded = λ e. omega (arith, p.known, e);
           alone = λ e. p.alone (rw e tt);
-          parented = λ present. tests-under present p;
+          parented = λ present. tests_under present p;
           marked = mark_says this.mark (may_be_marked profile known) p.mark;
         }
 
     -- and a level that stands keeps them, where all HL01 before differ
-    pub stands-keeps : Distinct cs (length ks) → Stands profile cs (length ks) → Keeps (level_checks profile (levels ks) this)
-    stands-keeps d s =
+    pub stands_keeps : Distinct cs (length ks) → Stands profile cs (length ks) → Keeps (level_checks profile (levels ks) this)
+    stands_keeps d s =
         let under : (T orphan → ⊥) → (i : ℕ) × Under profile cs i (length ks) = λ n. s.parented (λ e. n (rw e tt)) in
-        let fit : (T orphan → ⊥) → T (may_hang profile parent.code known) × T (not shut) = λ n. under-tests d (λ e. n (rw e tt)) (under n).0 (under n).1 in
+        let fit : (T orphan → ⊥) → T (may_hang profile parent.code known) × T (not shut) = λ n. under_tests d (λ e. n (rw e tt)) (under n).0 (under n).1 in
         passes_keeps profile (levels ks) this (record {
           new = unnamed_called ks t this.id s.new;
           known = omega (arith, s.coded);

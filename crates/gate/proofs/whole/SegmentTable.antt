@@ -88,26 +88,26 @@ module _ (profile : Profile) where
     there : k < length vs
     there = omega (arith, length-map gs (λ (g : Placed). view_of how.separators g.segment))
 
-    level-is : level_number after k ≡ belongs_to (onto [] (take k vs)) v
-    level-is = record_level how [] gs rows (drop (length (segment_records how [] gs rows)) before.segments) k numbered inside
+    level_is : level_number after k ≡ belongs_to (onto [] (take k vs)) v
+    level_is = record_level how [] gs rows (drop (length (segment_records how [] gs rows)) before.segments) k numbered inside
 
-    level-counts : T (not (is_se v)) → level_number after k ≡ length (claims (onto [] (take (suc k) vs)))
-    level-counts o = level-is ∙ rw (not_passes (is_se v) o) (ap (λ (h : List View). length (claims h)) (up_to [] vs k there))
+    level_counts : T (not (is_se v)) → level_number after k ≡ length (claims (onto [] (take (suc k) vs)))
+    level_counts o = level_is ∙ rw (not_passes (is_se v) o) (ap (λ (h : List View). length (claims h)) (up_to [] vs k there))
 
-    own-level : T (is_hl v) → (level_at (level_number after k) (levels_in profile (onto [] vs))).segment ≡ suc k
+    own_level : T (is_hl v) → (level_at (level_number after k) (levels_in profile (onto [] vs))).segment ≡ suc k
     unfolding levels_in
-    own-level hl =
+    own_level hl =
         let h = onto [] (take k vs) in
         let long : length h ≡ k = onto_length [] (take k vs) ∙ omega (arith, length-take k vs, there) in
-        rw (level-counts (hl_no_se v hl), behind [] vs (suc k), ← up_to [] vs k there)
+        rw (level_counts (hl_no_se v hl), behind [] vs (suc k), ← up_to [] vs k there)
         (ap (λ (l : Level). l.segment) (levels_stay (length (claims (v ∷ h))) (v ∷ h) (drop (suc k) vs) (omega arith))
         ∙ latest h v (passes (is_hl v) hl) ∙ ap suc long)
 
-    pub segment-shown : SegmentShown profile vs after k
-    segment-shown = record {
-      counts = λ o. level-counts o ∙ claims_count (take (suc k) vs);
-      closing = λ c. level-is ∙ rw (passes (is_se v) c);
-      own = own-level;
+    pub segment_shown : SegmentShown profile vs after k
+    segment_shown = record {
+      counts = λ o. level_counts o ∙ claims_count (take (suc k) vs);
+      closing = λ c. level_is ∙ rw (passes (is_se v) c);
+      own = own_level;
     }
 
 -- so it is of every reading that looks at segments, accepted or refused
@@ -117,8 +117,8 @@ module _ {profile : Profile} {how : How} {s : Bytes} {before : Tables} where
     where
       ending : (r : Answer) → length x.rows ≡ length x.gs → Ends profile how before x.gs x.rows x.end x.rest r kept numbers → length numbers ≡ length kept
       ending (Accepted segments levels bytes) n e =
-          rw (e.kept-is, e.numbers-is, length-append x.rows (e.row ∷ []), length-append x.gs (record { at = x.end; segment = e.segment } ∷ [])) (omega (arith, n))
-      ending (Refused number segment byte element) n e = rw (e.kept-is, e.numbers-is) n
+          rw (e.kept_is, e.numbers_is, length-append x.rows (e.row ∷ []), length-append x.gs (record { at = x.end; segment = e.segment } ∷ [])) (omega (arith, n))
+      ending (Refused number segment byte element) n e = rw (e.kept_is, e.numbers_is) n
 
   pub read_shown : {r : Answer} {after : Tables} (x : Read profile how s before r after) (k : ℕ) → k < length x.kept → SegmentShown profile (seen how x.kept) after k
-  read_shown {r} x k inside = rw x.tables (segment-shown profile how before x.kept x.numbers (run_numbered r x.run) k inside)
+  read_shown {r} x k inside = rw x.tables (segment_shown profile how before x.kept x.numbers (run_numbered r x.run) k inside)

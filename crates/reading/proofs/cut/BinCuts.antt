@@ -22,7 +22,7 @@ use Rattle.text.proofs.Bools.{both, first_of, second_of}
 use Rattle.text.proofs.Everys.{every_weaker}
 use Rattle.text.proofs.Bins.{Counts, bin_parts, begins_mark, bin_made, count_made, attached_made}
 use Rattle.text.proofs.BinView.{bin_view, view_bin, inspected_bin, elements_bin}
-use Rattle.text.proofs.CountedCut.{some_digit, digits_counts, attached_short, attached-whole, attached-broken, counted_jump}
+use Rattle.text.proofs.CountedCut.{some_digit, digits_counts, attached_short, attached_whole, attached_broken, counted_jump}
 use Rattle.text.proofs.Counting.{Found, Finds, count_finds}
 use Rattle.text.proofs.DocumentCut.{cut_marked, Splits, cut_splits}
 use Rattle.elements.specs.Checks.{Keeps}
@@ -97,13 +97,13 @@ module _ (q : Separators) (s : Bytes) (at : ℕ) (marked : T (begins_bin q.eleme
     finds : Finds q 0 0 (at + 4) (drop (at + 4) s) r
     finds = rw is (count_finds q 0 0 (at + 4) (drop (at + 4) s) (omega arith))
 
-    pub count-open : r ≡ CountOpen → StopsWith q s at 3 0
-    count-open z =
+    pub count_open : r ≡ CountOpen → StopsWith q s at 3 0
+    count_open z =
         let f = subst (λ (x : Counted). Finds q 0 0 (at + 4) (drop (at + 4) s) x) z finds in
         record { upto = mark ++ drop (at + 4) s; more = []; stops = cut_is ∙ ap (behind mark) f }
 
-    pub count-broken : r ≡ CountBroken → StopsWith q s at 10 1
-    count-broken z =
+    pub count_broken : r ≡ CountBroken → StopsWith q s at 10 1
+    count_broken z =
         let f = subst (λ (x : Counted). Finds q 0 0 (at + 4) (drop (at + 4) s) x) z finds in
         record { upto = mark ++ f.0; more = f.1; stops = cut_is ∙ ap (behind mark) f.2 }
 
@@ -115,14 +115,14 @@ module _ (q : Separators) (s : Bytes) (at : ℕ) (marked : T (begins_bin q.eleme
       long = omega (arith, ap length f.whole ∙ length-append f.count (q.element ∷ f.rest), length-drop (at + 4) s, marked_inside, f.end_is)
 
       -- BIN02 starts behind the separator
-      pub attached-low : at + 6 ≤ end + 1
-      attached-low = omega (arith, f.end_is, some_digit f.count f.digits)
+      pub attached_low : at + 6 ≤ end + 1
+      attached_low = omega (arith, f.end_is, some_digit f.count f.digits)
 
-      pub attached-high : end + 1 ≤ length s
-      attached-high = omega (arith, long)
+      pub attached_high : end + 1 ≤ length s
+      attached_high = omega (arith, long)
 
-      rest-is : drop (end + 1) s ≡ f.rest
-      rest-is =
+      rest_is : drop (end + 1) s ≡ f.rest
+      rest_is =
           let past : end + 1 ≡ at + 4 + (length f.count + 1) = omega (arith, f.end_is) in
           ap (λ (n : ℕ). drop n s) past ∙ sym (drop-drop (length f.count + 1) (at + 4) s)
           ∙ ap (drop (length f.count + 1)) (f.whole ∙ sym (append_snoc f.count q.element f.rest))
@@ -157,15 +157,15 @@ module _ (q : Separators) (s : Bytes) (at : ℕ) (marked : T (begins_bin q.eleme
         front_long : length front ≡ number
         front_long = length-take-le number f.rest (omega (arith, long))
 
-        due-is : get_or f.rest number 0 ≡ due
-        due-is = ap (λ (x : Bytes). get_or x number 0) (sym rest-is) ∙ get_or-drop (end + 1) s number 0
+        due_is : get_or f.rest number 0 ≡ due
+        due_is = ap (λ (x : Bytes). get_or x number 0) (sym rest_is) ∙ get_or-drop (end + 1) s number 0
 
-        rest-split : f.rest ≡ front ++ due ∷ back
-        rest-split = split_at f.rest number 0 (omega (arith, long)) ∙ ap (λ (b : ℕ). front ++ b ∷ back) due-is
+        rest_split : f.rest ≡ front ++ due ∷ back
+        rest_split = split_at f.rest number 0 (omega (arith, long)) ∙ ap (λ (b : ℕ). front ++ b ∷ back) due_is
 
         cut_behind : cut_of q (drop at s) ≡ behind mark (behind (f.count ++ (q.element ∷ [])) (cut_attached q (length front) (front ++ due ∷ back)))
         cut_behind =
-            jump ∙ ap (λ (x : Bytes). behind mark (behind (f.count ++ (q.element ∷ [])) (cut_attached q number x))) rest-split
+            jump ∙ ap (λ (x : Bytes). behind mark (behind (f.count ++ (q.element ∷ [])) (cut_attached q number x))) rest_split
             ∙ ap (λ (n : ℕ). behind mark (behind (f.count ++ (q.element ∷ [])) (cut_attached q n (front ++ due ∷ back)))) (sym front_long)
 
         other : (due ≡ q.terminator → ⊥) → StopsWith q s at 10 2
@@ -173,7 +173,7 @@ module _ (q : Separators) (s : Bytes) (at : ℕ) (marked : T (begins_bin q.eleme
           upto = mark ++ ((f.count ++ (q.element ∷ [])) ++ (front ++ (due ∷ [])));
           more = back;
           stops = cut_behind
-              ∙ ap (λ (c : Cut). behind mark (behind (f.count ++ (q.element ∷ [])) c)) (attached-broken q front due back n);
+              ∙ ap (λ (c : Cut). behind mark (behind (f.count ++ (q.element ∷ [])) c)) (attached_broken q front due back n);
         }
 
         -- the terminator: a whole BIN
@@ -183,19 +183,19 @@ module _ (q : Separators) (s : Bytes) (at : ℕ) (marked : T (begins_bin q.eleme
         counts : Counts f.count front
         counts = digits_counts f.count front f.digits (sym f.number_is ∙ sym front_long)
 
-        is-bin : is_bin q.element segment ≡ true
-        is-bin = bin_made q.element f.count front f.free counts
+        is_bin_lem : is_bin q.element segment ≡ true
+        is_bin_lem = bin_made q.element f.count front f.free counts
 
-        elements-are : elements_of q.element segment ≡ bytes "BIN" ∷ f.count ∷ front ∷ []
-        elements-are =
-            elements_bin q.element segment is-bin
+        elements_are : elements_of q.element segment ≡ bytes "BIN" ∷ f.count ∷ front ∷ []
+        elements_are =
+            elements_bin q.element segment is_bin_lem
             ∙ (λ i. bytes "BIN" ∷ count_made q.element f.count front f.free i ∷ attached_made q.element f.count front f.free i ∷ [])
 
         module _ (is-due : due ≡ q.terminator) where
           cut_whole : cut_of q (drop at s) ≡ Whole segment back
           cut_whole =
               cut_behind
-              ∙ ap (λ (c : Cut). behind mark (behind (f.count ++ (q.element ∷ [])) c)) (attached-whole q front due back is-due)
+              ∙ ap (λ (c : Cut). behind mark (behind (f.count ++ (q.element ∷ [])) c)) (attached_whole q front due back is-due)
               ∙ ap (λ (x : Bytes). Whole (mark ++ x) back) (append_snoc f.count q.element front)
 
           laid : (starts : List ℕ) → length starts ≡ 33
@@ -204,19 +204,19 @@ module _ (q : Separators) (s : Bytes) (at : ℕ) (marked : T (begins_bin q.eleme
           laid starts size = record {
             whole = subst (λ (c : Cut). Splits q (drop at s) c) cut_whole (cut_splits q (drop at s));
             place = omega (arith, length-append f.count (q.element ∷ front), front_long, f.end_is);
-            data_only = bin_bytes q segment is-bin;
-            elements = ap length elements-are;
+            data_only = bin_bytes q segment is_bin_lem;
+            elements = ap length elements_are;
             begins = λ k l u.
-                rw elements-are (begin_at starts at (end + 1) q.element f.count front (length segment) size (omega (arith, f.end_is)) k u);
+                rw elements_are (begin_at starts at (end + 1) q.element f.count front (length segment) size (omega (arith, f.end_is)) k u);
             room = simp length-set size;
             single = λ t. absurd t;
-            kept = λ t. bin_ends q segment is-bin;
+            kept = λ t. bin_ends q segment is_bin_lem;
             unkept = λ t k. t;
           }
 
-          whole-bin : (starts starts' : List ℕ) (layout : Layout) (left : Left) → length starts ≡ 33
+          whole_bin : (starts starts' : List ℕ) (layout : Layout) (left : Left) → length starts ≡ 33
               → CountedBin at number (end + 1) starts starts' layout left → BinSegment q s at starts' layout left
-          whole-bin starts starts' layout left size c = record {
+          whole_bin starts starts' layout left size c = record {
             segment = segment;
             more = back;
             at_is = ap (λ (x : Layout). x.at) c.layout_is;
@@ -225,9 +225,9 @@ module _ (q : Separators) (s : Bytes) (at : ℕ) (marked : T (begins_bin q.eleme
           }
 
       -- what the jump finds is the cut
-      pub counted-cuts : (starts starts' : List ℕ) → length starts ≡ 33 → (n : Next) → CutsCounted s q.terminator at number (end + 1) starts starts' n
+      pub counted_cuts : (starts starts' : List ℕ) → length starts ≡ 33 → (n : Next) → CutsCounted s q.terminator at number (end + 1) starts starts' n
           → CutsBin q s at starts' n
-      counted-cuts starts starts' size Open c = short c
-      counted-cuts starts starts' size (Bad place) c = absurd c
-      counted-cuts starts starts' size (Broken element) c = rw c.0 (other c.1 c.2)
-      counted-cuts starts starts' size (Segment layout left) c = whole-bin c.0 c.1 starts starts' layout left size c.2
+      counted_cuts starts starts' size Open c = short c
+      counted_cuts starts starts' size (Bad place) c = absurd c
+      counted_cuts starts starts' size (Broken element) c = rw c.0 (other c.1 c.2)
+      counted_cuts starts starts' size (Segment layout left) c = whole_bin c.0 c.1 starts starts' layout left size c.2

@@ -115,8 +115,8 @@ module _ (c : ℕ) (gone : List Bytes) (last : Bytes) where
   pub record Ended : Type 0 where
     pub some : 0 < length gone
     pub early : T (every (well c) (drop 1 gone))
-    pub last-filled : T (filled last)
-    pub last-well : T (well c last)
+    pub last_filled_lem : T (filled last)
+    pub last_well : T (well c last)
 
   -- from the bytes to the view: an element before the last
   kept_early : Ended → (k : ℕ) → k + 1 < length gone → T (ends_well_of view (k + 1))
@@ -130,7 +130,7 @@ module _ (c : ℕ) (gone : List Bytes) (last : Bytes) where
   kept_last : Ended → T (ends_well_of view (length gone))
   kept_last e =
       rw (ends_at c (gone ++ (last ∷ [])) (length gone), last_is)
-      (both (filled last || not (eqb (length gone) latest)) (well c last) (or_left (filled last) (not (eqb (length gone) latest)) e.last-filled) e.last-well)
+      (both (filled last || not (eqb (length gone) latest)) (well c last) (or_left (filled last) (not (eqb (length gone) latest)) e.last_filled_lem) e.last_well)
 
   -- each
   kept_at : Ended → (k : ℕ) → 1 ≤ k → k < 1 + element_count view → T (ends_well_of view k)
@@ -171,8 +171,8 @@ module _ (c : ℕ) (gone : List Bytes) (last : Bytes) where
       record {
         some = some;
         early = every_of (well c) (drop 1 gone) [] (told_early h.1);
-        last-filled = first_of (filled last) (well c last) both-last;
-        last-well = second_of (filled last) (well c last) both-last;
+        last_filled_lem = first_of (filled last) (well c last) both-last;
+        last_well = second_of (filled last) (well c last) both-last;
       }
 
 -- one piece more: the tag does not count

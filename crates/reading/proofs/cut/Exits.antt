@@ -31,7 +31,7 @@ use Rattle.reading.proofs.cut.Queue.{All, left_none, used_up}
 use Rattle.reading.proofs.cut.Bytes.{all_every, data_kept, data_told}
 use Rattle.reading.proofs.cut.Ends.{Ended, ends_kept, ends_told}
 use Rattle.reading.proofs.cut.Walk.{all_append, Walk, data_good, good_free, place, next, inside, piece}
-use Rattle.reading.proofs.cut.Walk.{piece-place, piece-whole, piece-free, piece-good, piece-alone, piece-well, next-ready, byte-there}
+use Rattle.reading.proofs.cut.Walk.{piece_place, piece_whole, piece_free, piece_good, piece_alone, piece_well, next_ready, byte_there}
 
 -- bytes that begin with this one
 record Begun (b : ℕ) (gap : Bytes) : Type 0 where
@@ -73,33 +73,33 @@ module _ {q : Separators} {table : List Bool} {s : Bytes} {at : ℕ} {queue star
     passed = closed q.element w.gone ++ final
 
     -- what follows them
-    passed-whole : drop at s ≡ passed ++ drop here s
-    passed-whole = rw (append_assoc (closed q.element w.gone)) (piece-whole w some)
+    passed_whole : drop at s ≡ passed ++ drop here s
+    passed_whole = rw (append_assoc (closed q.element w.gone)) (piece_whole w some)
 
     -- their pieces
-    passed-pieces : pieces q.element passed ≡ w.gone ++ (final ∷ [])
-    passed-pieces =
+    passed_pieces : pieces q.element passed ≡ w.gone ++ (final ∷ [])
+    passed_pieces =
         pieces_closed q.element w.gone final w.clean
-        ∙ ap (λ (l : List Bytes). w.gone ++ l) (pieces_free q.element final (piece-free w some))
+        ∙ ap (λ (l : List Bytes). w.gone ++ l) (pieces_free q.element final (piece_free w some))
 
     -- they may stand in a segment
-    passed-good : All (Permitted q) passed
-    passed-good = all_append (Permitted q) (closed q.element w.gone) final w.good_gone (piece-good w some)
+    passed_good : All (Permitted q) passed
+    passed_good = all_append (Permitted q) (closed q.element w.gone) final w.good_gone (piece_good w some)
 
     -- they are free of the terminator
-    passed-free : Free q.terminator passed
-    passed-free = good_free q passed passed-good
+    passed_free : Free q.terminator passed
+    passed_free = good_free q passed passed_good
 
     -- how many they are
-    passed-long : here ≡ at + length passed
-    passed-long = rw (length-append (closed q.element w.gone) final) (omega (arith, w.start_is, piece-place w some))
+    passed_long : here ≡ at + length passed
+    passed_long = rw (length-append (closed q.element w.gone) final) (omega (arith, w.start_is, piece_place w some))
 
     -- the starts that are kept are those of the pieces
-    passed-begins : (k : ℕ) → k ≤ 32 → k ≤ count → get_or starts k 0 ≡ at + (span_among q.element (pieces q.element passed) (length passed) k).start
-    passed-begins k l u =
+    passed_begins : (k : ℕ) → k ≤ 32 → k ≤ count → get_or starts k 0 ≡ at + (span_among q.element (pieces q.element passed) (length passed) k).start
+    passed_begins k l u =
         w.begins k l u
         ∙ ap (λ (n : ℕ). at + n)
-        (sym (span_start q.element passed (w.gone ++ (final ∷ [])) k passed-pieces (simp length-append (omega (arith, w.count_is)))
+        (sym (span_start q.element passed (w.gone ++ (final ∷ [])) k passed_pieces (simp length-append (omega (arith, w.count_is)))
         ∙ ap (λ (ps : List Bytes). length (closed q.element ps)) (take-append-le k w.gone (final ∷ []) (omega (arith, w.count_is)))))
 
     -- rule 6, as the code tests it
@@ -107,8 +107,8 @@ module _ {q : Separators} {table : List Bool} {s : Bytes} {at : ℕ} {queue star
     tested = (layout_of at here count start behind ended).ended
 
     -- what the test says
-    tested-ended : T tested → Ended q.component w.gone final
-    tested-ended t =
+    tested_ended : T tested → Ended q.component w.gone final
+    tested_ended t =
         let three = first_of ((ended && not (eqb here behind)) && not (eqb here start)) (not (eqb count 0)) t in
         let two = first_of (ended && not (eqb here behind)) (not (eqb here start)) three in
         let none : count ≡ 0 → ⊥ = apart count 0 (second_of ((ended && not (eqb here behind)) && not (eqb here start)) (not (eqb count 0)) t) in
@@ -116,19 +116,19 @@ module _ {q : Separators} {table : List Bool} {s : Bytes} {at : ℕ} {queue star
         record {
           some = omega (arith, w.count_is);
           early = rw (← w.ended_is) (first_of ended (not (eqb here behind)) two);
-          last-filled = rw (← filled_by final here start (piece-place w some))
+          last_filled_lem = rw (← filled_by final here start (piece_place w some))
               (second_of (ended && not (eqb here behind)) (not (eqb here start)) three);
-          last-well = rw (← piece-well w some counted) (second_of ended (not (eqb here behind)) two);
+          last_well = rw (← piece_well w some counted) (second_of ended (not (eqb here behind)) two);
         }
 
     -- and what it takes to pass it
-    ended-tested : Ended q.component w.gone final → T tested
-    ended-tested e =
+    ended_tested : Ended q.component w.gone final → T tested
+    ended_tested e =
         let counted : 0 < count = omega (arith, e.some, w.count_is) in
         four ended (not (eqb here behind)) (not (eqb here start)) (not (eqb count 0))
         (rw w.ended_is e.early)
-        (rw (piece-well w some counted) e.last-well)
-        (rw (filled_by final here start (piece-place w some)) e.last-filled)
+        (rw (piece_well w some counted) e.last_well)
+        (rw (filled_by final here start (piece_place w some)) e.last_filled_lem)
         (rw (ne_eqb count 0 (λ z. omega arith)) tt)
 
     -- the terminator: the bytes up to it are the segment, and this is its layout
@@ -136,24 +136,24 @@ module _ {q : Separators} {table : List Bool} {s : Bytes} {at : ℕ} {queue star
         → LaidAs q s starts (layout_of at here count start behind ended) passed (drop (here + 1) s) (pieces q.element passed)
         (data_checks (plain_view q passed)) (end_checks (plain_view q passed))
     laid_out e = record {
-      whole = rw (← byte-there w some q.terminator e) passed-whole;
-      place = passed-long;
-      data_only = data_kept q passed (all_every (Permitted q) (belongs q) passed (λ b h. h.1) passed-good);
-      elements = ap length passed-pieces ∙ simp length-append (omega (arith, w.count_is));
-      begins = passed-begins;
+      whole = rw (← byte_there w some q.terminator e) passed_whole;
+      place = passed_long;
+      data_only = data_kept q passed (all_every (Permitted q) (belongs q) passed (λ b h. h.1) passed_good);
+      elements = ap length passed_pieces ∙ simp length-append (omega (arith, w.count_is));
+      begins = passed_begins;
       room = w.room;
       single = λ t.
           let z = eqb→eq behind at t in
-          free_append q.component (closed q.element w.gone) final (w.alone z).0 (piece-alone w some z);
-      kept = λ t. rw passed-pieces (ends_kept q.component w.gone final (tested-ended t));
-      unkept = λ t h. T_not tested t (ended-tested (ends_told q.component w.gone final (rw passed-pieces at h)));
+          free_append q.component (closed q.element w.gone) final (w.alone z).0 (piece_alone w some z);
+      kept = λ t. rw passed_pieces (ends_kept q.component w.gone final (tested_ended t));
+      unkept = λ t h. T_not tested t (ended_tested (ends_told q.component w.gone final (rw passed_pieces at h)));
     }
 
     -- what is left of the queue serves the next cut
     pub at_end : get_or s here 0 ≡ q.terminator
         → PlainSegment q table s at queue starts (layout_of at here count start behind ended)
         (record { head = head + 1; tail = tail; seen = seen })
-    at_end e = record { segment = passed; more = drop (here + 1) s; at_is = refl; free = passed-free; laid = laid_out e; ready = next-ready w some }
+    at_end e = record { segment = passed; more = drop (here + 1) s; at_is = refl; free = passed_free; laid = laid_out e; ready = next_ready w some }
 
     module _ (no-e : get_or s here 0 ≡ q.element → ⊥) (no-c : get_or s here 0 ≡ q.component → ⊥)
         (no-t : get_or s here 0 ≡ q.terminator → ⊥) where
@@ -169,20 +169,20 @@ module _ {q : Separators} {table : List Bool} {s : Bytes} {at : ℕ} {queue star
           record {
             segment = passed ++ m.gap;
             more = m.rest;
-            free = free_append q.terminator passed m.gap passed-free m.free;
+            free = free_append q.terminator passed m.gap passed_free m.free;
             spoilt = record {
-              whole = passed-whole ∙ rw (m.whole, append_assoc passed);
-              place = rw (length-append passed m.gap) (omega (arith, passed-long, m.place));
+              whole = passed_whole ∙ rw (m.whole, append_assoc passed);
+              place = rw (length-append passed m.gap) (omega (arith, passed_long, m.place));
               broken = λ h. bad (every_middle (belongs q) passed (get_or s here 0) b.back (rw b.is at (data_told q (passed ++ m.gap) h)));
             };
           }
 
       -- a bad byte: the next terminator decides
-      pub at-bad : (r : Next) → Stops s here q.terminator r → CutsPlainly q table s at queue starts r
-      at-bad Open f = rw passed-whole (free_append q.terminator passed (drop here s) passed-free f)
-      at-bad (Bad end) m = spoilt end m
-      at-bad (Broken element) f = absurd f
-      at-bad (Segment layout left) f = absurd f
+      pub at_bad : (r : Next) → Stops s here q.terminator r → CutsPlainly q table s at queue starts r
+      at_bad Open f = rw passed_whole (free_append q.terminator passed (drop here s) passed_free f)
+      at_bad (Bad end) m = spoilt end m
+      at_bad (Broken element) f = absurd f
+      at_bad (Segment layout left) f = absurd f
 
   -- all bytes are seen, and the queue is used up
   pub at_last : tail ≤ head → length s ≤ seen → Free q.terminator (drop at s)

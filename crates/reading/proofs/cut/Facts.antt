@@ -16,7 +16,7 @@ use Rattle.text.specs.internal.Search.{Free}
 use Rattle.text.specs.Cut.{Whole, cut_of}
 use Rattle.text.specs.declared.separators.Separators.{Separators}
 use Rattle.text.proofs.BinView.{view_plain, elements_plain}
-use Rattle.text.proofs.BinCut.{Plainly, plainly, cut-gives}
+use Rattle.text.proofs.BinCut.{Plainly, plainly, cut_gives}
 use Rattle.text.proofs.Writable.{plain_inspected}
 use Rattle.text.proofs.DocumentCut.{cut_whole, cut_none}
 use Rattle.elements.specs.Rules.{data_checks, byte_checks, end_checks}
@@ -43,7 +43,7 @@ module _ (q : Separators) (fit : Fitted q) (g : Bytes) (p : Plainly q g) where
 
 -- and what is cut off and is no BIN is such a segment
 pub plain_of : (q : Separators) → Fitted q → (s g m : Bytes) → cut_of q s ≡ Whole g m → is_bin q.element g ≡ false → Plainly q g
-plain_of q fit s g m e n = by (cut-gives q fit s g m e)
+plain_of q fit s g m e n = by (cut_gives q fit s g m e)
   where
     by : T (is_bin q.element g) ⊎ Plainly q g → Plainly q g
     by (inl h) = absurd (subst (λ (b : Bool). T b) n h)

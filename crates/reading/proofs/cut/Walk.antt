@@ -165,108 +165,108 @@ module _ {q : Separators} {table : List Bool} {s : Bytes} {at : ℕ} {queue star
     piece = w.begun ++ next.gap
 
     -- where the piece ends
-    pub piece-place : place ≡ start + length piece
-    piece-place = simp length-append (omega (arith, w.place, next.place))
+    pub piece_place : place ≡ start + length piece
+    piece_place = simp length-append (omega (arith, w.place, next.place))
 
     -- what follows it
-    pub piece-whole : drop at s ≡ closed q.element w.gone ++ (piece ++ drop place s)
-    piece-whole = rw (append_assoc w.begun, ← next.whole) w.whole
+    pub piece_whole : drop at s ≡ closed q.element w.gone ++ (piece ++ drop place s)
+    piece_whole = rw (append_assoc w.begun, ← next.whole) w.whole
 
     -- it is free of the element separator
-    pub piece-free : Free q.element piece
-    piece-free = free_append q.element w.begun next.gap w.free (data_element w.right next.gap next.data_only)
+    pub piece_free : Free q.element piece
+    piece_free = free_append q.element w.begun next.gap w.free (data_element w.right next.gap next.data_only)
 
     -- its bytes may stand in a segment
-    pub piece-good : All (Permitted q) piece
-    piece-good = all_append (Permitted q) w.begun next.gap w.good_begun (data_good w.right next.gap next.data_only)
+    pub piece_good : All (Permitted q) piece
+    piece_good = all_append (Permitted q) w.begun next.gap w.good_begun (data_good w.right next.gap next.data_only)
 
     -- it is free of the component separator where none was met
-    pub piece-alone : behind ≡ at → Free q.component piece
-    piece-alone e = free_append q.component w.begun next.gap (w.alone e).1 (data_component w.right next.gap next.data_only)
+    pub piece_alone : behind ≡ at → Free q.component piece
+    piece_alone e = free_append q.component w.begun next.gap (w.alone e).1 (data_component w.right next.gap next.data_only)
 
     -- the place is behind the last component separator exactly if an element ends in it
-    piece-last : 0 < count → eqb place behind ≡ ends_in q.component piece
-    piece-last l =
+    piece_last : 0 < count → eqb place behind ≡ ends_in q.component piece
+    piece_last l =
         last_with q.component w.begun next.gap w.here behind place (w.last l) w.high next.place
         (data_component w.right next.gap next.data_only)
 
     -- an element's last component is not empty exactly if the place is not behind a component separator
-    pub piece-well : 0 < count → not (eqb place behind) ≡ well q.component piece
-    piece-well l = ap not (piece-last l)
+    pub piece_well : 0 < count → not (eqb place behind) ≡ well q.component piece
+    piece_well l = ap not (piece_last l)
 
     -- the queue without the place is ready behind it
-    pub next-ready : Ready table s (place + 1) queue (head + 1) tail seen
-    next-ready = record { listed = next.others; few = w.ready.few; size = w.ready.size }
+    pub next_ready : Ready table s (place + 1) queue (head + 1) tail seen
+    next_ready = record { listed = next.others; few = w.ready.few; size = w.ready.size }
 
     -- the byte at the place, and what is behind it
-    pub byte-there : (b : ℕ) → get_or s place 0 ≡ b → drop place s ≡ b ∷ drop (place + 1) s
-    byte-there b e = rw (add-one, ← e) (drop-cons s place 0 inside)
+    pub byte_there : (b : ℕ) → get_or s place 0 ≡ b → drop place s ≡ b ∷ drop (place + 1) s
+    byte_there b e = rw (add-one, ← e) (drop-cons s place 0 inside)
 
     -- an element separator: the piece is gone
-    pub on-element : get_or s place 0 ≡ q.element
+    pub on_element : get_or s place 0 ≡ q.element
         → Walk q table s at queue (set starts (count + 1) (place + 1)) (head + 1) tail seen (count + 1)
         (ended && (not (eqb place behind) || eqb count 0)) (place + 1) behind
-    on-element e =
+    on_element e =
         let snoc = closed_snoc q.element w.gone piece in
         let far : place + 1 ≡ at + length (closed q.element (w.gone ++ (piece ∷ []))) =
         rw (snoc, length-append (closed q.element w.gone) (piece ++ q.element ∷ []), length-append piece (q.element ∷ []))
-        (omega (arith, w.start_is, piece-place)) in
+        (omega (arith, w.start_is, piece_place)) in
         record {
           right = w.right;
           differ = w.differ;
           gone = w.gone ++ (piece ∷ []);
           begun = [];
           here = place + 1;
-          whole = rw (snoc, append_assoc (closed q.element w.gone), append_assoc piece, ← byte-there q.element e) piece-whole;
-          clean = clean_snoc q.element w.gone piece w.clean piece-free;
+          whole = rw (snoc, append_assoc (closed q.element w.gone), append_assoc piece, ← byte_there q.element e) piece_whole;
+          clean = clean_snoc q.element w.gone piece w.clean piece_free;
           free = tt;
           start_is = far;
           place = omega arith;
           good_gone = rw snoc
               (all_append (Permitted q) (closed q.element w.gone) (piece ++ q.element ∷ []) w.good_gone
-              (all_append (Permitted q) piece (q.element ∷ []) piece-good (element_allowed q w.differ, tt)));
+              (all_append (Permitted q) piece (q.element ∷ []) piece_good (element_allowed q w.differ, tt)));
           good_begun = tt;
           count_is = simp length-append (omega (arith, w.count_is));
           begins = begins_more q.element at starts count w.gone piece (place + 1) w.room w.count_is far w.begins;
           room = simp length-set w.room;
-          ended_is = ended_more q.component w.gone piece ended (not (eqb place behind)) count w.count_is w.ended_is piece-well;
+          ended_is = ended_more q.component w.gone piece ended (not (eqb place behind)) count w.count_is w.ended_is piece_well;
           low = w.low;
           high = omega (arith, w.high, next.place);
           alone = λ a. (
             rw snoc
                 (free_append q.component (closed q.element w.gone) (piece ++ q.element ∷ []) (w.alone a).0
-                (free_snoc q.component piece q.element (piece-alone a) w.differ.element_component)),
+                (free_snoc q.component piece q.element (piece_alone a) w.differ.element_component)),
             tt,
           );
           last = λ l. ne_eqb (place + 1) behind (λ z. omega (arith, w.high, next.place));
-          ready = next-ready;
+          ready = next_ready;
         }
 
     -- a component separator: the piece goes on
-    pub on-component : get_or s place 0 ≡ q.component
+    pub on_component : get_or s place 0 ≡ q.component
         → Walk q table s at queue starts (head + 1) tail seen count ended start (place + 1)
-    on-component e = record {
+    on_component e = record {
       right = w.right;
       differ = w.differ;
       gone = w.gone;
       begun = piece ++ (q.component ∷ []);
       here = place + 1;
-      whole = rw (append_assoc piece, ← byte-there q.component e) piece-whole;
+      whole = rw (append_assoc piece, ← byte_there q.component e) piece_whole;
       clean = w.clean;
-      free = free_snoc q.element piece q.component piece-free (λ z. w.differ.element_component (sym z));
+      free = free_snoc q.element piece q.component piece_free (λ z. w.differ.element_component (sym z));
       start_is = w.start_is;
-      place = rw (length-append piece (q.component ∷ [])) (omega (arith, piece-place));
+      place = rw (length-append piece (q.component ∷ [])) (omega (arith, piece_place));
       good_gone = w.good_gone;
-      good_begun = all_append (Permitted q) piece (q.component ∷ []) piece-good (component_allowed q w.differ, tt);
+      good_begun = all_append (Permitted q) piece (q.component ∷ []) piece_good (component_allowed q w.differ, tt);
       count_is = w.count_is;
       begins = w.begins;
       room = w.room;
       ended_is = w.ended_is;
-      low = omega (arith, w.start_is, piece-place);
+      low = omega (arith, w.start_is, piece_place);
       high = omega arith;
-      alone = λ a. absurd (omega (arith, w.start_is, piece-place));
+      alone = λ a. absurd (omega (arith, w.start_is, piece_place));
       last = λ l. eq-eqb (place + 1) (place + 1) refl ∙ sym (ends_snoc q.component piece q.component ∙ eq-eqb q.component q.component refl);
-      ready = next-ready;
+      ready = next_ready;
     }
 
   -- the queue is used up, and filled anew

@@ -23,17 +23,17 @@ module _ {n number : ℕ} (is : n ≡ number) (count : ℕ) (control opening : B
   other_number s m = rw (ne_eqb number (suc count) (λ q. m (omega (arith, q, is))))
 
   module _ (some : n ≡ 0 → ⊥) (counted : n - 1 ≡ count) where
-    right-number : eqb number (suc count) ≡ true
-    right-number = eq-eqb number (suc count) (omega (arith, some, counted, is))
+    right_number : eqb number (suc count) ≡ true
+    right_number = eq-eqb number (suc count) (omega (arith, some, counted, is))
 
-    pub other-control : same control opening ≡ false → Broken 16 2 ≡ first_broken closing
-    other-control e = rw (right-number, e)
+    pub other_control : same control opening ≡ false → Broken 16 2 ≡ first_broken closing
+    other_control e = rw (right_number, e)
 
     pub not_full : same control opening ≡ true → full ≡ false → Broken 15 0 ≡ first_broken closing
-    not_full e f = rw (right-number, e, f)
+    not_full e f = rw (right_number, e, f)
 
     pub all_closed : same control opening ≡ true → full ≡ true → Holds ≡ first_broken closing
-    all_closed e f = rw (right-number, e, f)
+    all_closed e f = rw (right_number, e, f)
 
 -- a comparison of equal parts
 pub same_by : {r : Bool} {a a' b b' : Bytes} → r ≡ same a b → a ≡ a' → b ≡ b' → (v : Bool) → r ≡ v → same a' b' ≡ v

@@ -141,22 +141,22 @@ module _ {q : Separators} {s : Bytes} {specials : List Bool} {queue starts : Lis
   cut_good next cuts is = subst (λ (n : Next). Cuts q specials s at queue starts n) is cuts
 
   module _ {layout : Layout} {left : Left} (good : GoodSegment q specials s at queue starts layout left) where
-    pub good-forward : at ≤ layout.end
-    good-forward = omega (arith, good.cut_as.laid.place, good.at_is)
+    pub good_forward : at ≤ layout.end
+    good_forward = omega (arith, good.cut_as.laid.place, good.at_is)
 
-    pub good-within : layout.end < length s
-    good-within = end_inside good.cut_as
+    pub good_within : layout.end < length s
+    good_within = end_inside good.cut_as
 
-    pub good-inside : Inside s layout
-    good-inside = record { forward = omega (arith, good.cut_as.laid.place); within = omega (arith, good-within) }
+    pub good_inside : Inside s layout
+    good_inside = record { forward = omega (arith, good.cut_as.laid.place); within = omega (arith, good_within) }
 
 module _ {how : How} {s : Bytes} {specials : List Bool} {queue starts : List ℕ} {at : ℕ} {layout : Layout} {left : Left}
     (good : GoodSegment how.separators specials s at queue starts layout left) where
   module _ {before : Tables} {segments levels lasts : List ℕ} {state : State} (stands : Stands how before s segments levels lasts at state) where
-    pub in-room : length s ≤ 1048576 → InRoom segments levels layout state
-    in-room l = record {
+    pub in_room : length s ≤ 1048576 → InRoom segments levels layout state
+    in_room l = record {
       forward = omega (arith, good.cut_as.laid.place);
-      short = omega (arith, good-within good);
+      short = omega (arith, good_within good);
       segments_fit = segments_within stands;
       levels_fit = levels_within stands;
     }
@@ -178,9 +178,9 @@ module _ {how : How} {s : Bytes} {specials : List Bool} {queue starts : List ℕ
           })
 
       -- the answer
-      pub settled-done : (a : Answer) → r ≡ Done a → Read (profile_of how) how s before a (record { segments = segments'; levels = cleared state.levels levels' })
-      settled-done a e = subst (λ (x : Step). Settles how before s layout state.levels segments' levels' lasts' x) e settled
+      pub settled_done : (a : Answer) → r ≡ Done a → Read (profile_of how) how s before a (record { segments = segments'; levels = cleared state.levels levels' })
+      settled_done a e = subst (λ (x : Step). Settles how before s layout state.levels segments' levels' lasts' x) e settled
 
       -- the next place
-      pub settled-passed : (after : State) → r ≡ Passed after → Stands how before s segments' levels' lasts' (start_at how s (layout.end + 1)) after
-      settled-passed after e = subst (λ (x : Step). Settles how before s layout state.levels segments' levels' lasts' x) e settled
+      pub settled_passed : (after : State) → r ≡ Passed after → Stands how before s segments' levels' lasts' (start_at how s (layout.end + 1)) after
+      settled_passed after e = subst (λ (x : Step). Settles how before s layout state.levels segments' levels' lasts' x) e settled

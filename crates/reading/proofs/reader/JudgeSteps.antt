@@ -37,7 +37,7 @@ use Rattle.elements.specs.internal.Verdicts.{rules_of}
 use Rattle.elements.specs.declared.verdict.Verdict.{Verdict}
 use Rattle.elements.specs.declared.verdict.Verdict.TheVariants.{Holds, Broken as Faulty}
 use Rattle.elements.proofs.FirstBroken.{keeps_holds}
-use Rattle.ruling.proofs.OwnView.{LaidOut, ruled-own, text_own}
+use Rattle.ruling.proofs.OwnView.{LaidOut, ruled_own, text_own}
 use Rattle.levels.specs.Levels.{Claim, claim_of, text_of}
 use Rattle.finding.proofs.HeldLevels.{told_filled}
 use Rattle.levels.specs.Rules.{level_checks, filled}
@@ -60,7 +60,7 @@ use Rattle.reading.specs.declared.judging.Judgement.TheVariants.{Broken, Other}
 use Rattle.elements.specs.declared.layout.Layout.{Layout}
 use Rattle.reading.specs.declared.judging.State.{State}
 use Rattle.reading.proofs.reader.PlainSegments.{plain_holds, plain_late}
-use Rattle.reading.proofs.reader.RuleOrder.{unknown-tag, bad-end, no_row, not-in-profile, bad-element, bad-level, bad-closing, no_level, no-closing, its-level, its-closing, all_kept}
+use Rattle.reading.proofs.reader.RuleOrder.{unknown_tag, bad_end, no_row, not_in_profile, bad_element, bad_level, bad_closing, no_level, no_closing, its_level, its_closing, all_kept}
 use Rattle.gate.proofs.reading.ElementTexts.{bin_tag, other_tag, hl_no_bin, se_no_bin, tag_of_view, hl_claim, se_count, se_control}
 use Rattle.reading.proofs.cut.BinCuts.{bin_ends}
 use Rattle.reading.proofs.reader.OpeningControl.{control_of_first, counted_number}
@@ -125,7 +125,7 @@ pub judges_tag : (how : How) {s : Bytes} {starts : List ℕ} {layout : Layout} {
     → t ≡ tag_number (element_in s starts layout 0) → Fitted how.separators → CutAs how.separators s starts layout g more
     → Judges (profile_of how) rows h (view_of how.separators g) (Broken 4 0)
 judges_tag how {g = g} rows h t l found fit nt =
-    unknown-tag (profile_of how) rows h (view_of how.separators g) nt.laid.data_only (rw (← (found ∙ tag_is nt fit)) l)
+    unknown_tag (profile_of how) rows h (view_of how.separators g) nt.laid.data_only (rw (← (found ∙ tag_is nt fit)) l)
 
 module _ {how : How} {before : Tables} {s : Bytes} {segments levels lasts : List ℕ} {at : ℕ} {state : State} {gs : List Placed} {rows : List ℕ}
     {starts : List ℕ} {layout : Layout} {g more : Bytes} (fit : Fitted how.separators) (nt : CutAs how.separators s starts layout g more)
@@ -149,8 +149,8 @@ module _ {how : How} {before : Tables} {s : Bytes} {segments levels lasts : List
       (free 1 (omega arith), free 2 (omega arith))
 
   module _ (small : t < 34) where
-    known-tag : tag_in_of v < 34
-    known-tag = rw (← tag_known) small
+    known_tag : tag_in_of v < 34
+    known_tag = rw (← tag_known) small
 
     -- 6
     -- a BIN ends well
@@ -159,37 +159,37 @@ module _ {how : How} {before : Tables} {s : Bytes} {segments levels lasts : List
         fails (is_bin how.separators.element g)
         (λ t. nt.laid.unkept open-end (bin_ends how.separators g (passes (is_bin how.separators.element g) t)))
 
-    pub judges-end : T (not layout.ended) → (j : Judgement) → j ≡ broken_by (first_broken (end_checks (plain_view how.separators (segment_of s layout)))) → Judges (profile_of how) rows h v j
-    judges-end open-end j is =
+    pub judges_end : T (not layout.ended) → (j : Judgement) → j ≡ broken_by (first_broken (end_checks (plain_view how.separators (segment_of s layout)))) → Judges (profile_of how) rows h v j
+    judges_end open-end j is =
         rw (is, segment_is nt, ← view_plain how.separators g (no_bin open-end))
         (verdict_cases (first_broken (end_checks v))
         (λ e. absurd (nt.laid.unkept open-end ((keeps_holds (end_checks v)).0 e)))
-        (λ n k e. rw e (bad-end (profile_of how) rows h v nt.laid.data_only known-tag n k e)))
+        (λ n k e. rw e (bad_end (profile_of how) rows h v nt.laid.data_only known_tag n k e)))
 
     module _ (ended : T layout.ended) (x : ℕ) {table : List ℕ} (kept : NextTable table) (after : RowAfter table state.row state.again t x) where
       ends : Keeps (end_checks v)
       ends = nt.laid.kept ended
 
-      one-fits : OneFits rows (tag_in_of v) x
-      one-fits = rw tag_known at (after.meaning kept rows st.passed.viable st.row_is st.again_is)
+      one_fits : OneFits rows (tag_in_of v) x
+      one_fits = rw tag_known at (after.meaning kept rows st.passed.viable st.row_is st.again_is)
 
       -- 7
-      pub judges-row : x ≡ 0 → Judges (profile_of how) rows h v (Broken 7 0)
-      judges-row e = no_row (profile_of how) rows h v nt.laid.data_only known-tag ends (λ r f. (one-fits.alone r f).1 e)
+      pub judges_row : x ≡ 0 → Judges (profile_of how) rows h v (Broken 7 0)
+      judges_row e = no_row (profile_of how) rows h v nt.laid.data_only known_tag ends (λ r f. (one_fits.alone r f).1 e)
 
       -- 24
-      pub judges-outside : (x ≡ 0 → ⊥) → (Admitted (profile_of how) x → ⊥) → Judges (profile_of how) rows h v (Broken 24 0)
-      judges-outside some outside =
-          not-in-profile (profile_of how) rows h v nt.laid.data_only known-tag ends x (one-fits.fits some)
-          (λ r f a. outside (rw (one-fits.alone r f).0 at a))
+      pub judges_outside : (x ≡ 0 → ⊥) → (Admitted (profile_of how) x → ⊥) → Judges (profile_of how) rows h v (Broken 24 0)
+      judges_outside some outside =
+          not_in_profile (profile_of how) rows h v nt.laid.data_only known_tag ends x (one_fits.fits some)
+          (λ r f a. outside (rw (one_fits.alone r f).0 at a))
 
       module _ (some : x ≡ 0 → ⊥) (inside : Admitted (profile_of how) x) where
         fits : Fits rows (tag_in_of v) x
-        fits = one-fits.fits some
+        fits = one_fits.fits some
 
-        ruled-is : first_broken (ruled_checks (profile_of how).elements t (layout_view s starts layout how.separators.component))
+        ruled_is : first_broken (ruled_checks (profile_of how).elements t (layout_view s starts layout how.separators.component))
             ≡ first_broken (ruled_checks (profile_of how).elements (tag_in_of v) v)
-        ruled-is = by (is_bin how.separators.element g) refl
+        ruled_is = by (is_bin how.separators.element g) refl
           where
             by : (b : Bool) → is_bin how.separators.element g ≡ b
                 → first_broken (ruled_checks (profile_of how).elements t (layout_view s starts layout how.separators.component))
@@ -197,13 +197,13 @@ module _ {how : How} {before : Tables} {s : Bytes} {segments levels lasts : List
             by true b =
                 let e = tag_known ∙ bin_tag how.separators g b in
                 rw (← tag_known, e) (plain_bin how.profile (layout_view s starts layout how.separators.component) ∙ sym (plain_bin how.profile v))
-            by false b = ruled-own (right nt) b how.profile t ∙ ap (λ (k : ℕ). first_broken (ruled_checks (profile_of how).elements k v)) tag_known
+            by false b = ruled_own (right nt) b how.profile t ∙ ap (λ (k : ℕ). first_broken (ruled_checks (profile_of how).elements k v)) tag_known
 
         -- 9, 8, 10, 11
-        pub judges-element : (d : Verdict)
+        pub judges_element : (d : Verdict)
             → d ≡ first_broken (ruled_checks (profile_of how).elements t (layout_view s starts layout how.separators.component))
             → (n e : ℕ) → d ≡ Faulty n e → Judges (profile_of how) rows h v (Broken n e)
-        judges-element d is n e q = bad-element (profile_of how) rows h v nt.laid.data_only known-tag ends x fits inside n e (sym ruled-is ∙ sym is ∙ q)
+        judges_element d is n e q = bad_element (profile_of how) rows h v nt.laid.data_only known_tag ends x fits inside n e (sym ruled_is ∙ sym is ∙ q)
 
         module _ (elements : Keeps (ruled_checks (profile_of how).elements (tag_in_of v) v)) where
           -- 12, 13, 14, 15 of an HL
@@ -226,50 +226,50 @@ module _ {how : How} {before : Tables} {s : Bytes} {segments levels lasts : List
               let checks = level_checks (profile_of how).levels (levels_in (profile_of how) h) (claim_of v) in
               verdict_cases (first_broken checks)
               (λ q.
-              let level = its-level (profile_of how) rows h v nt.laid.data_only known-tag ends x fits inside elements hl ((keeps_holds checks).0 q) in
-              let closing = no-closing (profile_of how) rows h v nt.laid.data_only known-tag ends x fits inside elements (hl_no_se hl) in
+              let level = its_level (profile_of how) rows h v nt.laid.data_only known_tag ends x fits inside elements hl ((keeps_holds checks).0 q) in
+              let closing = no_closing (profile_of how) rows h v nt.laid.data_only known_tag ends x fits inside elements (hl_no_se hl) in
               rw q (
-                record { kept = all_kept (profile_of how) rows h v nt.laid.data_only known-tag ends x fits inside elements level closing; fits = fits; admitted = inside },
+                record { kept = all_kept (profile_of how) rows h v nt.laid.data_only known_tag ends x fits inside elements level closing; fits = fits; admitted = inside },
                 passes (is_hl v) hl,
                 hl_no_se hl,
                 refl,
                 refl,
                 refl,
               ))
-              (λ n k q. rw q (bad-level (profile_of how) rows h v nt.laid.data_only known-tag ends x fits inside elements hl n k q))
+              (λ n k q. rw q (bad_level (profile_of how) rows h v nt.laid.data_only known_tag ends x fits inside elements hl n k q))
 
           -- 16 and 15 of an SE
           se_no_hl : T (is_se v) → T (not (is_hl v))
           unfolding tag_number
           se_no_hl se = rw (eqb→eq (tag_in_of v) (tag "SE") se) tt
 
-          by-closing : T (is_se v) → Judges (profile_of how) rows h v (by_closing x (first_broken (closing_checks (profile_of how) h v)))
-          by-closing se =
+          by_closing_lem : T (is_se v) → Judges (profile_of how) rows h v (by_closing x (first_broken (closing_checks (profile_of how) h v)))
+          by_closing_lem se =
               let checks = closing_checks (profile_of how) h v in
               verdict_cases (first_broken checks)
               (λ q.
-              let level = no_level (profile_of how) rows h v nt.laid.data_only known-tag ends x fits inside elements (se_no_hl se) in
-              let closing = its-closing (profile_of how) rows h v nt.laid.data_only known-tag ends x fits inside elements se ((keeps_holds checks).0 q) in
+              let level = no_level (profile_of how) rows h v nt.laid.data_only known_tag ends x fits inside elements (se_no_hl se) in
+              let closing = its_closing (profile_of how) rows h v nt.laid.data_only known_tag ends x fits inside elements se ((keeps_holds checks).0 q) in
               rw q (
-                record { kept = all_kept (profile_of how) rows h v nt.laid.data_only known-tag ends x fits inside elements level closing; fits = fits; admitted = inside },
+                record { kept = all_kept (profile_of how) rows h v nt.laid.data_only known_tag ends x fits inside elements level closing; fits = fits; admitted = inside },
                 not_passes (is_hl v) (se_no_hl se),
                 se,
               ))
-              (λ n k q. rw q (bad-closing (profile_of how) rows h v nt.laid.data_only known-tag ends x fits inside elements (se_no_hl se) se n k q))
+              (λ n k q. rw q (bad_closing (profile_of how) rows h v nt.laid.data_only known_tag ends x fits inside elements (se_no_hl se) se n k q))
 
           -- an SE is not the first segment
-          some-before : tag_in_of v ≡ tag "SE" → 0 < state.count
-          some-before e = omega (arith, st.count_is, st.rows_are, late_row rows x fits.viable (fits.tagged ∙ e))
+          some_before : tag_in_of v ≡ tag "SE" → 0 < state.count
+          some_before e = omega (arith, st.count_is, st.rows_are, late_row rows x fits.viable (fits.tagged ∙ e))
 
-          its-closing-tests : tag_in_of v ≡ tag "SE"
+          its_closing_tests : tag_in_of v ≡ tag "SE"
               → closing_in s how.separators.element starts layout segments levels state ≡ closing_checks (profile_of how) h v
-          its-closing-tests e =
+          its_closing_tests e =
               let n = other_tag how.separators g (λ z. se_no_bin (sym e ∙ z)) in
               let total : number_of (element_in s starts layout 1) ≡ value_of (text_of (element_of v 1)) =
               ap number_of (piece_is nt n 1 (omega arith) ∙ sym (se_count how.profile how.separators g elements e)) ∙ counted_number how.profile how.separators g elements e in
               let control : element_in s starts layout 2 ≡ text_of (element_of v 2) =
               piece_is nt n 2 (omega arith) ∙ sym (se_control how.profile how.separators g elements e) in
-              let first = control_of_first how before s segments levels lasts at state gs rows (some-before e) st in
+              let first = control_of_first how before s segments levels lasts at state gs rows (some_before e) st in
               let long : suc state.count ≡ suc (length h) = omega (arith, history_long how gs, st.count_is) in
               let owed : none_owes levels (count_in levels state.levels) ≡ filled (levels_in (profile_of how) h) =
               let all : count_in levels state.levels ≡ length (levels_in (profile_of how) h) = omega (arith, st.holds.room, st.counted) in
@@ -284,8 +284,8 @@ module _ {how : How} {before : Tables} {s : Bytes} {segments levels lasts : List
           se_says = by_closing x (first_broken (closing_in s how.separators.element starts layout segments levels state))
 
           -- what the late rules say
-          judges-late : Judges (profile_of how) rows h v (late_judgement how s starts layout state segments levels (levels_in (profile_of how) h) t x)
-          judges-late = by (eqb t (tag "HL")) (eqb t (tag "SE")) refl refl
+          judges_late : Judges (profile_of how) rows h v (late_judgement how s starts layout state segments levels (levels_in (profile_of how) h) t x)
+          judges_late = by (eqb t (tag "HL")) (eqb t (tag "SE")) refl refl
             where
               by : (a b : Bool) → eqb t (tag "HL") ≡ a → eqb t (tag "SE") ≡ b → Judges (profile_of how) rows h v (cond a hl_says (cond b se_says (Other x)))
               by true b p q =
@@ -294,28 +294,28 @@ module _ {how : How} {before : Tables} {s : Bytes} {segments levels lasts : List
                   (sym (its_claim e)) (by_level (equal_eqb (tag_in_of v) (tag "HL") e))
               by false true p q =
                   let e : tag_in_of v ≡ tag "SE" = sym tag_known ∙ eqb→eq t (tag "SE") (rw q tt) in
-                  subst (λ (cs : List Check). Judges (profile_of how) rows h v (by_closing x (first_broken cs))) (sym (its-closing-tests e)) (by-closing (equal_eqb (tag_in_of v) (tag "SE") e))
+                  subst (λ (cs : List Check). Judges (profile_of how) rows h v (by_closing x (first_broken cs))) (sym (its_closing_tests e)) (by_closing_lem (equal_eqb (tag_in_of v) (tag "SE") e))
               by false false p q =
                   let hl : T (not (is_hl v)) = rw (← tag_known, p) tt in
                   let se : T (not (is_se v)) = rw (← tag_known, q) tt in
-                  let level = no_level (profile_of how) rows h v nt.laid.data_only known-tag ends x fits inside elements hl in
-                  let closing = no-closing (profile_of how) rows h v nt.laid.data_only known-tag ends x fits inside elements se in (
-                    record { kept = all_kept (profile_of how) rows h v nt.laid.data_only known-tag ends x fits inside elements level closing; fits = fits; admitted = inside },
+                  let level = no_level (profile_of how) rows h v nt.laid.data_only known_tag ends x fits inside elements hl in
+                  let closing = no_closing (profile_of how) rows h v nt.laid.data_only known_tag ends x fits inside elements se in (
+                    record { kept = all_kept (profile_of how) rows h v nt.laid.data_only known_tag ends x fits inside elements level closing; fits = fits; admitted = inside },
                     not_passes (is_hl v) hl,
                     se,
                   )
 
         -- 12 to 16, where those hold
-        pub judges-rest : (d : Verdict)
+        pub judges_rest : (d : Verdict)
             → d ≡ first_broken (ruled_checks (profile_of how).elements t (layout_view s starts layout how.separators.component))
             → d ≡ Holds → (j : Judgement) → JudgesLate how s starts layout state segments levels lasts t x j
             → Judges (profile_of how) rows h v j
-        judges-rest d is q j says =
-            let elements = (keeps_holds (ruled_checks (profile_of how).elements (tag_in_of v) v)).0 (sym ruled-is ∙ sym is ∙ q) in
-            subst (λ (j : Judgement). Judges (profile_of how) rows h v j) (sym (says state.count (levels_in (profile_of how) h) st.holds names_free)) (judges-late elements)
+        judges_rest d is q j says =
+            let elements = (keeps_holds (ruled_checks (profile_of how).elements (tag_in_of v) v)).0 (sym ruled_is ∙ sym is ∙ q) in
+            subst (λ (j : Judgement). Judges (profile_of how) rows h v j) (sym (says state.count (levels_in (profile_of how) h) st.holds names_free)) (judges_late elements)
 
         -- none of these is asked of a plain segment
-        pub judges-plain : length (rules_of t).elements ≡ 0 → Judges (profile_of how) rows h v (Other x)
-        judges-plain plain =
-            judges-rest Holds (plain_holds t plain how.profile (layout_view s starts layout how.separators.component)) refl (Other x)
+        pub judges_plain : length (rules_of t).elements ≡ 0 → Judges (profile_of how) rows h v (Other x)
+        judges_plain plain =
+            judges_rest Holds (plain_holds t plain how.profile (layout_view s starts layout how.separators.component)) refl (Other x)
             (plain_late t plain how s starts layout state segments levels lasts x)

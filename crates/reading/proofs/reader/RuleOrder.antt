@@ -25,10 +25,10 @@ use Rattle.gate.proofs.reading.Laws.{as_rules_append}
 
 -- the first of some tests that fails is the first of the rules that is broken, whatever rules follow
 pub first_here : (cs : List Check) (rest : List Rule) (n e : ℕ) → first_broken cs ≡ Broken n e → FirstBroken (as_rules cs ++ rest) n e
-first_here [] rest n e q = absurd (holds-not-broken q)
+first_here [] rest n e q = absurd (holds_not_broken q)
   where
-    holds-not-broken : {n e : ℕ} → Holds ≡ Broken n e → ⊥
-    holds-not-broken q = let z : ◌≡◌ {A = ℕ} 0 1 = ap number q in omega (arith, z)
+    holds_not_broken : {n e : ℕ} → Holds ≡ Broken n e → ⊥
+    holds_not_broken q = let z : ◌≡◌ {A = ℕ} 0 1 = ap number q in omega (arith, z)
       where
         number : Verdict → ℕ
         number Holds = 0
@@ -75,9 +75,9 @@ module _ (profile : Profile) (w : List ℕ) (h : List View) (v : View) where
 
   module _ (bytes : Keeps (byte_checks v)) where
     -- 4
-    pub unknown-tag : 34 ≤ tag_in_of v → FirstBroken (rules profile w h v) 4 0
+    pub unknown_tag : 34 ≤ tag_in_of v → FirstBroken (rules profile w h v) 4 0
     unfolding tag_checks
-    unknown-tag l = rw grouped (first_after (byte_checks v) _ 4 0 bytes (inl ((λ x. rw (le-ltb (tag_in_of v) 34 l) at x), refl, refl)))
+    unknown_tag l = rw grouped (first_after (byte_checks v) _ 4 0 bytes (inl ((λ x. rw (le-ltb (tag_in_of v) 34 l) at x), refl, refl)))
 
     module _ (known : tag_in_of v < 34) where
       tags : Keeps (tag_checks v)
@@ -85,38 +85,38 @@ module _ (profile : Profile) (w : List ℕ) (h : List View) (v : View) where
       tags = (lt→ltb (tag_in_of v) 34 known, tt)
 
       -- 6
-      pub bad-end : (n e : ℕ) → first_broken (end_checks v) ≡ Broken n e → FirstBroken (rules profile w h v) n e
-      bad-end n e q = rw grouped (first_after (byte_checks v) _ n e bytes (first_after (tag_checks v) _ n e tags (first_here (end_checks v) _ n e q)))
+      pub bad_end : (n e : ℕ) → first_broken (end_checks v) ≡ Broken n e → FirstBroken (rules profile w h v) n e
+      bad_end n e q = rw grouped (first_after (byte_checks v) _ n e bytes (first_after (tag_checks v) _ n e tags (first_here (end_checks v) _ n e q)))
 
       module _ (ends : Keeps (end_checks v)) where
-        before-row : (rest : List Rule) (n e : ℕ) → FirstBroken rest n e
+        before_row : (rest : List Rule) (n e : ℕ) → FirstBroken rest n e
             → FirstBroken (as_rules (byte_checks v) ++ (as_rules (tag_checks v) ++ (as_rules (end_checks v) ++ rest))) n e
-        before-row rest n e f = first_after (byte_checks v) _ n e bytes (first_after (tag_checks v) _ n e tags (first_after (end_checks v) rest n e ends f))
+        before_row rest n e f = first_after (byte_checks v) _ n e bytes (first_after (tag_checks v) _ n e tags (first_after (end_checks v) rest n e ends f))
 
         -- 7
         pub no_row : ((r : ℕ) → Fits w (tag_in_of v) r → ⊥) → FirstBroken (rules profile w h v) 7 0
-        no_row none = rw grouped (before-row _ 7 0 (inl ((λ x. none x.0 x.1), refl, refl)))
+        no_row none = rw grouped (before_row _ 7 0 (inl ((λ x. none x.0 x.1), refl, refl)))
 
         -- 24
-        pub not-in-profile : (r : ℕ) → Fits w (tag_in_of v) r → ((x : ℕ) → Fits w (tag_in_of v) x → Admitted profile x → ⊥) → FirstBroken (rules profile w h v) 24 0
-        not-in-profile r fits none = rw grouped (before-row _ 24 0 (inr ((r, fits), inl ((λ x. none x.0 x.1 x.2), refl, refl))))
+        pub not_in_profile : (r : ℕ) → Fits w (tag_in_of v) r → ((x : ℕ) → Fits w (tag_in_of v) x → Admitted profile x → ⊥) → FirstBroken (rules profile w h v) 24 0
+        not_in_profile r fits none = rw grouped (before_row _ 24 0 (inr ((r, fits), inl ((λ x. none x.0 x.1 x.2), refl, refl))))
 
         module _ (r : ℕ) (fits : Fits w (tag_in_of v) r) (inside : Admitted profile r) where
-          after-row : (n e : ℕ) → FirstBroken ruled_on n e → FirstBroken (rules profile w h v) n e
-          after-row n e f = rw grouped (before-row (row_rules profile w v ++ ruled_on) n e (inr ((r, fits), inr ((r, fits, inside), f))))
+          after_row : (n e : ℕ) → FirstBroken ruled_on n e → FirstBroken (rules profile w h v) n e
+          after_row n e f = rw grouped (before_row (row_rules profile w v ++ ruled_on) n e (inr ((r, fits), inr ((r, fits, inside), f))))
 
           -- 9, 8, 10, 11
-          pub bad-element : (n e : ℕ) → first_broken ruled ≡ Broken n e → FirstBroken (rules profile w h v) n e
-          bad-element n e q = after-row n e (first_here ruled level_on n e q)
+          pub bad_element : (n e : ℕ) → first_broken ruled ≡ Broken n e → FirstBroken (rules profile w h v) n e
+          bad_element n e q = after_row n e (first_here ruled level_on n e q)
 
           module _ (elements : Keeps ruled) where
             -- 12, 13, 14, 15 of an HL
-            pub bad-level : T (is_hl v) → (n e : ℕ) → first_broken (level_checks profile.levels (levels_in profile h) (claim_of v)) ≡ Broken n e
+            pub bad_level : T (is_hl v) → (n e : ℕ) → first_broken (level_checks profile.levels (levels_in profile h) (claim_of v)) ≡ Broken n e
                 → FirstBroken (rules profile w h v) n e
             unfolding hl_checks
-            bad-level hl n e q =
+            bad_level hl n e q =
                 let q' : first_broken (hl_checks profile h v) ≡ Broken n e = rw (passes (is_hl v) hl) q in
-                after-row n e (first_after ruled level_on n e elements (first_here (hl_checks profile h v) closing n e q'))
+                after_row n e (first_after ruled level_on n e elements (first_here (hl_checks profile h v) closing n e q'))
 
             -- no HL has no level rules, and no SE no closing rules
             pub no_level : T (not (is_hl v)) → Keeps (hl_checks profile h v)
@@ -127,31 +127,31 @@ module _ (profile : Profile) (w : List ℕ) (h : List View) (v : View) where
                 by true x = absurd x
                 by false x = tt
 
-            pub no-closing : T (not (is_se v)) → Keeps (se_checks profile h v)
+            pub no_closing : T (not (is_se v)) → Keeps (se_checks profile h v)
             unfolding se_checks
-            no-closing x = by (is_se v) x
+            no_closing x = by (is_se v) x
               where
                 by : (b : Bool) → T (not b) → Keeps (cond b (closing_checks profile h v) [])
                 by true x = absurd x
                 by false x = tt
 
-            pub its-level : T (is_hl v) → Keeps (level_checks profile.levels (levels_in profile h) (claim_of v)) → Keeps (hl_checks profile h v)
+            pub its_level : T (is_hl v) → Keeps (level_checks profile.levels (levels_in profile h) (claim_of v)) → Keeps (hl_checks profile h v)
             unfolding hl_checks
-            its-level x k = rw (passes (is_hl v) x) k
+            its_level x k = rw (passes (is_hl v) x) k
 
-            pub its-closing : T (is_se v) → Keeps (closing_checks profile h v) → Keeps (se_checks profile h v)
+            pub its_closing : T (is_se v) → Keeps (closing_checks profile h v) → Keeps (se_checks profile h v)
             unfolding se_checks
-            its-closing x k = rw (passes (is_se v) x) k
+            its_closing x k = rw (passes (is_se v) x) k
 
             -- 16 and 15 of an SE
-            pub bad-closing : T (not (is_hl v)) → T (is_se v) → (n e : ℕ) → first_broken (closing_checks profile h v) ≡ Broken n e
+            pub bad_closing : T (not (is_hl v)) → T (is_se v) → (n e : ℕ) → first_broken (closing_checks profile h v) ≡ Broken n e
                 → FirstBroken (rules profile w h v) n e
             unfolding se_checks
-            bad-closing hl se n e q =
+            bad_closing hl se n e q =
                 let q' : first_broken (se_checks profile h v) ≡ Broken n e = rw (passes (is_se v) se) q in
                 let f : FirstBroken level_on n e =
                 first_after (hl_checks profile h v) closing n e (no_level hl) (rw append-nil at (first_here (se_checks profile h v) [] n e q')) in
-                after-row n e (first_after ruled level_on n e elements f)
+                after_row n e (first_after ruled level_on n e elements f)
 
             -- all hold
             pub all_kept : Keeps (hl_checks profile h v) → Keeps (se_checks profile h v) → Kept profile h v

@@ -30,7 +30,7 @@ use Rattle.reading.specs.declared.judging.State.{State}
 use Rattle.reading.specs.declared.storing.NewLevel.{NewLevel}
 use Rattle.reading.specs.declared.settling.Step.{Step}
 use Rattle.gate.specs.Rules.{Sound}
-use Rattle.reading.proofs.reader.Standings.{standing_refuses, no-segment-room, no-level-room, standing-other, standing-level, standing-closes}
+use Rattle.reading.proofs.reader.Standings.{standing_refuses, no_segment_room, no_level_room, standing_other, standing_level, standing_closes}
 
 -- what a test of room says
 pub room : (b : Bool) (n m : ℕ) → b ≡ ltb n m → not b ≡ false → n < m
@@ -82,27 +82,27 @@ module _ {how : How} {before : Tables} {s : Bytes} {segments levels lasts : List
         keeping = record { more = more; next = t.cut; sound = sound };
         no_room = none;
         number_is = refl;
-        element-is = refl;
+        element_is = refl;
       }))))
 
   pub full_other : (row : ℕ) → j ≡ Other row → length segments / segment_width ≤ state.count → (r : Step) → r ≡ refused_at 17 layout state 0
       → Settles how before s layout state.levels segments levels lasts r
-  full_other row q l = full row (says (Other row) q).0 (no-segment-room t.standing g more t.cut t.whole l)
+  full_other row q l = full row (says (Other row) q).0 (no_segment_room t.standing g more t.cut t.whole l)
 
   pub full_level : (row : ℕ) (level : NewLevel) → j ≡ Level row level → length segments / segment_width ≤ state.count → (r : Step)
       → r ≡ refused_at 17 layout state 0 → Settles how before s layout state.levels segments levels lasts r
   full_level row level q l =
-      full row (says (Level row level) q).0 (no-segment-room t.standing g more t.cut t.whole l)
+      full row (says (Level row level) q).0 (no_segment_room t.standing g more t.cut t.whole l)
 
   pub full_levels : (row : ℕ) (level : NewLevel) → j ≡ Level row level → length levels / level_width ≤ state.levels → (r : Step)
       → r ≡ refused_at 17 layout state 0 → Settles how before s layout state.levels segments levels lasts r
   full_levels row level q l =
       let p = says (Level row level) q in
-      full row p.0 (no-level-room t.standing g more t.cut t.whole p.1 l)
+      full row p.0 (no_level_room t.standing g more t.cut t.whole p.1 l)
 
   pub full_last : (row : ℕ) → j ≡ Last row → length segments / segment_width ≤ state.count → (r : Step) → r ≡ refused_at 17 layout state 0
       → Settles how before s layout state.levels segments levels lasts r
-  full_last row q l = full row (says (Last row) q).0 (no-segment-room t.standing g more t.cut t.whole l)
+  full_last row q l = full row (says (Last row) q).0 (no_segment_room t.standing g more t.cut t.whole l)
 
   -- passed
   pub settles_other : (row : ℕ) → j ≡ Other row → state.count < length segments / segment_width → (segments' : List ℕ)
@@ -113,7 +113,7 @@ module _ {how : How} {before : Tables} {s : Bytes} {segments levels lasts : List
       rw (stored, is, long, ← next_at) (record {
         gs = gs ++ (record { at = layout.at; segment = g } ∷ []);
         rows = rows ++ (row ∷ []);
-        standing = standing-other t.standing g more t.cut t.whole row p.0 p.1 p.2 room;
+        standing = standing_other t.standing g more t.cut t.whole row p.0 p.1 p.2 room;
       })
 
   pub settles_level : (row : ℕ) (level : NewLevel) → j ≡ Level row level → state.count < length segments / segment_width → state.levels < length levels / level_width
@@ -125,7 +125,7 @@ module _ {how : How} {before : Tables} {s : Bytes} {segments levels lasts : List
       rw (stored, stored', listed, is, long, ← next_at) (record {
         gs = gs ++ (record { at = layout.at; segment = g } ∷ []);
         rows = rows ++ (row ∷ []);
-        standing = standing-level t.standing g more t.cut t.whole level p.3 p.4 p.5 t.fit t.short row p.0 p.1 p.2 room level_room;
+        standing = standing_level t.standing g more t.cut t.whole level p.3 p.4 p.5 t.fit t.short row p.0 p.1 p.2 room level_room;
       })
 
   -- accepted
@@ -135,4 +135,4 @@ module _ {how : How} {before : Tables} {s : Bytes} {segments levels lasts : List
   settles_last row q room segments' stored r is =
       let p = says (Last row) q in
       rw (is, stored, long, ← next_at)
-      (standing-closes t.standing g more t.cut t.whole row p.0 p.1 p.2 room)
+      (standing_closes t.standing g more t.cut t.whole row p.0 p.1 p.2 room)

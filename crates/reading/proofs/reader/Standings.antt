@@ -49,7 +49,7 @@ use Rattle.finding.specs.internal.Entries.{count_in}
 use Rattle.finding.specs.internal.Lists.{lists, place_of}
 use Rattle.finding.specs.internal.Notes.{note_of, asks_of, code_in, child_met, plain, cleared}
 use Rattle.finding.proofs.PlainTable.{plain_long, plain_stored, met_long, plain_met}
-use Rattle.finding.proofs.StoredLevels.{holds_none, holds_segment, holds-level, noted_code}
+use Rattle.finding.proofs.StoredLevels.{holds_none, holds_segment, holds_level, noted_code}
 
 -- Tables with records in front
 -- a record stored behind the others is one record more in front
@@ -150,7 +150,7 @@ module _ {how : How} {before : Tables} {s : Bytes} {segments levels lasts : List
       end = at;
       rest = drop at s;
       passed = st.passed;
-      ends = record { number = n; element = e; cause = f; kept-is = refl; numbers-is = refl; place = cc st.count_is };
+      ends = record { number = n; element = e; cause = f; kept_is = refl; numbers_is = refl; place = cc st.count_is };
     };
     tables = λ i. record { segments = st.segments_are i; levels = levels_cleared i };
   }
@@ -171,8 +171,8 @@ module _ {how : How} {before : Tables} {s : Bytes} {segments levels lasts : List
         ∙ drop_at (g ++ how.separators.terminator ∷ []) more (length g + 1) (length-append g (how.separators.terminator ∷ [])) in
         rw e (sym (drop-drop (length g + 1) at s) ∙ ap (drop (length g + 1)) whole ∙ f)
 
-    history-more : onto [] (seen how gs') ≡ v ∷ before_views
-    history-more =
+    history_more : onto [] (seen how gs') ≡ v ∷ before_views
+    history_more =
         ap (onto []) (map-append (λ (p : Placed). view_of how.separators p.segment) gs (record { at = at; segment = g } ∷ []))
         ∙ onto_append [] (seen how gs) (v ∷ [])
 
@@ -180,8 +180,8 @@ module _ {how : How} {before : Tables} {s : Bytes} {segments levels lasts : List
     abbrev stored : ℕ → ℕ → List ℕ
     stored r level = stored_at segment_width segments state.count (at ∷ length g ∷ r ∷ level ∷ [])
 
-    segments-more : (r level : ℕ) → belongs_to before_views v ≡ level → stored r level ≡ over before.segments (segment_records how [] gs' (rows ++ (r ∷ [])))
-    segments-more r level belongs =
+    segments_more : (r level : ℕ) → belongs_to before_views v ≡ level → stored r level ≡ over before.segments (segment_records how [] gs' (rows ++ (r ∷ [])))
+    segments_more r level belongs =
         let numbers = segment_record before_views v (record { at = at; segment = g }) r in
         rw (← belongs)
         (ap (λ (t : List ℕ). stored_at segment_width t state.count numbers) st.segments_are
@@ -190,24 +190,24 @@ module _ {how : How} {before : Tables} {s : Bytes} {segments levels lasts : List
         ∙ ap (over before.segments) (sym (records_more how [] gs rows (record { at = at; segment = g }) r st.rows_are)))
 
     -- room for a segment, and for one that makes a level
-    pub room-other : is_hl v ≡ false → state.count < length segments / segment_width → Room profile before (v ∷ before_views)
-    room-other hl l = record {
+    pub room_other : is_hl v ≡ false → state.count < length segments / segment_width → Room profile before (v ∷ before_views)
+    room_other hl l = record {
       segments_fit = omega (arith, segments_long, history_long how gs, st.count_is);
       levels_fit = rw (levels_other how.profile before_views v hl) st.passed.room.levels_fit;
     }
 
-    pub room-level : is_hl v ≡ true → state.count < length segments / segment_width → state.levels < length levels / level_width → Room profile before (v ∷ before_views)
-    room-level hl l m = record {
+    pub room_level : is_hl v ≡ true → state.count < length segments / segment_width → state.levels < length levels / level_width → Room profile before (v ∷ before_views)
+    room_level hl l m = record {
       segments_fit = omega (arith, segments_long, history_long how gs, st.count_is);
       levels_fit = rw (levels_hl how.profile before_views v hl) (omega (arith, levels_long, st.counted));
     }
 
     -- no room
-    pub no-segment-room : length segments / segment_width ≤ state.count → Room profile before (v ∷ before_views) → ⊥
-    no-segment-room l r = omega (arith, segments_long, history_long how gs, st.count_is, r.segments_fit)
+    pub no_segment_room : length segments / segment_width ≤ state.count → Room profile before (v ∷ before_views) → ⊥
+    no_segment_room l r = omega (arith, segments_long, history_long how gs, st.count_is, r.segments_fit)
 
-    pub no-level-room : is_hl v ≡ true → length levels / level_width ≤ state.levels → Room profile before (v ∷ before_views) → ⊥
-    no-level-room hl l r =
+    pub no_level_room : is_hl v ≡ true → length levels / level_width ≤ state.levels → Room profile before (v ∷ before_views) → ⊥
+    no_level_room hl l r =
         let f : suc (length (levels_in profile before_views)) ≤ length before.levels / level_width = rw (levels_hl how.profile before_views v hl) at r.levels_fit in
         omega (arith, levels_long, st.counted, f)
 
@@ -215,38 +215,38 @@ module _ {how : How} {before : Tables} {s : Bytes} {segments levels lasts : List
     abbrev next : ℕ
     next = start_at how s (at + length g + 1)
 
-    passed-next : (r : ℕ) → Sound profile rows before_views v r → T (not (is_se v)) → Room profile before (v ∷ before_views)
+    passed_next : (r : ℕ) → Sound profile rows before_views v r → T (not (is_se v)) → Room profile before (v ∷ before_views)
         → Passed profile how before s gs' (rows ++ (r ∷ [])) next (drop next s)
-    passed-next r sound o room =
+    passed_next r sound o room =
         let p = passed_more profile how before s gs rows at (drop at s) g more st.passed cut r sound o room in
         let e : skipped_at how s (at + length g + 1) ≡ skip_by how more = rw add-one (ap (skip_by how) (rw add-one at behind)) in
         rw (e, ← drop-drop (skip_by how more) (at + length g + 1) s, behind) p
 
-    count-more : length gs' ≡ state.count + 1
-    count-more = length-append gs (record { at = at; segment = g } ∷ []) ∙ omega (arith, st.count_is)
+    count_more : length gs' ≡ state.count + 1
+    count_more = length-append gs (record { at = at; segment = g } ∷ []) ∙ omega (arith, st.count_is)
 
     rows_more : (r : ℕ) → length (rows ++ (r ∷ [])) ≡ length gs'
-    rows_more r = length-append rows (r ∷ []) ∙ omega (arith, st.rows_are, st.count_is, count-more)
+    rows_more r = length-append rows (r ∷ []) ∙ omega (arith, st.rows_are, st.count_is, count_more)
 
-    again-more : (r : ℕ) → twice 0 false (rows ++ (r ∷ [])) ≡ eqb r state.row
-    again-more r = twice_more 0 false rows r ∙ ap (eqb r) st.row_is
+    again_more : (r : ℕ) → twice 0 false (rows ++ (r ∷ [])) ≡ eqb r state.row
+    again_more r = twice_more 0 false rows r ∙ ap (eqb r) st.row_is
 
     -- a segment that makes no level is passed
-    pub standing-other : (r : ℕ) → Sound profile rows before_views v r → is_hl v ≡ false → T (not (is_se v))
+    pub standing_other : (r : ℕ) → Sound profile rows before_views v r → is_hl v ≡ false → T (not (is_se v))
         → state.count < length segments / segment_width
         → Standing how before s (stored r state.levels) levels lasts next (state_after state r state.levels) gs' (rows ++ (r ∷ []))
-    standing-other r sound hl se room =
+    standing_other r sound hl se room =
         let same : levels_in profile (onto [] (seen how gs')) ≡ levels_in profile before_views =
-        ap (levels_in profile) history-more ∙ levels_other how.profile before_views v hl in
+        ap (levels_in profile) history_more ∙ levels_other how.profile before_views v hl in
         let one : suc state.count ≡ state.count + 1 = omega arith in
         record {
-          passed = passed-next r sound se (room-other hl room);
-          segments_are = segments-more r state.levels (belongs_other profile before_views v se hl ∙ st.counted);
+          passed = passed_next r sound se (room_other hl room);
+          segments_are = segments_more r state.levels (belongs_other profile before_views v se hl ∙ st.counted);
           levels_are = st.levels_are ∙ ap (λ (ls : List Level). over before.levels (records_of ls)) (sym same);
-          count_is = count-more;
+          count_is = count_more;
           rows_are = rows_more r;
           row_is = last_snoc rows 0 r;
-          again_is = again-more r;
+          again_is = again_more r;
           counted = rw same st.counted;
           holds = rw (← one, same) (holds_segment st.holds at (length g) (r ∷ state.levels ∷ []) refl (omega arith));
         }
@@ -277,9 +277,9 @@ module _ {how : How} {before : Tables} {s : Bytes} {segments levels lasts : List
       coded = code_small profile.levels (claim_of v).code
 
       -- without notes it is one record more
-      levels-more : state.levels < length levels / level_width
+      levels_more : state.levels < length levels / level_width
           → plain (suc state.levels) (levels_with levels lasts state.levels (state.count + 1) level) ≡ over before.levels (records_of (new ∷ levels_in profile before_views))
-      levels-more room =
+      levels_more room =
           let n = state.levels in
           let note = note_of level.code level.asks (get_or lasts (level.place % lists) 0) in
           let fits : n < length (child_met levels level.parent) / level_width = rw (met_long levels level.parent) room in
@@ -296,39 +296,39 @@ module _ {how : How} {before : Tables} {s : Bytes} {segments levels lasts : List
           let inside : length g + 1 ≤ length s - at = omega (arith, ap length whole ∙ length-append g (how.separators.terminator ∷ more), length-drop at s) in
           omega (arith, levels_few profile before_views, history_long how gs, leads_few how 0 s gs at (drop at s) st.passed.leads, inside)
 
-      pub standing-level : Fitted how.separators → length s ≤ limit → (r : ℕ) → Sound profile rows before_views v r → is_hl v ≡ true → T (not (is_se v))
+      pub standing_level : Fitted how.separators → length s ≤ limit → (r : ℕ) → Sound profile rows before_views v r → is_hl v ≡ true → T (not (is_se v))
           → state.count < length segments / segment_width → state.levels < length levels / level_width
           → Standing how before s (stored r (state.levels + 1)) (levels_with levels lasts state.levels (state.count + 1) level) (lasts_with lasts state.levels level) next
           (state_after state r (state.levels + 1)) gs' (rows ++ (r ∷ []))
-      standing-level fit short r sound hl se room level_room =
-          let p = passed-next r sound se (room-level hl room level_room) in
+      standing_level fit short r sound hl se room level_room =
+          let p = passed_next r sound se (room_level hl room level_room) in
           let more-levels : levels_in profile (onto [] (seen how gs')) ≡ new ∷ levels_in profile before_views =
-          ap (levels_in profile) history-more ∙ levels_hl how.profile before_views v hl in
+          ap (levels_in profile) history_more ∙ levels_hl how.profile before_views v hl in
           let one : suc state.count ≡ state.count + 1 = omega arith in
           let two : suc state.levels ≡ state.levels + 1 = omega arith in
           let deep : Everyone Within4 (new ∷ levels_in profile before_views) = rw more-levels at (depths how.profile (seen how gs') p.kept) in
           let written = hl_written how.profile how.separators fit s at g more whole sound.kept.elements (eqb→eq (tag_in_of v) (tag "HL") (rw hl tt)) in
           record {
             passed = p;
-            segments_are = segments-more r (state.levels + 1) (belongs_hl profile before_views v se hl ∙ omega (arith, st.counted));
-            levels_are = rw (← two, more-levels) (levels-more level_room);
-            count_is = count-more;
+            segments_are = segments_more r (state.levels + 1) (belongs_hl profile before_views v se hl ∙ omega (arith, st.counted));
+            levels_are = rw (← two, more-levels) (levels_more level_room);
+            count_is = count_more;
             rows_are = rows_more r;
             row_is = last_snoc rows 0 r;
-            again_is = again-more r;
+            again_is = again_more r;
             counted = rw more-levels (omega (arith, st.counted));
             holds = rw (← one, ← two, ← st.counted, more-levels, parent_is, depth_is, code_is, asks, place)
-                (holds-level st.holds at (length g) (r ∷ suc (length (levels_in profile before_views)) ∷ []) refl (omega arith) new (omega (arith, history_long how gs, st.count_is)) deep.0.1
+                (holds_level st.holds at (length g) (r ∷ suc (length (levels_in profile before_views)) ∷ []) refl (omega arith) new (omega (arith, history_long how gs, st.count_is)) deep.0.1
                 coded early (rw st.counted level_room) (few short) written);
           }
 
     -- the SE closes the transaction
-    pub standing-closes : (r : ℕ) → Sound profile rows before_views v r → is_hl v ≡ false → T (is_se v) → state.count < length segments / segment_width
+    pub standing_closes : (r : ℕ) → Sound profile rows before_views v r → is_hl v ≡ false → T (is_se v) → state.count < length segments / segment_width
         → Read profile how s before (Accepted (state.count + 1) state.levels (at + length g + 1))
         (record { segments = stored r 0; levels = cleared state.levels levels })
-    standing-closes r sound hl se room =
+    standing_closes r sound hl se room =
         let same : levels_in profile (onto [] (seen how gs')) ≡ levels_in profile before_views =
-        ap (levels_in profile) history-more ∙ levels_other how.profile before_views v hl in
+        ap (levels_in profile) history_more ∙ levels_other how.profile before_views v hl in
         let are : cleared state.levels levels ≡ over before.levels (level_records profile how gs') =
         levels_cleared ∙ ap (λ (ls : List Level). over before.levels (records_of ls)) (sym same) in
         record {
@@ -345,11 +345,11 @@ module _ {how : How} {before : Tables} {s : Bytes} {segments levels lasts : List
               row = r;
               keeping = record { more = more; next = cut; sound = sound };
               last = se;
-              room = room-other hl room;
-              kept-is = refl;
-              numbers-is = refl;
-              counts = cc (count-more, ap length same ∙ st.counted);
+              room = room_other hl room;
+              kept_is = refl;
+              numbers_is = refl;
+              counts = cc (count_more, ap length same ∙ st.counted);
             };
           };
-          tables = λ i. record { segments = segments-more r 0 (belongs_se profile before_views v se) i; levels = are i };
+          tables = λ i. record { segments = segments_more r 0 (belongs_se profile before_views v se) i; levels = are i };
         }

@@ -9,8 +9,8 @@ use borrow.Author.Tests.{not-true, not-false}
 use Rattle.text.specs.View.{Piece}
 use Rattle.elements.specs.internal.Layouts.{components_in}
 use Rattle.elements.specs.internal.Verdicts.{rules_of, complete_at_of, suits_at_of}
-use Rattle.elements.proofs.ElementPass.{Judged, judged_none, judged_first, judged_kept, judged-missing, judged-unfit, judged-all, complete_at, suits_at}
-use Rattle.elements.proofs.ByLayout.{element_early, element-at}
+use Rattle.elements.proofs.ElementPass.{Judged, judged_none, judged_first, judged_kept, judged_missing, judged_unfit, judged_all, complete_at, suits_at}
+use Rattle.elements.proofs.ByLayout.{element_early, element_at}
 use native.Mathlib.Omega.{arith}
 use borrow.Author.Rules.{rules}
 use Rattle.elements.proofs.fitting.elements_verdict.Statement.{statement}
@@ -39,7 +39,7 @@ complete-here : (c : tie.After-is-complete invariant-loop decreases-loop)
 complete-here c =
     c.is-complete.ensures
     ∙ complete_at _ _ _ c.before.before.rule-of.result _ c.before.before.rule-of.ensures.same
-    (element-at _ _ _ _ _ _ (c.before.element.ensures ∙ element_early _ _ _ _ (below c.before.before.before)))
+    (element_at _ _ _ _ _ _ (c.before.element.ensures ∙ element_early _ _ _ _ (below c.before.before.before)))
 
 suited-here : (c : tie.After-is-suited invariant-loop decreases-loop)
     → c.is-suited.result ≡ suits_at_of (rules_of c.before.before.before.before.before.before.before.before.args.tag)
@@ -47,7 +47,7 @@ suited-here : (c : tie.After-is-suited invariant-loop decreases-loop)
 suited-here c =
     c.is-suited.ensures
     ∙ suits_at _ _ _ c.before.before.before.before.rule-of.result _ c.before.before.before.before.rule-of.ensures.same
-    (element-at _ _ _ _ _ _ (c.before.before.before.element.ensures ∙ element_early _ _ _ _ (below c.before.before.before.before.before)))
+    (element_at _ _ _ _ _ _ (c.before.before.before.element.ensures ∙ element_early _ _ _ _ (below c.before.before.before.before.before)))
 
 loop-holds : tie.Need-loop-init invariant-loop decreases-loop
 loop-holds c = (judged_none _ _, omega arith)
@@ -62,7 +62,7 @@ is-complete-requires : tie.Need-is-complete-requires invariant-loop decreases-lo
 is-complete-requires c κs = search rules
 
 returns : tie.Need-returns invariant-loop decreases-loop
-returns c = judged-missing c.before.before.before.before.before.loop.invariant.0 _ c.before.before.before.before.loop-test.true
+returns c = judged_missing c.before.before.before.before.before.loop.invariant.0 _ c.before.before.before.before.loop-test.true
     (sym (complete-here c.before) ∙ not-true c.before.is-complete.result c.if1.true)
 
 is-suited-requires : tie.Need-is-suited-requires invariant-loop decreases-loop
@@ -87,10 +87,10 @@ loop-again c =
     )
 
 returns-2 : tie.Need-returns-2 invariant-loop decreases-loop
-returns-2 c = judged-unfit c.before.before.loop.invariant.0 _ c.before.loop-test.false c.before.before.loop.invariant.1 c.if3.true
+returns-2 c = judged_unfit c.before.before.loop.invariant.0 _ c.before.loop-test.false c.before.before.loop.invariant.1 c.if3.true
 
 returns-3 : tie.Need-returns-3 invariant-loop decreases-loop
-returns-3 c = judged-all c.before.before.loop.invariant.0 _ c.before.loop-test.false c.before.before.loop.invariant.1 c.if3.false
+returns-3 c = judged_all c.before.before.loop.invariant.0 _ c.before.loop-test.false c.before.before.loop.invariant.1 c.if3.false
 
 pub elements-verdict-spec : {M : Type 1} → statement M
 elements-verdict-spec =

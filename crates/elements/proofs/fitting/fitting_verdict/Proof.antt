@@ -8,7 +8,7 @@ use Rattle.elements.specs.internal.Layouts.{components_in}
 use Rattle.elements.specs.internal.Verdicts.{rules_of, last_must}
 use Rattle.elements.specs.internal.Table.{extent_of}
 use Rattle.elements.specs.declared.rules.Extent.{Extent}
-use Rattle.elements.proofs.ByLayout.{at-past}
+use Rattle.elements.proofs.ByLayout.{at_past}
 use Rattle.elements.proofs.EveryTag.{last_small, needed_last}
 use Rattle.elements.proofs.ElementPass.{elements_reached}
 use native.Mathlib.Omega.{arith}
@@ -53,7 +53,7 @@ elements-verdict-requires c κs = omega (arith, near c, last_small c.before.befo
 returns : tie.Need-returns
 returns c =
     let start = c.before.before.before.before in
-    c.elements-verdict.ensures ∙ elements_reached start.args.tag start.args.layout.count _ (at start) (at-past _ _ _ _) (far c.before) (enough c.before) (near c.before)
+    c.elements-verdict.ensures ∙ elements_reached start.args.tag start.args.layout.count _ (at start) (at_past _ _ _ _) (far c.before) (enough c.before) (near c.before)
 
 pub fitting-verdict-spec : {M : Type 1} → statement M
 fitting-verdict-spec =

@@ -4,7 +4,7 @@ use Prim.Native.Nat.{◌-◌}
 use native.Mathlib.Omega.{arith}
 use lib.ListN.{length}
 use borrow.Author.Tests.{not-true, not-false}
-use Rattle.finding.proofs.LevelSearch.{Seeks, Compares, seeks_all, sought_nowhere, seeks-other-end, compares-none, compares-inside, compares-more, compares-next, seeks-other-byte, sought-met}
+use Rattle.finding.proofs.LevelSearch.{Seeks, Compares, seeks_all, sought_nowhere, seeks_other_end, compares_none, compares_inside, compares_more, compares_next, seeks_other_byte, sought_met}
 use borrow.Author.Rules.{rules}
 use Rattle.finding.proofs.search.find.Statement.{statement}
 use Rattle.finding.proofs.search.find.Tie as tie
@@ -48,7 +48,7 @@ levels-again c =
     let placed = ended.before in
     let next = placed.before in
     let round = next.before in
-    seeks-other-end round.before.levels.invariant round.levels-test.true next.before2.ensures placed.id-start.ensures
+    seeks_other_end round.before.levels.invariant round.levels-test.true next.before2.ensures placed.id-start.ensures
     (rw (not-true ended.may-end.result c.if1.true) at ended.may-end.ensures)
 
 loop-holds : tie.Need-loop-init invariant-loop decreases-loop invariant-levels decreases-levels
@@ -57,23 +57,23 @@ loop-holds c =
     let placed = ended.before in
     let next = placed.before in
     let round = next.before in
-    compares-none round.before.levels.invariant round.levels-test.true next.before2.ensures placed.id-start.ensures
+    compares_none round.before.levels.invariant round.levels-test.true next.before2.ensures placed.id-start.ensures
     (rw (not-false ended.may-end.result c.if1.false) at ended.may-end.ensures)
 
 add-if2 : tie.Need-overflow-add-if2 invariant-loop decreases-loop invariant-levels decreases-levels
-add-if2 c = omega (arith, compares-inside c.before.loop.invariant c.loop-test.true)
+add-if2 c = omega (arith, compares_inside c.before.loop.invariant c.loop-test.true)
 
 shared-slice-read-if2 : tie.Need-shared-slice-read-if2 invariant-loop decreases-loop invariant-levels decreases-levels
-shared-slice-read-if2 c = compares-inside c.before.before.loop.invariant c.before.loop-test.true
+shared-slice-read-if2 c = compares_inside c.before.before.loop.invariant c.before.loop-test.true
 
 shared-slice-read-if2-2 : tie.Need-shared-slice-read-if2-2 invariant-loop decreases-loop invariant-levels decreases-levels
 shared-slice-read-if2-2 c = search rules
 
 levels-less-2 : tie.Need-levels-smaller-2 invariant-loop decreases-loop invariant-levels decreases-levels
-levels-less-2 c = compares-next c.before.before.before.before.loop.invariant
+levels-less-2 c = compares_next c.before.before.before.before.loop.invariant
 
 levels-again-2 : tie.Need-levels-preserved-2 invariant-loop decreases-loop invariant-levels decreases-levels
-levels-again-2 c = seeks-other-byte c.before.before.before.before.loop.invariant c.before.before.before.loop-test.true c.if2.true
+levels-again-2 c = seeks_other_byte c.before.before.before.before.loop.invariant c.before.before.before.loop-test.true c.if2.true
 
 add-i : tie.Need-overflow-add-i invariant-loop decreases-loop invariant-levels decreases-levels
 add-i c = search rules
@@ -82,10 +82,10 @@ loop-less : tie.Need-loop-smaller invariant-loop decreases-loop invariant-levels
 loop-less c = search rules
 
 loop-again : tie.Need-loop-preserved invariant-loop decreases-loop invariant-levels decreases-levels
-loop-again c = compares-more c.before.before.before.before.loop.invariant c.if2.false
+loop-again c = compares_more c.before.before.before.before.loop.invariant c.if2.false
 
 returns : tie.Need-returns invariant-loop decreases-loop invariant-levels decreases-levels
-returns c = sought-met c.before.loop.invariant c.loop-test.false
+returns c = sought_met c.before.loop.invariant c.loop-test.false
 
 returns-2 : tie.Need-returns-2 invariant-loop decreases-loop invariant-levels decreases-levels
 returns-2 c = sought_nowhere c.before.levels.invariant c.levels-test.false

@@ -2,7 +2,7 @@
 -- Assumes nothing.
 use mathlib.Core.Path.{sym, ◌∙◌}
 use Rattle.levels.specs.Profile.{level_profile}
-use Rattle.levels.proofs.MarkTests.{fits_absent, fits-zero, fits_one}
+use Rattle.levels.proofs.MarkTests.{fits_absent, fits_zero, fits_one}
 use borrow.Author.Rules.{rules}
 use Rattle.levels.proofs.marks.mark_fits.Statement.{statement}
 use Rattle.levels.proofs.marks.mark_fits.Tie as tie
@@ -16,7 +16,7 @@ is-mark-requires c κs = search rules
 returns-2 : tie.Need-returns-2
 returns-2 c =
     let a = c.before.before.before.before.args in
-    fits-zero (level_profile a.profile) a.code a.mark.now c.before.before.if1.false (sym c.if2.true ∙ c.before.is-mark.ensures)
+    fits_zero (level_profile a.profile) a.code a.mark.now c.before.before.if1.false (sym c.if2.true ∙ c.before.is-mark.ensures)
 
 is-mark-requires-2 : tie.Need-is-mark-requires-2
 is-mark-requires-2 c κs = search rules

@@ -6,7 +6,7 @@ use native.Mathlib.Omega.{arith}
 use borrow.Author.Rules.{rules}
 use borrow.Author.Tests.{eqb-true, eqb-false, leb-true, leb-false}
 use Prim.Native.Nat.{◌≤◌, ◌<◌}
-use Rattle.numbering.proofs.Lookup.{start_st, start_other, row_outside, tag_outside, no_row, third-refused, other-maximum, other_row, first-time}
+use Rattle.numbering.proofs.Lookup.{start_st, start_other, row_outside, tag_outside, no_row, third_refused, other_maximum, other_row, first_time}
 use Rattle.numbering.proofs.next.row_after.Statement.{statement}
 use Rattle.numbering.proofs.next.row_after.Tie as tie
 
@@ -43,7 +43,7 @@ returns-5 : tie.Need-returns-5
 returns-5 c =
     let n = c.before.before.before.before in
     let k = n.before.before in
-    third-refused (low k) (high k) (tag_in k) n.if5.false c.before.before.before.if6.true
+    third_refused (low k) (high k) (tag_in k) n.if5.false c.before.before.before.if6.true
     (omega (arith, eqb-true, c.before.before.if7.true)) (sym c.before.at_most_two.ensures ∙ c.if8.true)
 
 returns-6 : tie.Need-returns-6
@@ -52,10 +52,10 @@ returns-6 c =
     let k = n.before.before in
     let h = n.if5.false in
     ⊎_elim
-    (λ w. other-maximum (low k) (high k) (tag_in k) h w.0.taken (omega (arith, eqb-true, w.1.taken)) (sym w.2.ensures ∙ w.3.left))
+    (λ w. other_maximum (low k) (high k) (tag_in k) h w.0.taken (omega (arith, eqb-true, w.1.taken)) (sym w.2.ensures ∙ w.3.left))
     (⊎_elim
     (λ w. other_row (low k) (high k) (tag_in k) h w.0.taken (λ e. omega (arith, eqb-false, w.1.left)))
-    (λ w. first-time (low k) (high k) (tag_in k) h w.left))
+    (λ w. first_time (low k) (high k) (tag_in k) h w.left))
     c.if6.branch
 
 pub row-after-spec : {M : Type 1} → statement M

@@ -1,7 +1,7 @@
 -- `is_fit` meets its contract, test by test.
 -- Assumes nothing.
 use native.Mathlib.Omega.{arith}
-use Rattle.outline.proofs.FitTests.{not_outside, top_decides, outside-unfit, child-decides}
+use Rattle.outline.proofs.FitTests.{not_outside, top_decides, outside_unfit, child_decides}
 use borrow.Author.Rules.{rules}
 use Rattle.outline.proofs.fitting.is_fit.Statement.{statement}
 use Rattle.outline.proofs.fitting.is_fit.Tie as tie
@@ -23,7 +23,7 @@ returns-2 c =
     let depth = c.before.before in
     let parent = depth.before in
     let a = parent.before.before.args in
-    outside-unfit a.levels.now a.k parent.parent_in_lem.ensures depth.depth-in.ensures c.before.if1.false c.if2.true
+    outside_unfit a.levels.now a.k parent.parent_in_lem.ensures depth.depth-in.ensures c.before.if1.false c.if2.true
 
 depth-in-requires-2 : tie.Need-depth-in-requires-2
 depth-in-requires-2 c κs =
@@ -45,7 +45,7 @@ returns-3 c =
     let depth = c.before.before.before in
     let parent = depth.before in
     let a = parent.before.before.args in
-    child-decides a.levels.now a.k parent.parent_in_lem.ensures depth.depth-in.ensures c.before.before.if1.false c.before.if2.false
+    child_decides a.levels.now a.k parent.parent_in_lem.ensures depth.depth-in.ensures c.before.before.if1.false c.before.if2.false
     c.depth-in2.ensures
 
 pub is-fit-spec : {M : Type 1} → statement M

@@ -10,12 +10,12 @@ use Rattle.outline.proofs.WalkSteps.{
   Visited,
   beneath,
   visited_none,
-  visited-other,
-  visited-child,
-  child-room,
-  output-long,
-  listed-all,
-  listed-ended,
+  visited_other,
+  visited_child,
+  child_room,
+  output_long,
+  listed_all,
+  listed_ended,
   listed_deepest,
 }
 use borrow.Author.Rules.{rules}
@@ -74,9 +74,9 @@ child_fits t c =
     let round = c.before.before.before.before.before in
     let loop = round.before.before in
     let start = loop.before.before.before.before in (
-      child-room loop.loop.invariant round.if2.true (sym c.before.parent_in_lem.ensures ∙ c.if4.true) loop.before.if1.true
+      child_room loop.loop.invariant round.if2.true (sym c.before.parent_in_lem.ensures ∙ c.if4.true) loop.before.if1.true
           start.requires.1.1.1.1.1,
-      omega (arith, output-long loop.loop.invariant, start.well-formed.1.1.1.1.0),
+      omega (arith, output_long loop.loop.invariant, start.well-formed.1.1.1.1.0),
     )
 
 mul-output : (t : ℕ) → lts.Need-overflow-mul-output (claims t) (asked t) walk-under.Post invariant-loop decreases-loop
@@ -116,7 +116,7 @@ loop-again t c =
     let call = c.before.before in
     let child = call.before.before in
     let round = child.before.before.before.before.before in
-    visited-child round.before.before.loop.invariant round.if2.true (sym child.before.parent_in_lem.ensures ∙ child.if4.true) call.walk-under.ensures
+    visited_child round.before.before.loop.invariant round.if2.true (sym child.before.parent_in_lem.ensures ∙ child.if4.true) call.walk-under.ensures
 
 loop-less-2 : (t : ℕ) → lts.Need-loop-smaller-2 (claims t) (asked t) walk-under.Post invariant-loop decreases-loop
 loop-less-2 t c = omega arith
@@ -124,25 +124,25 @@ loop-less-2 t c = omega arith
 loop-again-2 : (t : ℕ) → lts.Need-loop-preserved-2 (claims t) (asked t) walk-under.Post invariant-loop decreases-loop
 loop-again-2 t c =
     let round = c.before.before.before.before.before in
-    visited-other round.before.before.loop.invariant round.if2.true (λ e. c.if4.false (c.before.parent_in_lem.ensures ∙ e))
+    visited_other round.before.before.loop.invariant round.if2.true (λ e. c.if4.false (c.before.parent_in_lem.ensures ∙ e))
 
 same_length : (t : ℕ) → lts.Need-same-length (claims t) (asked t) walk-under.Post invariant-loop decreases-loop
-same_length t c = output-long c.before.before.loop.invariant
+same_length t c = output_long c.before.before.loop.invariant
 
 returns : (t : ℕ) → lts.Need-returns (claims t) (asked t) walk-under.Post invariant-loop decreases-loop
 returns t c =
     let loop = c.before.before in
-    listed-all loop.loop.invariant loop.before.if1.true c.if2.false
+    listed_all loop.loop.invariant loop.before.if1.true c.if2.false
 
 same-length-2 : (t : ℕ) → lts.Need-same-length-2 (claims t) (asked t) walk-under.Post invariant-loop decreases-loop
-same-length-2 t c = output-long c.before.before.before.before.before.loop.invariant
+same-length-2 t c = output_long c.before.before.before.before.before.loop.invariant
 
 returns-2 : (t : ℕ) → lts.Need-returns-2 (claims t) (asked t) walk-under.Post invariant-loop decreases-loop
 returns-2 t c =
     let round = c.before.before.before in
     let loop = round.before.before in
     let pre = loop.before.before.before.before.requires.1 in
-    listed-ended loop.loop.invariant round.if2.true loop.before.if1.true pre.1.0 pre.1.1.0 pre.1.1.1.0.1 c.before.depth-in.ensures
+    listed_ended loop.loop.invariant round.if2.true loop.before.if1.true pre.1.0 pre.1.1.0 pre.1.1.1.0.1 c.before.depth-in.ensures
     c.if3.true
 
 returns-3 : (t : ℕ) → lts.Need-returns-3 (claims t) (asked t) walk-under.Post invariant-loop decreases-loop

@@ -4,7 +4,7 @@ use mathlib.Core.Path.{refl}
 use mathlib.Core.Logic.{inl, inr}
 use native.Mathlib.Omega.{arith}
 use Rattle.outline.specs.Walks.{FitTable}
-use Rattle.outline.proofs.WalkAnswers.{unfit_found, unfit_none, list-fits, list_written}
+use Rattle.outline.proofs.WalkAnswers.{unfit_found, unfit_none, list_fits, list_written}
 use borrow.Author.Rules.{rules}
 use Rattle.outline.proofs.walking.walk.Statement.{statement}
 use Rattle.outline.proofs.walking.walk.Tie as tie
@@ -51,7 +51,7 @@ walk-under-requires c κs =
     let tested = c.before.before in
     let a = tested.before.before.before.before.before.before.args in
     let all = fit tested.before in
-    let room = list-fits a.levels.now a.count all a.output.now tested.if3.false in
+    let room = list_fits a.levels.now a.count all a.output.now tested.if3.false in
     (search rules, (all, (c.before.last-stray.ensures, ((omega arith, refl), omega arith))))
 
 same_length : tie.Need-same-length

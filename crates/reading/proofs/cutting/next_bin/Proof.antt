@@ -1,7 +1,7 @@
 -- `next_bin` meets its contract: the count, and the jump behind it, as `BinCuts` says.
 -- Assumes nothing.
 use native.Mathlib.Omega.{arith}
-use Rattle.reading.proofs.cut.BinCuts.{marked_inside, count-open, count-broken, attached-low, attached-high, counted-cuts}
+use Rattle.reading.proofs.cut.BinCuts.{marked_inside, count_open, count_broken, attached_low, attached_high, counted_cuts}
 use borrow.Author.Rules.{rules}
 use Rattle.reading.proofs.cutting.next_bin.Statement.{statement}
 use Rattle.reading.proofs.cutting.next_bin.Tie as tie
@@ -22,7 +22,7 @@ add-next-counted c =
     let found = c.before in
     let counted = found.before.before in
     let a = counted.before.before.args in
-    record { fits = omega (arith, attached-high a.separators a.s.now a.at counted.before.before.requires.1.0 _ counted.count.ensures _ _ found.number.given.1) }
+    record { fits = omega (arith, attached_high a.separators a.s.now a.at counted.before.before.requires.1.0 _ counted.count.ensures _ _ found.number.given.1) }
 
 next-counted-requires : tie.Need-next-counted-requires
 next-counted-requires c κs =
@@ -32,8 +32,8 @@ next-counted-requires c κs =
     let pre = counted.before.before.requires in (
       pre.1.1,
       (
-        attached-low a.separators a.s.now a.at pre.1.0 _ counted.count.ensures _ _ found.number.given.1,
-        attached-high a.separators a.s.now a.at pre.1.0 _ counted.count.ensures _ _ found.number.given.1,
+        attached_low a.separators a.s.now a.at pre.1.0 _ counted.count.ensures _ _ found.number.given.1,
+        attached_high a.separators a.s.now a.at pre.1.0 _ counted.count.ensures _ _ found.number.given.1,
       ),
     )
 
@@ -49,19 +49,19 @@ returns c =
     let counted = found.before.before in
     let a = counted.before.before.args in
     let pre = counted.before.before.requires in
-    counted-cuts a.separators a.s.now a.at pre.1.0 _ counted.count.ensures _ _ found.number.given.1 _ _ pre.1.1 c.next-counted.result c.next-counted.ensures
+    counted_cuts a.separators a.s.now a.at pre.1.0 _ counted.count.ensures _ _ found.number.given.1 _ _ pre.1.1 c.next-counted.result c.next-counted.ensures
 
 returns-2 : tie.Need-returns-2
 returns-2 c =
     let counted = c.before.before in
     let a = counted.before.before.args in
-    count-open a.separators a.s.now a.at counted.before.before.requires.1.0 _ counted.count.ensures c.enum_told.given.1
+    count_open a.separators a.s.now a.at counted.before.before.requires.1.0 _ counted.count.ensures c.enum_told.given.1
 
 returns-3 : tie.Need-returns-3
 returns-3 c =
     let counted = c.before.before in
     let a = counted.before.before.args in
-    count-broken a.separators a.s.now a.at counted.before.before.requires.1.0 _ counted.count.ensures c.enum-told2.given.1
+    count_broken a.separators a.s.now a.at counted.before.before.requires.1.0 _ counted.count.ensures c.enum-told2.given.1
 
 pub next-bin-spec : {M : Type 1} → statement M
 next-bin-spec =

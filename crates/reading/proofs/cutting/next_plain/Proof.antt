@@ -5,8 +5,8 @@ use Prim.Native.Nat.{◌-◌}
 use native.Mathlib.Omega.{arith}
 use lib.ListN.{length}
 use borrow.Author.Rules.{rules}
-use Rattle.reading.proofs.cut.Walk.{Walk, walk_none, count_small, inside, on-element, on-component, on_refill}
-use Rattle.reading.proofs.cut.Exits.{at_end, at-bad, at_last}
+use Rattle.reading.proofs.cut.Walk.{Walk, walk_none, count_small, inside, on_element, on_component, on_refill}
+use Rattle.reading.proofs.cut.Exits.{at_end, at_bad, at_last}
 use Rattle.reading.proofs.cutting.next_plain.Statement.{statement}
 use Rattle.reading.proofs.cutting.next_plain.Tie as tie
 
@@ -65,7 +65,7 @@ loop2-less c = search rules
 loop2-again : tie.Need-loop2-preserved invariant-loop2 decreases-loop2 invariant-loop decreases-loop
 loop2-again c =
     rw c.keep-start.ensures
-    (on-element c.before.before.before.before.before.before.before.loop2.invariant c.before.before.before.before.before.before.loop2-test.true
+    (on_element c.before.before.before.before.before.before.before.loop2.invariant c.before.before.before.before.before.before.loop2-test.true
     c.before.before.if1.true)
 
 layout-of-requires : tie.Need-layout-of-requires invariant-loop2 decreases-loop2 invariant-loop decreases-loop
@@ -82,7 +82,7 @@ stop-requires c κs = search rules
 
 returns-2 : tie.Need-returns-2 invariant-loop2 decreases-loop2 invariant-loop decreases-loop
 returns-2 c =
-    at-bad c.before.before.before.before.before.before.before.before.before.before.loop2.invariant
+    at_bad c.before.before.before.before.before.before.before.before.before.before.loop2.invariant
     c.before.before.before.before.before.before.before.before.before.loop2-test.true c.before.before.before.before.before.if1.false
     c.before.if3.true c.before.before.before.if2.false c.stop.result c.stop.ensures
 
@@ -100,7 +100,7 @@ loop2-less-2 c = search rules
 
 loop2-again-2 : tie.Need-loop2-preserved-2 invariant-loop2 decreases-loop2 invariant-loop decreases-loop
 loop2-again-2 c =
-    on-component c.before.before.before.before.before.before.before.before.before.loop2.invariant
+    on_component c.before.before.before.before.before.before.before.before.before.loop2.invariant
     c.before.before.before.before.before.before.before.before.loop2-test.true c.if3.false
 
 returns-3 : tie.Need-returns-3 invariant-loop2 decreases-loop2 invariant-loop decreases-loop

@@ -4,7 +4,7 @@ use mathlib.Core.Path.{◌≡◌, subst}
 use mathlib.Core.Bool.{Bool, true, false, not}
 use native.Mathlib.Omega.{arith}
 use lib.Dec.{T}
-use Rattle.reading.proofs.reader.JudgeSteps.{judges_tag, judges-end}
+use Rattle.reading.proofs.reader.JudgeSteps.{judges_tag, judges_end}
 use Rattle.reading.specs.internal.Judgements.{KnownTag}
 use borrow.Author.Rules.{rules}
 use Rattle.reading.proofs.judging.judge.Statement.{statement}
@@ -27,7 +27,7 @@ bad-end-requires c κs = search rules
 
 returns-2 : tie.Need-returns-2
 returns-2 c = λ before gs rows g more fit nt st.
-    judges-end fit nt st _ c.before.before.before.before.tag_of.ensures (omega (arith, c.before.before.before.if1.false)) (rw c.before.if2.true tt) _ c.bad-end.ensures
+    judges_end fit nt st _ c.before.before.before.before.tag_of.ensures (omega (arith, c.before.before.before.if1.false)) (rw c.before.if2.true tt) _ c.bad_end.ensures
 
 judge-known-requires : tie.Need-judge-known-requires
 judge-known-requires c κs =

@@ -1,6 +1,6 @@
 -- `judge_known` meets its contract: the row, the profile, and, where the segment is not plain, the elements and the late rules, as `JudgeSteps` says.
 -- Assumes nothing.
-use Rattle.reading.proofs.reader.JudgeSteps.{judges-row, judges-outside, judges-plain, judges-element, judges-rest}
+use Rattle.reading.proofs.reader.JudgeSteps.{judges_row, judges_outside, judges_plain, judges_element, judges_rest}
 use mathlib.Core.Path.{sym, ◌∙◌}
 use borrow.Author.Tests.{not-true, not-false, eqb-true}
 use Rattle.gate.specs.Profile.{profile_of}
@@ -23,7 +23,7 @@ row-after-requires c κs = search rules
 returns : tie.Need-returns
 returns c = λ before gs rows g more fit nt st.
     let pre = (start c.before).requires in
-    judges-row fit nt st _ pre.1.tagged pre.1.listed pre.1.ended _ pre.0 c.before.row-after.ensures c.if1.true
+    judges_row fit nt st _ pre.1.tagged pre.1.listed pre.1.ended _ pre.0 c.before.row-after.ensures c.if1.true
 
 admits-requires : tie.Need-admits-requires
 admits-requires c κs = search rules
@@ -33,7 +33,7 @@ returns-2 c = λ before gs rows g more fit nt st.
     let asked = c.before in
     let rowed = asked.before in
     let pre = (start rowed.before).requires in
-    judges-outside fit nt st _ pre.1.tagged pre.1.listed pre.1.ended _ pre.0 rowed.before.row-after.ensures rowed.if1.false
+    judges_outside fit nt st _ pre.1.tagged pre.1.listed pre.1.ended _ pre.0 rowed.before.row-after.ensures rowed.if1.false
     (λ a. rw (sym asked.admits.ensures ∙ not-true asked.admits.result c.if2.true) at a)
 
 is-plain-requires : tie.Need-is-plain-requires
@@ -46,7 +46,7 @@ returns-3 c = λ before gs rows g more fit nt st.
     let rowed = admitted.before.before in
     let at = start rowed.before in
     let pre = at.pre in
-    judges-plain fit nt st _ pre.1.tagged pre.1.listed pre.1.ended _ pre.0 rowed.before.row-after.ensures rowed.if1.false
+    judges_plain fit nt st _ pre.1.tagged pre.1.listed pre.1.ended _ pre.0 rowed.before.row-after.ensures rowed.if1.false
     (inside admitted) (eqb-true _ 0 (sym asked.is_plain.ensures ∙ c.if3.true))
 
 ruled-verdict-requires : tie.Need-ruled-verdict-requires
@@ -67,7 +67,7 @@ returns-4 c = λ before gs rows g more fit nt st.
     let admitted = ruled.before.before.before in
     let rowed = admitted.before.before in
     let pre = (start rowed.before).requires in
-    judges-element fit nt st _ pre.1.tagged pre.1.listed pre.1.ended _ pre.0 rowed.before.row-after.ensures rowed.if1.false
+    judges_element fit nt st _ pre.1.tagged pre.1.listed pre.1.ended _ pre.0 rowed.before.row-after.ensures rowed.if1.false
     (inside admitted) _ ruled.ruled-verdict.ensures _ _ c.before.number.given.1
 
 returns-5 : tie.Need-returns-5
@@ -77,7 +77,7 @@ returns-5 c = λ before gs rows g more fit nt st.
     let rowed = admitted.before.before in
     let at = start rowed.before in
     let pre = at.pre in
-    judges-rest fit nt st _ pre.1.tagged pre.1.listed pre.1.ended _ pre.0 rowed.before.row-after.ensures rowed.if1.false
+    judges_rest fit nt st _ pre.1.tagged pre.1.listed pre.1.ended _ pre.0 rowed.before.row-after.ensures rowed.if1.false
     (inside admitted) _ ruled.ruled-verdict.ensures c.before.enum_told.given.1 _ c.judge-late.ensures
 
 pub judge-known-spec : {M : Type 1} → statement M

@@ -7,7 +7,7 @@ use Rattle.text.specs.Bytes.{Bytes}
 use Rattle.types.specs.Types.{number_of}
 use Rattle.elements.specs.internal.Layouts.{element_in}
 use Rattle.reading.specs.internal.Judgements.{opening_control}
-use Rattle.reading.proofs.reader.ClosingTests.{no_number, other_number, other-control, not_full, all_closed, same_by}
+use Rattle.reading.proofs.reader.ClosingTests.{no_number, other_number, other_control, not_full, all_closed, same_by}
 use Rattle.finding.specs.internal.Entries.{count_in}
 use Rattle.finding.specs.internal.Answers.{none_owes}
 use borrow.Author.Rules.{rules}
@@ -69,7 +69,7 @@ returns-3 c =
     let some = right.before.before in
     let told = some.before in
     let at = start told in
-    other-control (counted told) at.args.state.count (control at) (opening at) (full at) some.if1.false right.if2.false
+    other_control (counted told) at.args.state.count (control at) (opening at) (full at) some.if1.false right.if2.false
     (same_by compared.same_bytes.ensures se.element2.ensures st.opening-control.ensures false (not-true _ c.if3.true))
 
 all-filled-requires : tie.Need-all-filled-requires

@@ -9,7 +9,7 @@ use Rattle.text.specs.internal.Search.{Free}
 use Rattle.levels.specs.Profile.{level_profile}
 use Rattle.levels.specs.Levels.{Claim, Level, called, level_at}
 use Rattle.levels.proofs.CalledLevel.{called_below}
-use Rattle.levels.proofs.HlAnswers.{judged_used, judged-root, judged-nobody, judged-child}
+use Rattle.levels.proofs.HlAnswers.{judged_used, judged_root_lem, judged_nobody, judged_child_lem}
 use Rattle.reading.specs.internal.Judgements.{claim_in}
 use Rattle.finding.specs.internal.Lists.{place_of}
 use Rattle.finding.specs.internal.Answers.{sought}
@@ -78,7 +78,7 @@ returns-2 c = λ m ls h f e.
     let new = parent.before in
     let at = start new.before.before in
     rw (code.element3.ensures, mark.element4.ensures) at c.judge-root.ensures
-    ∙ judged-root (level_profile at.args.profile) ls (claim at) (sym (own-found new.before m ls h f.0 e) ∙ new.if1.false) (ap length (sym parent.element2.ensures) ∙ c.before.if2.true)
+    ∙ judged_root_lem (level_profile at.args.profile) ls (claim at) (sym (own-found new.before m ls h f.0 e) ∙ new.if1.false) (ap length (sym parent.element2.ensures) ∙ c.before.if2.true)
 
 place-of-requires : tie.Need-place-of-requires
 place-of-requires c κs = search rules
@@ -93,7 +93,7 @@ returns-3 c = λ m ls h f e.
     let parent = child.before.before.before in
     let new = parent.before in
     let at = start new.before.before in
-    judged-nobody (level_profile at.args.profile) ls (claim at) (sym (own-found new.before m ls h f.0 e) ∙ new.if1.false) found.find2.result (above-found found m ls h f.1)
+    judged_nobody (level_profile at.args.profile) ls (claim at) (sym (own-found new.before m ls h f.0 e) ∙ new.if1.false) found.find2.result (above-found found m ls h f.1)
     (λ z. child.if2.false (ap length parent.element2.ensures ∙ z)) c.if3.true
 
 parent-at-requires : tie.Need-parent-at-requires
@@ -115,7 +115,7 @@ returns-4 c = λ m ls h f e.
     let above = found.find2.result in
     let told = told_parent h above (omega (arith, named.if3.false)) (omega (arith, above-found found m ls h f.1, called_below (claim at).parent ls)) in
     rw (c.before.parent_at.ensures ∙ told, code.element3.ensures, mark.element4.ensures) at c.judge-child.ensures
-    ∙ judged-child (level_profile at.args.profile) ls (claim at) (sym (own-found new.before m ls h f.0 e) ∙ new.if1.false) above (above-found found m ls h f.1)
+    ∙ judged_child_lem (level_profile at.args.profile) ls (claim at) (sym (own-found new.before m ls h f.0 e) ∙ new.if1.false) above (above-found found m ls h f.1)
     (λ z. child.if2.false (ap length parent.element2.ensures ∙ z)) named.if3.false (level_at above ls) refl
 
 pub judge-level-spec : {M : Type 1} → statement M

@@ -7,7 +7,7 @@ use lib.ListN.{length, get_or-replicate}
 use Rattle.finding.specs.internal.Lists.{lists}
 use borrow.Author.Rules.{rules}
 use Rattle.reading.specs.internal.Loop.{Going}
-use Rattle.reading.proofs.reader.Going.{going_start, onward_stands, onward_ready, onward_forward, segments_few, segments_same, levels_same, open_refuses, broken_refuses, bad_within, bad_refuses, cut_good, good-forward, good-within, good-inside, in-room, settled-done, settled-passed}
+use Rattle.reading.proofs.reader.Going.{going_start, onward_stands, onward_ready, onward_forward, segments_few, segments_same, levels_same, open_refuses, broken_refuses, bad_within, bad_refuses, cut_good, good_forward, good_within, good_inside, in_room, settled_done, settled_passed}
 use Rattle.reading.proofs.reading.read_on.Statement.{statement}
 use Rattle.reading.proofs.reading.read_on.Tie as tie
 
@@ -124,14 +124,14 @@ judge-requires : tie.Need-judge-requires invariant-loop decreases-loop
 judge-requires c κs =
     let at = c.before.before.before.before.before in
     let told = (cut at).next-segment in
-    ((start (looped (cut at))).pre.1.1.1, good-inside (cut_good told.result told.ensures at.layout.given.1))
+    ((start (looped (cut at))).pre.1.1.1, good_inside (cut_good told.result told.ensures at.layout.given.1))
 
 settle-requires : tie.Need-settle-requires invariant-loop decreases-loop
 settle-requires c κs =
     let at = laid c.before.before.before in
     let told = (cut at).next-segment in
     let loop = looped (cut at) in
-    in-room (cut_good told.result told.ensures at.layout.given.1)
+    in_room (cut_good told.result told.ensures at.layout.given.1)
     (onward_stands loop.loop.inv (cut at).before.before.before.next_start.ensures) (start loop).pre.1.0
 
 enum-known-answer : tie.Need-enum-known-answer invariant-loop decreases-loop
@@ -154,7 +154,7 @@ returns-4 c =
     let at = laid said in
     let told = (cut at).next-segment in
     let loop = looped (cut at) in
-    settled-done (cut_good told.result told.ensures at.layout.given.1)
+    settled_done (cut_good told.result told.ensures at.layout.given.1)
     (onward_stands loop.loop.inv (cut at).before.before.before.next_start.ensures) (start loop).pre.0 _ (start loop).pre.1.0 said.judge.ensures _ _ _ _
     settled.settle.ensures _ c.before.answer.given.1
 
@@ -165,7 +165,7 @@ add-behind : tie.Need-overflow-add-behind invariant-loop decreases-loop
 add-behind c =
     let at = laid (judged (passed c)) in
     let told = (cut at).next-segment in
-    record { fits = omega (arith, good-within (cut_good told.result told.ensures at.layout.given.1), (start (looped (cut at))).pre.1.0) }
+    record { fits = omega (arith, good_within (cut_good told.result told.ensures at.layout.given.1), (start (looped (cut at))).pre.1.0) }
 
 loop-less : tie.Need-loop-smaller invariant-loop decreases-loop
 loop-less c =
@@ -173,7 +173,7 @@ loop-less c =
     let told = (cut at).next-segment in
     let good = cut_good told.result told.ensures at.layout.given.1 in
     let forward = onward_forward (looped (cut at)).loop.inv (cut at).before.before.before.next_start.ensures in
-    omega (arith, good-within good, good-forward good, forward)
+    omega (arith, good_within good, good_forward good, forward)
 
 loop-again : tie.Need-loop-preserved invariant-loop decreases-loop
 loop-again c =
@@ -185,7 +185,7 @@ loop-again c =
     let good = cut_good told.result told.ensures at.layout.given.1 in
     let stands = onward_stands loop.loop.inv (cut at).before.before.before.next_start.ensures in
     record {
-      stands = settled-passed good stands (start loop).pre.0 _ (start loop).pre.1.0 said.judge.ensures _ _ _ _ settled.settle.ensures _ c.before.before.next.given.1;
+      stands = settled_passed good stands (start loop).pre.0 _ (start loop).pre.1.0 said.judge.ensures _ _ _ _ settled.settle.ensures _ c.before.before.next.given.1;
       ready = good.ready;
       room = good.cut_as.laid.room;
     }

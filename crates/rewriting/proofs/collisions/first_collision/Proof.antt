@@ -2,7 +2,7 @@
 -- Assumes nothing.
 use Prim.Native.Nat.{◌-◌}
 use Rattle.rewriting.proofs.HarmlessBytes.{as_cut}
-use Rattle.rewriting.proofs.RecordByRecord.{Next, ahead-next, ApartBefore, apart-start, apart-end, apart_next, apart-clash}
+use Rattle.rewriting.proofs.RecordByRecord.{Next, ahead_next, ApartBefore, apart_start, apart_end, apart_next, apart_clash}
 use native.Mathlib.Omega.{arith}
 use borrow.Author.Rules.{rules}
 use Rattle.rewriting.proofs.collisions.first_collision.Statement.{statement}
@@ -17,10 +17,10 @@ decreases-loop s segments count change k₀ k = count - k
 -- record k names the next segment
 next : (c : tie.In-loop invariant-loop decreases-loop) → let a = c.before.before.before.before.args in let i = c.before.loop.invariant in
     Next a.s.now a.segments.now a.count a.change.old c.before.loop.k i.at i.tail
-next c = ahead-next _ _ _ _ c.before.loop.invariant.ahead c.loop-test.true
+next c = ahead_next _ _ _ _ c.before.loop.invariant.ahead c.loop-test.true
 
 loop-holds : tie.Need-loop-init invariant-loop decreases-loop
-loop-holds c = apart-start _ _ _ _ _ c.before.before.requires.0 c.before.before.requires.1.0
+loop-holds c = apart_start _ _ _ _ _ c.before.before.requires.0 c.before.before.requires.1.0
 
 segment-in-requires : tie.Need-segment-in-requires invariant-loop decreases-loop
 segment-in-requires c κs = (next c).named
@@ -46,7 +46,7 @@ returns c =
     let judged = c.before.before.before.before in
     let round = judged.before.before in
     rw c.start-in.ensures
-    (apart-clash _ _ _ _ _ round.before.loop.invariant judged.before.segment-in.result.now _ round.loop-test.true judged.before.segment-in.ensures
+    (apart_clash _ _ _ _ _ round.before.loop.invariant judged.before.segment-in.result.now _ round.loop-test.true judged.before.segment-in.ensures
     judged.segment-collision.ensures _ _ c.before.before.element.given.1)
 
 enum_told : tie.Need-enum-told invariant-loop decreases-loop
@@ -66,7 +66,7 @@ loop-again c =
     judged.segment-collision.ensures c.enum_told.given.1
 
 returns-2 : tie.Need-returns-2 invariant-loop decreases-loop
-returns-2 c = apart-end _ _ _ _ _ c.before.loop.invariant c.loop-test.false
+returns-2 c = apart_end _ _ _ _ _ c.before.loop.invariant c.loop-test.false
 
 pub first-collision-spec : {M : Type 1} → statement M
 first-collision-spec =

@@ -1,7 +1,7 @@
 -- `harmless` meets its contract: the bytes before i are tested.
 -- Assumes nothing.
 use Prim.Native.Nat.{◌-◌}
-use Rattle.rewriting.proofs.HarmlessBytes.{TestedTo, tested-none, tested-more, tested-all}
+use Rattle.rewriting.proofs.HarmlessBytes.{TestedTo, tested_none, tested_more, tested_all}
 use borrow.Author.Rules.{rules}
 use Rattle.rewriting.proofs.collisions.harmless.Statement.{statement}
 use Rattle.rewriting.proofs.collisions.harmless.Tie as tie
@@ -13,7 +13,7 @@ abbrev decreases-loop : tie.decreases-loop
 decreases-loop s from to change so-far₀ i₀ so_far i = to - i
 
 loop-holds : tie.Need-loop-init invariant-loop decreases-loop
-loop-holds c = tested-none _ _ _ _ _ c.before.requires
+loop-holds c = tested_none _ _ _ _ _ c.before.requires
 
 shared-slice-read-byte : tie.Need-shared-slice-read-byte invariant-loop decreases-loop
 shared-slice-read-byte c = search rules
@@ -33,10 +33,10 @@ loop-less c = search rules
 loop-again : tie.Need-loop-preserved invariant-loop decreases-loop
 loop-again c =
     let round = c.before.before.before in
-    rw (c.before.separates.ensures, c.separates2.ensures) (tested-more _ _ _ _ _ round.before.loop.invariant round.loop-test.true)
+    rw (c.before.separates.ensures, c.separates2.ensures) (tested_more _ _ _ _ _ round.before.loop.invariant round.loop-test.true)
 
 returns : tie.Need-returns invariant-loop decreases-loop
-returns c = tested-all _ _ _ _ _ c.before.loop.invariant c.loop-test.false
+returns c = tested_all _ _ _ _ _ c.before.loop.invariant c.loop-test.false
 
 pub harmless-spec : {M : Type 1} → statement M
 harmless-spec =

@@ -4,7 +4,7 @@ use Prim.Native.Nat.{◌-◌}
 use mathlib.Core.Logic.{⊎_elim}
 use lib.ListN.{length}
 use Rattle.text.proofs.BinSpans.{bin_of, plain_of}
-use Rattle.rewriting.proofs.CollidingBytes.{ApartTo, bin_apart, apart_none, apart-all, apart-behind, apart_more, apart-not}
+use Rattle.rewriting.proofs.CollidingBytes.{ApartTo, bin_apart, apart_none, apart_all, apart_behind, apart_more, apart_not}
 use borrow.Author.Rules.{rules}
 use Rattle.rewriting.proofs.collisions.segment_collision.Statement.{statement}
 use Rattle.rewriting.proofs.collisions.segment_collision.Tie as tie
@@ -37,7 +37,7 @@ returns-2 : tie.Need-returns-2 invariant-loop decreases-loop
 returns-2 c =
     let other = c.before.before.before in
     let round = other.before.before.before in
-    apart-not _ _ _ round.before.loop.invariant round.loop-test.true other.if2.false (rw c.before.separates.ensures at c.if3.true)
+    apart_not _ _ _ round.before.loop.invariant round.loop-test.true other.if2.false (rw c.before.separates.ensures at c.if3.true)
 
 add-i : tie.Need-overflow-add-i invariant-loop decreases-loop
 add-i c = search rules
@@ -50,11 +50,11 @@ loop-again c =
     let round = c.before.before.before in
     let inv = round.before.loop.invariant in
     let inside = round.loop-test.true in
-    ⊎_elim (λ w. rw w.1 (apart-behind _ _ _ inv inside w.0.taken))
+    ⊎_elim (λ w. rw w.1 (apart_behind _ _ _ inv inside w.0.taken))
     (λ w. rw w.4 (apart_more _ _ _ inv inside w.0.left (rw w.2.ensures at w.3.left))) c.if2.branch
 
 returns-3 : tie.Need-returns-3 invariant-loop decreases-loop
-returns-3 c = apart-all _ _ _ c.before.loop.invariant c.loop-test.false
+returns-3 c = apart_all _ _ _ c.before.loop.invariant c.loop-test.false
 
 pub segment-collision-spec : {M : Type 1} → statement M
 segment-collision-spec =

@@ -6,7 +6,7 @@ use borrow.Author.Tests.{not-true, not-false}
 use Rattle.text.specs.Separators.{fit_separators}
 use Rattle.text.proofs.View.{fitted}
 use Rattle.rewriting.proofs.AcceptedTable.{accepted_names, accepted_bytes, accepted_cut}
-use Rattle.rewriting.proofs.Outcomes.{old_unfit, new-unfit, reading-refused, reading-accepted}
+use Rattle.rewriting.proofs.Outcomes.{old_unfit, new_unfit, reading_refused, reading_accepted}
 use borrow.Author.Rules.{rules}
 use Rattle.rewriting.proofs.rewriting.rewrite.Statement.{statement}
 use Rattle.rewriting.proofs.rewriting.rewrite.Tie as tie
@@ -39,7 +39,7 @@ returns-2 : tie.Need-returns-2
 returns-2 c =
     let tested = c.before in
     rw c.refused2.ensures
-    (new-unfit _ _ _ _ _ _ (old-fits tested.before.before) (sym tested.before.fit2.ensures ∙ not-true _ tested.if2.true))
+    (new_unfit _ _ _ _ _ _ (old-fits tested.before.before) (sym tested.before.fit2.ensures ∙ not-true _ tested.if2.true))
 
 read-requires : tie.Need-read-requires
 read-requires c κs = search rules
@@ -76,7 +76,7 @@ returns-3 c =
     let counted = c.before.before.before.before.before.before in
     let read = counted.before.before.before.before.before.before in
     let fit = read.before.before.before in
-    reading-accepted _ _ _ _ _ _ (old-fits fit.before.before) (new-fits fit) _ _ _ _ (rw counted.count.given.1 at read.read.ensures) _ _
+    reading_accepted _ _ _ _ _ _ (old-fits fit.before.before) (new-fits fit) _ _ _ _ (rw counted.count.given.1 at read.read.ensures) _ _
     c.before.before.write-accepted.ensures
 
 same-length-4 : tie.Need-same-length-4
@@ -89,7 +89,7 @@ returns-4 : tie.Need-returns-4
 returns-4 c =
     let read = c.before.before.before.before.before.before.before in
     let fit = read.before.before.before in
-    reading-refused _ _ _ _ _ _ (old-fits fit.before.before) (new-fits fit) _ _ _ _ _ (rw c.before.number.given.1 at read.read.ensures)
+    reading_refused _ _ _ _ _ _ (old-fits fit.before.before) (new-fits fit) _ _ _ _ _ (rw c.before.number.given.1 at read.read.ensures)
 
 pub rewrite-spec : {M : Type 1} → statement M
 rewrite-spec =

@@ -6,7 +6,7 @@ use mathlib.Core.List.{map-id}
 use Rattle.text.specs.Bytes.{Bytes}
 use Rattle.rewriting.specs.internal.Output.{put_at, stretch}
 use Rattle.rewriting.proofs.OutputSoFar.{so_far_length}
-use Rattle.rewriting.proofs.ByteByByte.{WrittenTo, written_none, written-inside, written-more, written_all}
+use Rattle.rewriting.proofs.ByteByByte.{WrittenTo, written_none, written_inside, written_more, written_all}
 use borrow.Author.Rules.{rules}
 use Rattle.rewriting.proofs.writing.copy.Statement.{statement}
 use Rattle.rewriting.proofs.writing.copy.Tie as tie
@@ -24,7 +24,7 @@ shared-slice-read-output : tie.Need-shared-slice-read-output invariant-loop decr
 shared-slice-read-output c = search rules
 
 slice-write-output : tie.Need-slice-write-output invariant-loop decreases-loop
-slice-write-output c = written-inside _ _ _ _ _ c.before.before.loop.invariant c.before.loop-test.true
+slice-write-output c = written_inside _ _ _ _ _ c.before.before.loop.invariant c.before.loop-test.true
 
 add-i : tie.Need-overflow-add-i invariant-loop decreases-loop
 add-i c = search rules
@@ -33,7 +33,7 @@ loop-less : tie.Need-loop-smaller invariant-loop decreases-loop
 loop-less c = search rules
 
 loop-again : tie.Need-loop-preserved invariant-loop decreases-loop
-loop-again c = written-more _ _ _ _ _ c.before.before.loop.invariant c.before.loop-test.true
+loop-again c = written_more _ _ _ _ _ c.before.before.loop.invariant c.before.loop-test.true
 
 same_length : tie.Need-same-length invariant-loop decreases-loop
 same_length c = so_far_length c.before.loop.invariant.so_far

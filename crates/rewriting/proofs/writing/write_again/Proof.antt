@@ -3,7 +3,7 @@
 use Prim.Native.Nat.{◌-◌}
 use Rattle.rewriting.specs.internal.Output.{byte_again}
 use Rattle.rewriting.proofs.OutputSoFar.{so_far_length}
-use Rattle.rewriting.proofs.ByteByByte.{WrittenTo, written_none, written-inside, written-more, written_all}
+use Rattle.rewriting.proofs.ByteByByte.{WrittenTo, written_none, written_inside, written_more, written_all}
 use borrow.Author.Rules.{rules}
 use Rattle.rewriting.proofs.writing.write_again.Statement.{statement}
 use Rattle.rewriting.proofs.writing.write_again.Tie as tie
@@ -24,7 +24,7 @@ byte-again-requires : tie.Need-byte-again-requires invariant-loop decreases-loop
 byte-again-requires c κs = search rules
 
 slice-write-output : tie.Need-slice-write-output invariant-loop decreases-loop
-slice-write-output c = written-inside _ _ _ _ _ c.before.before.before.loop.invariant c.before.before.loop-test.true
+slice-write-output c = written_inside _ _ _ _ _ c.before.before.before.loop.invariant c.before.before.loop-test.true
 
 add-i : tie.Need-overflow-add-i invariant-loop decreases-loop
 add-i c = search rules
@@ -34,7 +34,7 @@ loop-less c = search rules
 
 loop-again : tie.Need-loop-preserved invariant-loop decreases-loop
 loop-again c =
-    rw c.byte-again.ensures (written-more _ _ _ _ _ c.before.before.before.loop.invariant c.before.before.loop-test.true)
+    rw c.byte-again.ensures (written_more _ _ _ _ _ c.before.before.before.loop.invariant c.before.before.loop-test.true)
 
 same_length : tie.Need-same-length invariant-loop decreases-loop
 same_length c = so_far_length c.before.loop.invariant.so_far

@@ -10,7 +10,7 @@ use Rattle.elements.specs.internal.Layouts.{there_in}
 use Rattle.elements.specs.declared.verdict.Verdict.{Verdict}
 use Rattle.elements.specs.declared.verdict.Verdict.TheVariants.{Holds}
 use Rattle.ruling.specs.internal.Early.{unused_verdict}
-use Rattle.ruling.proofs.EarlyRules.{early_many, early_rest, unwanted-decides, others-decide}
+use Rattle.ruling.proofs.EarlyRules.{early_many, early_rest, unwanted_decides, others_decide}
 use Rattle.ruling.proofs.UnusedElements.{used_silent}
 use Rattle.ruling.proofs.UsualSegments.{usual_silent}
 use borrow.Author.Rules.{rules}
@@ -38,7 +38,7 @@ returns c =
     let seen = c.before.before.usual in
     let told = seen.ensures (and_second a.layout.single seen.result c.if1.true) in
     usual_silent _ _ _ _ told.0 (and_first a.layout.single seen.result c.if1.true) a.component
-    ∙ others-decide _ _ _ _ _ a.profile (there start) (used_silent a.profile a.tag (there start) a.layout.count told.1)
+    ∙ others_decide _ _ _ _ _ a.profile (there start) (used_silent a.profile a.tag (there start) a.layout.count told.1)
 
 unused-verdict-requires : tie.Need-unused-verdict-requires
 unused-verdict-requires c κs = search rules
@@ -50,7 +50,7 @@ returns-2 : tie.Need-returns-2
 returns-2 c =
     let found = c.before.before.before in
     let start = found.before.before.before.before.before in
-    unwanted-decides _ _ _ _ _ start.args.profile (there start) _ _ (sym c.before.n.given.1 ∙ found.unused-verdict.ensures)
+    unwanted_decides _ _ _ _ _ start.args.profile (there start) _ _ (sym c.before.n.given.1 ∙ found.unused-verdict.ensures)
 
 enum_told : tie.Need-enum-told
 enum_told c = search rules
@@ -67,7 +67,7 @@ returns-3 c =
     let told = found.before in
     let start = told.before.before.before.before.before.before.before in
     early_many _ _ _ _ _ _ _ (sym c.before.n2.given.1 ∙ found.too_many.ensures)
-    ∙ others-decide _ _ _ _ _ start.args.profile (there start) (silent told)
+    ∙ others_decide _ _ _ _ _ start.args.profile (there start) (silent told)
 
 enum-told-2 : tie.Need-enum-told-2
 enum-told-2 c = search rules
@@ -82,7 +82,7 @@ returns-4 c =
     let told = found.before in
     let start = told.before.before.before.before.before.before.before in
     c.fitting-verdict.ensures ∙ early_rest _ _ _ _ _ (sym few.enum-told2.given.1 ∙ found.too_many.ensures)
-    ∙ others-decide _ _ _ _ _ start.args.profile (there start) (silent told)
+    ∙ others_decide _ _ _ _ _ start.args.profile (there start) (silent told)
 
 pub early-verdict-spec : {M : Type 1} → statement M
 early-verdict-spec =

@@ -9,7 +9,7 @@ use Rattle.rows.specs.Tags.{tag_number}
 use Rattle.elements.specs.internal.Layouts.{components_in}
 use Rattle.elements.proofs.EveryTag.{few_but_NCA}
 use Rattle.ruling.proofs.TooMany.{few_fifth}
-use Rattle.elements.proofs.ByLayout.{element-at}
+use Rattle.elements.proofs.ByLayout.{element_at}
 use borrow.Author.Rules.{rules}
 use Rattle.ruling.proofs.ruled.is_few.Statement.{statement}
 use Rattle.ruling.proofs.ruled.is_few.Tie as tie
@@ -29,7 +29,7 @@ few-units-requires c κs = search rules
 
 returns-2 : tie.Need-returns-2
 unfolding tag_number
-returns-2 c = c.few-units.ensures ∙ ap (λ (p : Piece). leb (length p) 15) (element-at _ _ _ _ 5 _ c.before.element.ensures)
+returns-2 c = c.few-units.ensures ∙ ap (λ (p : Piece). leb (length p) 15) (element_at _ _ _ _ 5 _ c.before.element.ensures)
     ∙ few_fifth c.before.before.before.before.args.tag (at c.before.before.before.before 5) c.before.before.if1.false
 
 pub is-few-spec : {M : Type 1} → statement M

@@ -10,8 +10,8 @@ use Rattle.elements.specs.declared.verdict.Verdict.{Verdict}
 use Rattle.elements.specs.declared.verdict.Verdict.TheVariants.{Holds}
 use Rattle.elements.proofs.EveryTag.{last_small}
 use Rattle.ruling.specs.internal.Early.{early_by}
-use Rattle.ruling.proofs.EarlyRules.{early_few, silent-others}
-use Rattle.ruling.proofs.RuleOrder.{decide-plain, decide-early, decide-notes}
+use Rattle.ruling.proofs.EarlyRules.{early_few, silent_others}
+use Rattle.ruling.proofs.RuleOrder.{decide_plain, decide_early, decide_notes}
 use native.Mathlib.Omega.{arith}
 use borrow.Author.Rules.{rules}
 use Rattle.ruling.proofs.ruled.ruled_verdict.Statement.{statement}
@@ -33,7 +33,7 @@ is-plain-requires : tie.Need-is-plain-requires
 is-plain-requires c κs = search rules
 
 returns : tie.Need-returns
-returns c = decide-plain _ _ _ _ c.before.before.before.args.profile _ (eqb-true _ 0 (sym c.before.is_plain.ensures ∙ c.if1.true))
+returns c = decide_plain _ _ _ _ c.before.before.before.args.profile _ (eqb-true _ 0 (sym c.before.is_plain.ensures ∙ c.if1.true))
 
 early-verdict-requires : tie.Need-early-verdict-requires
 early-verdict-requires c κs = search rules
@@ -44,7 +44,7 @@ enum-known-n c = search rules
 returns-2 : tie.Need-returns-2
 returns-2 c =
     let found = c.before.before.before in
-    decide-early _ _ _ _ found.before.before.before.before.args.profile _ (ruled found.before) _ _
+    decide_early _ _ _ _ found.before.before.before.before.args.profile _ (ruled found.before) _ _
     (sym c.before.n.given.1 ∙ found.early-verdict.ensures)
 
 enum_told : tie.Need-enum-told
@@ -53,13 +53,13 @@ enum_told c = search rules
 notes-verdict-requires : tie.Need-notes-verdict-requires
 notes-verdict-requires c κs =
     let a = c.before.before.before.before.before.before.args in
-    omega (arith, early_few _ _ _ _ _ (silent-others _ _ _ _ _ a.profile _ (silent c)), last_small a.tag)
+    omega (arith, early_few _ _ _ _ _ (silent_others _ _ _ _ _ a.profile _ (silent c)), last_small a.tag)
 
 returns-3 : tie.Need-returns-3
 returns-3 c =
     let told = c.before in
     let start = told.before.before.before.before.before.before in
-    c.notes-verdict.ensures ∙ decide-notes _ _ _ _ start.args.profile _ (ruled told.before.before.before) (silent told)
+    c.notes-verdict.ensures ∙ decide_notes _ _ _ _ start.args.profile _ (ruled told.before.before.before) (silent told)
 
 pub ruled-verdict-spec : {M : Type 1} → statement M
 ruled-verdict-spec =

@@ -8,8 +8,8 @@ use Rattle.text.specs.View.{Piece}
 use Rattle.elements.specs.Rules.{rule_of, few_components}
 use Rattle.elements.specs.internal.Layouts.{components_in}
 use Rattle.elements.specs.internal.Verdicts.{rules_of}
-use Rattle.ruling.proofs.TooMany.{too_many_five, too-many-past, few-all}
-use Rattle.elements.proofs.ByLayout.{at-past}
+use Rattle.ruling.proofs.TooMany.{too_many_five, too_many_past, few_all}
+use Rattle.elements.proofs.ByLayout.{at_past}
 use borrow.Author.Rules.{rules}
 use Rattle.ruling.proofs.ruled.too_many.Statement.{statement}
 use Rattle.ruling.proofs.ruled.too_many.Tie as tie
@@ -26,7 +26,7 @@ is-few-requires c κs = search rules
 returns : tie.Need-returns
 returns c =
     let start = c.before.before.before in
-    too_many_five start.args.tag start.args.layout.count (at start) (λ l. at-past _ _ _ _ 5 l)
+    too_many_five start.args.tag start.args.layout.count (at start) (λ l. at_past _ _ _ _ 5 l)
     (sym c.before.is-few.ensures ∙ not-true c.before.is-few.result c.if1.true)
 
 returns-2 : tie.Need-returns-2
@@ -34,14 +34,14 @@ returns-2 c =
     let told = c.before.before in
     let few-five = told.before in
     let start = few-five.before.before.before in
-    too-many-past start.args.tag start.args.layout.count (at start) (few few-five) _ told.last-ruled.ensures c.if2.true
+    too_many_past start.args.tag start.args.layout.count (at start) (few few-five) _ told.last-ruled.ensures c.if2.true
 
 returns-3 : tie.Need-returns-3
 returns-3 c =
     let told = c.before.before in
     let few-five = told.before in
     let start = few-five.before.before.before in
-    few-all start.args.tag start.args.layout.count (at start) (few few-five) (rw told.last-ruled.ensures at c.if2.false)
+    few_all start.args.tag start.args.layout.count (at start) (few few-five) (rw told.last-ruled.ensures at c.if2.false)
 
 last-ruled-requires : tie.Need-last-ruled-requires
 last-ruled-requires c κs = search rules

@@ -7,7 +7,7 @@ use Rattle.rows.specs.Tags.{tag_number}
 use Rattle.rows.specs.declared.profile.ProfileName.TheVariants.{Report, Reply}
 use Rattle.elements.specs.internal.Layouts.{there_in}
 use Rattle.ruling.proofs.RuleOrder.{there_past}
-use Rattle.ruling.proofs.UnusedElements.{report_used, others_used, used_silent, second-there, fourth-there, neither-there}
+use Rattle.ruling.proofs.UnusedElements.{report_used, others_used, used_silent, second_there, fourth_there, neither_there}
 use borrow.Author.Rules.{rules}
 use Rattle.ruling.proofs.ruled.unused_verdict.Statement.{statement}
 use Rattle.ruling.proofs.ruled.unused_verdict.Tie as tie
@@ -38,7 +38,7 @@ returns-2 c =
     let hl = asked.before in
     let start = hl.before.before.before.before in
     rw hl.before.enum-told2.given.1
-    (second-there (there start) start.args.layout.count start.args.tag hl.if1.false (there_past _ _ _)
+    (second_there (there start) start.args.layout.count start.args.tag hl.if1.false (there_past _ _ _)
     (sym asked.is-there.ensures ∙ c.if2.true))
 
 is-there-requires-2 : tie.Need-is-there-requires-2
@@ -52,7 +52,7 @@ returns-3 c =
     let hl = first.before.before in
     let start = hl.before.before.before.before in
     rw hl.before.enum-told2.given.1
-    (fourth-there (there start) start.args.layout.count start.args.tag hl.if1.false (there_past _ _ _)
+    (fourth_there (there start) start.args.layout.count start.args.tag hl.if1.false (there_past _ _ _)
     (sym first.before.is-there.ensures ∙ first.if2.false) (sym asked.is-there2.ensures ∙ c.if3.true))
 
 returns-4 : tie.Need-returns-4
@@ -68,7 +68,7 @@ returns-5 c =
     let hl = first.before.before in
     let start = hl.before.before.before.before in
     rw hl.before.enum-told2.given.1
-    (neither-there (there start) start.args.layout.count start.args.tag hl.if1.false (there_past _ _ _)
+    (neither_there (there start) start.args.layout.count start.args.tag hl.if1.false (there_past _ _ _)
     (sym first.before.is-there.ensures ∙ first.if2.false) (sym asked.is-there2.ensures ∙ c.if3.false))
 
 pub unused-verdict-spec : {M : Type 1} → statement M

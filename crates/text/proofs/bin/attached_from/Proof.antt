@@ -5,7 +5,7 @@ use native.Mathlib.Omega.{arith}
 use lib.Dec.{T}
 use borrow.Author.Tests.{not-false}
 use Rattle.text.specs.Bin.{begins_bin}
-use Rattle.text.proofs.BinSpans.{unmarked, end_inside, attached-here, attached-elsewhere, count-open, count-broken}
+use Rattle.text.proofs.BinSpans.{unmarked, end_inside, attached_here, attached_elsewhere, count_open, count_broken}
 use borrow.Author.Rules.{rules}
 use Rattle.text.proofs.bin.attached_from.Statement.{statement}
 use Rattle.text.proofs.bin.attached_from.Tie as tie
@@ -44,7 +44,7 @@ add-result c =
 returns-2 : tie.Need-returns-2
 returns-2 c =
     let at = c.before.before in
-    attached-here _ _ (marked at.before.before.before) _ at.before.before.count.ensures _ _ at.number.given.1 c.if2.true
+    attached_here _ _ (marked at.before.before.before) _ at.before.before.count.ensures _ _ at.number.given.1 c.if2.true
 
 enum_told : tie.Need-enum-told
 enum_told c = search rules
@@ -55,13 +55,13 @@ enum-told-2 c = search rules
 returns-3 : tie.Need-returns-3
 returns-3 c =
     let at = c.before.before in
-    attached-elsewhere _ _ (marked at.before.before.before) _ at.before.before.count.ensures _ _ at.number.given.1 c.if2.false
+    attached_elsewhere _ _ (marked at.before.before.before) _ at.before.before.count.ensures _ _ at.number.given.1 c.if2.false
 
 returns-4 : tie.Need-returns-4
-returns-4 c = count-open _ _ (marked c.before.before.before) _ c.before.before.count.ensures c.enum_told.given.1
+returns-4 c = count_open _ _ (marked c.before.before.before) _ c.before.before.count.ensures c.enum_told.given.1
 
 returns-5 : tie.Need-returns-5
-returns-5 c = count-broken _ _ (marked c.before.before.before) _ c.before.before.count.ensures c.enum-told2.given.1
+returns-5 c = count_broken _ _ (marked c.before.before.before) _ c.before.before.count.ensures c.enum-told2.given.1
 
 pub attached-from-spec : {M : Type 1} → statement M
 attached-from-spec =

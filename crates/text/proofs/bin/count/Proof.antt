@@ -7,7 +7,7 @@ use native.Mathlib.Omega.{arith}
 use lib.ListN.{length, get_or}
 use borrow.Author.Tests.{not-true, not-false}
 use Rattle.text.specs.Separators.{is_digit}
-use Rattle.text.proofs.Counting.{Counting, counting_none, number_small, count_ends, count-nothing, count-tells, count-other, digit_low, digit-high, count-many, counting_more}
+use Rattle.text.proofs.Counting.{Counting, counting_none, number_small, count_ends, count_nothing, count_tells, count_other, digit_low, digit_high, count_many, counting_more}
 use borrow.Author.Rules.{rules}
 use Rattle.text.proofs.bin.count.Statement.{statement}
 use Rattle.text.proofs.bin.count.Tie as tie
@@ -33,10 +33,10 @@ shared-slice-read-b : tie.Need-shared-slice-read-b invariant-loop decreases-loop
 shared-slice-read-b c = search rules
 
 returns : tie.Need-returns invariant-loop decreases-loop
-returns c = let at = c.before.before in count-nothing (looped at).loop.invariant at.before.loop-test.true c.before.if1.true (omega (arith, c.if2.true))
+returns c = let at = c.before.before in count_nothing (looped at).loop.invariant at.before.loop-test.true c.before.if1.true (omega (arith, c.if2.true))
 
 returns-2 : tie.Need-returns-2 invariant-loop decreases-loop
-returns-2 c = let at = c.before.before in count-tells (looped at).loop.invariant at.before.loop-test.true c.before.if1.true (omega (arith, c.if2.false))
+returns-2 c = let at = c.before.before in count_tells (looped at).loop.invariant at.before.loop-test.true c.before.if1.true (omega (arith, c.if2.false))
 
 is-digit-requires : tie.Need-is-digit-requires invariant-loop decreases-loop
 is-digit-requires c κs = search rules
@@ -44,7 +44,7 @@ is-digit-requires c κs = search rules
 returns-3 : tie.Need-returns-3 invariant-loop decreases-loop
 returns-3 c =
     let at = c.before.before.before in
-    count-other (looped at).loop.invariant at.before.loop-test.true c.before.before.if1.false
+    count_other (looped at).loop.invariant at.before.loop-test.true c.before.before.if1.false
     (sym c.before.is_digit.ensures ∙ not-true c.before.is_digit.result c.if3.true)
 
 add-digits : tie.Need-overflow-add-digits invariant-loop decreases-loop
@@ -61,17 +61,17 @@ sub_number c =
 cast-number : tie.Need-overflow-cast-number invariant-loop decreases-loop
 cast-number c =
     let at = c.before.before.before in
-    omega (arith, digit-high (looped at).loop.invariant at.before.loop-test.true c.before.before.if1.false (other c))
+    omega (arith, digit_high (looped at).loop.invariant at.before.loop-test.true c.before.before.if1.false (other c))
 
 add-number : tie.Need-overflow-add-number invariant-loop decreases-loop
 add-number c =
     let at = c.before.before.before in
-    omega (arith, number_small (looped at).loop.invariant, digit-high (looped at).loop.invariant at.before.loop-test.true c.before.before.if1.false (other c))
+    omega (arith, number_small (looped at).loop.invariant, digit_high (looped at).loop.invariant at.before.loop-test.true c.before.before.if1.false (other c))
 
 returns-4 : tie.Need-returns-4 invariant-loop decreases-loop
 returns-4 c =
     let at = c.before.before.before.before in
-    count-many (looped at).loop.invariant at.before.loop-test.true c.before.before.before.if1.false (other c.before) c.if4.true
+    count_many (looped at).loop.invariant at.before.loop-test.true c.before.before.before.if1.false (other c.before) c.if4.true
 
 add-i : tie.Need-overflow-add-i invariant-loop decreases-loop
 add-i c = search rules

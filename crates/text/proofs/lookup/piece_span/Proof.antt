@@ -3,7 +3,7 @@
 use Prim.Native.Nat.{◌-◌, ◌≤◌}
 use native.Mathlib.Omega.{arith}
 use borrow.Author.Rules.{rules}
-use Rattle.text.proofs.Spans.{Begun, begun_none, begun_at, begun_more, met-inside, within, span-cut, span_last, span-past}
+use Rattle.text.proofs.Spans.{Begun, begun_none, begun_at, begun_more, met_inside, within, span_cut, span_last, span_past}
 use Rattle.text.proofs.lookup.piece_span.Statement.{statement}
 use Rattle.text.proofs.lookup.piece_span.Tie as tie
 
@@ -28,13 +28,13 @@ enum_told c = search rules
 returns : tie.Need-returns invariant-loop decreases-loop
 returns c =
     let inv = c.before.before.before.before.loop.invariant in
-    span-past inv.0 (rw c.enum_told.given.1 at c.before.before.find.ensures) _
+    span_past inv.0 (rw c.enum_told.given.1 at c.before.before.find.ensures) _
     (omega (arith, c.before.before.before.loop-test.true, inv.1))
 
 add_start : tie.Need-overflow-add-start invariant-loop decreases-loop
 add_start c =
     omega
-    (arith, met-inside c.before.before.before.before.before.loop.invariant.0 (rw c.before.j.given.1 at c.before.before.before.find.ensures))
+    (arith, met_inside c.before.before.before.before.before.loop.invariant.0 (rw c.before.j.given.1 at c.before.before.before.find.ensures))
 
 add-k : tie.Need-overflow-add-k invariant-loop decreases-loop
 add-k c = search rules
@@ -68,7 +68,7 @@ sub-len-2 c = within c.before.before.before.before.loop.invariant.0
 returns-2 : tie.Need-returns-2 invariant-loop decreases-loop
 returns-2 c =
     let inv = c.before.before.before.before.before.loop.invariant in
-    span-cut (begun_at _ (omega (arith, inv.1, inv.2, c.before.before.before.before.loop-test.false)) inv.0)
+    span_cut (begun_at _ (omega (arith, inv.1, inv.2, c.before.before.before.before.loop-test.false)) inv.0)
     (rw c.before.j2.given.1 at c.before.before.before.find2.ensures)
 
 returns-3 : tie.Need-returns-3 invariant-loop decreases-loop

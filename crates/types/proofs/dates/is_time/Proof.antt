@@ -8,7 +8,7 @@ use lib.ListN.{length}
 use borrow.Author.Tests.{not-true, not-false}
 use Rattle.types.specs.Types.{is_number, figures}
 use Rattle.types.proofs.Figures.{written}
-use Rattle.types.proofs.Days.{timely, timely_by, timely_four, timely_six, time_length, time_digits, time-hour, time-minute, time-second, time-short}
+use Rattle.types.proofs.Days.{timely, timely_by, timely_four, timely_six, time_length, time_digits, time_hour, time_minute, time_second, time_short}
 use native.Mathlib.Omega.{arith}
 use borrow.Author.Rules.{rules}
 use Rattle.types.proofs.dates.is_time.Statement.{statement}
@@ -45,19 +45,19 @@ figures-requires : tie.Need-figures-requires
 figures-requires c κs = written _ _ _ (digits c) (omega (arith, four c.before.before)) (omega arith)
 
 returns-3 : tie.Need-returns-3
-returns-3 c = time-hour c.before.before.before.before.before.before.args.value.now (sized c.before.before.before.before)
+returns-3 c = time_hour c.before.before.before.before.before.before.args.value.now (sized c.before.before.before.before)
     (digits c.before.before) (rw c.before.figures.ensures at c.if3.true)
 
 figures-requires-2 : tie.Need-figures-requires-2
 figures-requires-2 c κs = written _ _ _ (digits c.before.before) (omega (arith, four c.before.before.before.before)) (omega arith)
 
 returns-4 : tie.Need-returns-4
-returns-4 c = time-minute c.before.before.before.before.before.before.before.before.args.value.now
+returns-4 c = time_minute c.before.before.before.before.before.before.before.before.args.value.now
     (sized c.before.before.before.before.before.before) (digits c.before.before.before.before) (hours c.before.before)
     (rw c.before.figures2.ensures at c.if4.true)
 
 returns-5 : tie.Need-returns-5
-returns-5 c = time-short c.before.before.before.before.before.before.before.before.before.args.value.now
+returns-5 c = time_short c.before.before.before.before.before.before.before.before.before.args.value.now
     (sized c.before.before.before.before.before.before.before) (digits c.before.before.before.before.before)
     (hours c.before.before.before) (minutes c.before) c.if5.true
 
@@ -67,7 +67,7 @@ figures-requires-3 c κs = written _ _ _ (digits c.before.before.before.before.b
 
 returns-6 : tie.Need-returns-6
 returns-6 c = ap (λ (n : ℕ). leb n 59) c.figures3.ensures
-    ∙ time-second c.before.before.before.before.before.before.before.before.before.before.args.value.now
+    ∙ time_second c.before.before.before.before.before.before.before.before.before.before.args.value.now
     (sized c.before.before.before.before.before.before.before.before) (digits c.before.before.before.before.before.before)
     (hours c.before.before.before.before) (minutes c.before.before)
 
