@@ -1,0 +1,25 @@
+use Prim.Native.Nat.{◌-◌}
+use mathlib.Core.Logic.{⊎_elim}
+use Rattle.text.proofs.BinSpans.{bin_of, plain_of}
+use Rattle.rewriting.proofs.CollidingBytes.{bin_apart, apart_none, apart_all, apart_behind, apart_more, apart_not}
+use Rattle.rewriting.proofs.collisions.segment_collision.Goals as goal
+
+pub returns-then-attached_from-segment : goal.returns-then-attached_from-segment
+returns-then-attached_from-segment c = bin_apart _ _ _ (bin_of _ _ (rw c.attached_from.ensures at c.if-attached_from-segment.true)) c.requires.fitted
+
+pub loop-i-init : goal.loop-i-init
+loop-i-init c = apart_none _ _ _ (plain_of _ _ (rw c.attached_from.ensures at c.if-attached_from-segment.false)) c.requires.as_cut
+
+pub returns-then-byte-change-2 : goal.returns-then-byte-change-2
+returns-then-byte-change-2 c =
+    apart_not _ _ _ c.loop-i.invariant c.loop-i-test.true c.if-byte-change.false (rw c.separates.ensures at c.if-byte-change-2.true)
+
+pub loop-i-preserved : goal.loop-i-preserved
+loop-i-preserved c =
+    let inv = c.loop-i.invariant in
+    let inside = c.loop-i-test.true in
+    ⊎_elim (λ w. rw w.1 (apart_behind _ _ _ inv inside w.0.taken))
+    (λ w. rw w.4 (apart_more _ _ _ inv inside w.0.left (rw w.2.ensures at w.3.left))) c.if-byte-change.branch
+
+pub returns : goal.returns
+returns c = apart_all _ _ _ c.loop-i.invariant c.loop-i-test.false

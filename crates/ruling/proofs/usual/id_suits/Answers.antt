@@ -1,0 +1,11 @@
+-- `id_suits` meets its contract: absent, or by the quick test.
+-- Assumes nothing.
+use Rattle.types.specs.declared.kind.Kind.TheVariants.{ID}
+use Rattle.ruling.proofs.UsualSegments.{absent_suits, quick_suits}
+use Rattle.ruling.proofs.usual.id_suits.Goals as goal
+
+pub returns-then-p-eq0 : goal.returns-then-p-eq0
+returns-then-p-eq0 c = absent_suits _ ID _ _ _ c.if-p-eq0.true e
+
+pub returns : goal.returns
+returns c = quick_suits _ ID _ _ _ _ c.if-p-eq0.false c.short_id.ensures e

@@ -1,0 +1,22 @@
+-- `usual_n1` meets its contract, element by element.
+-- Assumes nothing.
+use Prim.Native.Nat.{ℕ}
+use mathlib.Core.Bool.{◌&&◌}
+use Rattle.rows.specs.Tags.{tag_number, tag}
+use Rattle.elements.specs.internal.Verdicts.{rules_of}
+use Rattle.ruling.specs.internal.Usual.{SuitsAt}
+use Rattle.ruling.proofs.UsualSegments.{one_more}
+use Rattle.ruling.proofs.usual.usual_n1.Goals as goal
+
+abbrev Suited : tie.Start → ℕ → Type 0
+Suited c = SuitsAt c.args.s.now c.args.starts.now c.args.layout (tag "N1")
+
+pub returns : goal.returns
+unfolding rules_of tag_number
+returns c = one_more (Suited (goal.at.returns c).Start) 3 (c.id_suits.result && c.text_suits.result && c.id_suits-2.result) c.text_suits-2.result
+    (one_more (Suited (goal.at.returns c).Start) 2 (c.id_suits.result && c.text_suits.result) c.id_suits-2.result
+    (one_more (Suited (goal.at.returns c).Start) 1 c.id_suits.result c.text_suits.result
+    (λ f. (tt, rw c.element-party.ensures at (c.id_suits.ensures f)))
+    (λ f. rw c.element-name.ensures at (c.text_suits.ensures f)))
+    (λ f. rw c.element-kind.ensures at (c.id_suits-2.ensures f)))
+    (λ f. rw c.element-code.ensures at (c.text_suits-2.ensures f))

@@ -1,0 +1,36 @@
+-- `part_span` meets its contract: the whole element, the one component of a whole BIN's, or a piece of any other.
+-- Assumes nothing.
+use Prim.Native.Nat.{◌-◌}
+use mathlib.Core.Path.{ap, ◌∙◌}
+use native.Mathlib.Omega.{arith}
+use Rattle.text.specs.Lookup.{span_within, part_of}
+use Rattle.text.specs.internal.Spans.{piece_span, only_span}
+use Rattle.text.specs.declared.lookup.Span.{Span}
+use Rattle.text.proofs.BinSpans.{bin_of, plain_of, attached_most, lies_element}
+use Rattle.text.proofs.Parts.{span_whole, span_only, span_pieced}
+use Rattle.text.proofs.lookup.part_span.Goals as goal
+
+pub element_span-whole-requires : goal.element_span-whole-requires
+element_span-whole-requires c = c.attached_from-attached.ensures
+
+pub returns-then-part-eq0 : goal.returns-then-part-eq0
+returns-then-part-eq0 c = c.element_span-whole.ensures ∙ span_whole _ _ _ _ (omega (arith, c.if-part-eq0.true))
+
+pub only_span-requires : goal.only_span-requires
+only_span-requires c = rw c.element_span-whole.ensures (lies_element _ _ _).inside
+
+pub returns-then-attached-segment : goal.returns-then-attached-segment
+returns-then-attached-segment c =
+    let a = c.args in
+    c.only_span.ensures ∙ ap (λ (p : Span). only_span p a.part) c.element_span-whole.ensures
+    ∙ span_only _ _ _ _ (omega (arith, c.if-part-eq0.false)) (bin_of _ _ (omega (arith, c.attached_from-attached.ensures, attached_most a.separators.element a.segment.now, c.if-attached-segment.true)))
+
+pub component_span-requires : goal.component_span-requires
+component_span-requires c = rw c.element_span-whole.ensures (lies_element _ _ _).inside
+
+pub returns : goal.returns
+returns c =
+    let a = c.args in
+    c.component_span.ensures
+    ∙ ap (λ (p : Span). span_within p (piece_span a.separators.component (part_of a.segment.now p) (a.part - 1))) c.element_span-whole.ensures
+    ∙ span_pieced _ _ _ _ (omega (arith, c.if-part-eq0.false)) (plain_of _ _ (omega (arith, c.attached_from-attached.ensures, c.if-attached-segment.false)))

@@ -1,0 +1,12 @@
+-- `find` meets its contract: the bytes from `from` up to i have been passed.
+-- Assumes nothing.
+use Prim.Native.Nat.{◌-◌}
+use lib.ListN.{length}
+use Rattle.text.proofs.Searching.{Unmet}
+use Rattle.text.proofs.search.find.Given as goal
+
+abbrev pub invariant-loop-i : goal.invariant-loop-i
+invariant-loop-i l = Unmet l.s l.from l.byte l.i
+
+abbrev pub decreases-loop-i : goal.decreases-loop-i
+decreases-loop-i l = length l.s - l.i
