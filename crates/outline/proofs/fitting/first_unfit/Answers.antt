@@ -1,6 +1,5 @@
 -- `first_unfit` meets its contract: the levels 1 to k are fit, and the next may be the first that is not.
 -- Assumes nothing.
-use Prim.Native.Nat.{◌-◌}
 use native.Mathlib.Omega.{arith}
 use Rattle.outline.proofs.FitTests.{fits_none, fits_more, unfit_next}
 use borrow.Author.Rules.{rules}

@@ -1,23 +1,12 @@
 -- `walk_under` meets its contract: each call goes one deeper, and depth 4 is the last.
 -- Assumes nothing.
-use Prim.Native.Nat.{ℕ, ◌+◌, ◌-◌, ◌*◌, ◌^◌, ◌<◌, ◌≤◌}
+use Prim.Native.Nat.{ℕ, ◌+◌, ◌≤◌}
 use mathlib.Core.Path.{◌≡◌, sym, ◌∙◌}
 use native.Mathlib.Omega.{arith}
 use lib.ListN.{length, length-set}
-use Rattle.std.proofs.Common.{rules}
 use Rattle.outline.specs.internal.Listing.{depth_of}
 use Rattle.outline.proofs.FitLevels.{level_depth, child_depth}
-use Rattle.outline.proofs.WalkSteps.{
-  beneath,
-  visited_none,
-  visited_other,
-  visited_child,
-  child_room,
-  output_long,
-  listed_all,
-  listed_ended,
-  listed_deepest,
-}
+use Rattle.outline.proofs.WalkSteps.{beneath, visited_none, visited_other, visited_child, child_room, listed_all, listed_ended, listed_deepest}
 use Rattle.outline.proofs.walking.+walk_under.Goals as goal
 use Rattle.outline.proofs.walking.+walk_under.Goals.{Then-parent_in-of}
 
