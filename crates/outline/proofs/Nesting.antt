@@ -58,16 +58,16 @@ module _ (t : List ℕ) (count : ℕ) (fit : FitTable t count) (l : List ℕ) (o
 
 module _ (t : List ℕ) (count : ℕ) (fit : FitTable t count) (l : List ℕ) (n : Nested t count l) where
   -- what stands between a level and one that hangs under it hangs under it
-  between_far : (i m j c x : ℕ) {a : ℕ} → At l i c → At l m x → At l j a → i < m → m < j → Under t c a → Under t c x
-  between_far i m j c x at_c at_x at_a h g (child a e) = rw e at (n.between i m j a x (rw e at_c) at_x at_a h g)
-  between_far i m j c x at_c at_x at_a h g (further a u) =
+  between_far : (i m c j x : ℕ) {a : ℕ} → At l i c → At l m x → At l j a → i < m → m < j → Under t c a → Under t c x
+  between_far i m c j x at_c at_x at_a h g (child a e) = rw e at (n.between i m j a x (rw e at_c) at_x at_a h g)
+  between_far i m c j x at_c at_x at_a h g (further a u) =
       let q = parent_in t a in
       let c-level = n.whole.only i c at_c in
       let a-level = n.whole.only j a at_a in
       let less = parent_less t count fit a a-level in
       let le = under_parent t count fit (omega arith) a-level.1 (further a u) in
       let (s, at-q) = n.whole.every q (omega arith) (omega arith) in
-      three_ways m s (λ lt. between_far i m s c x at_c at_x at-q h lt u) (λ lt. under_under u (n.between s m j a x at-q at_x at_a lt g))
+      three_ways m s (λ lt. between_far i m c s x at_c at_x at-q h lt u) (λ lt. under_under u (n.between s m j a x at-q at_x at_a lt g))
       (λ e. rw (one_level l s m q x at-q at_x (sym e)) at u)
 
   -- what is at or under an earlier sibling comes first
@@ -78,7 +78,7 @@ module _ (t : List ℕ) (count : ℕ) (fit : FitTable t count) (l : List ℕ) (n
       ⊎_elim
       (λ e. n.siblings i j a b x y (rw e at o.parent) (rw e at lt))
       (λ u.
-      three_ways i j (λ h. h) (λ h. absurd (apart (between_far m j i c b z y x (n.siblings m j c b z y o.parent lt) h u)))
+      three_ways i j (λ h. h) (λ h. absurd (apart (between_far m j c i b z y x (n.siblings m j c b z y o.parent lt) h u)))
       (λ e. absurd (apart (rw (one_level l i j a b x y e) at u))))
       o.leads
 

@@ -20,7 +20,7 @@ use borrow.Author.Tests.{le-leb, lt-leb}
 use Rattle.outline.specs.Outline.{At}
 
 -- what a list holds has a place in it
-pub place_of_lem : {l : List ℕ} {x : ℕ} → Mem x l → (i : ℕ) × At l i x
+pub place_of_lem : {x : ℕ} {l : List ℕ} → Mem x l → (i : ℕ) × At l i x
 place_of_lem (here e) = (0, record { within = omega arith; is = sym e })
 place_of_lem (later m) = let p = place_of_lem m in (suc p.0, record { within = omega (arith, p.1.within); is = p.1.is })
 
@@ -82,6 +82,7 @@ module _ (R : ℕ → ℕ → Type 0) where
   module _ (apart : (x : ℕ) → R x x → ⊥) where
     -- one more is counted where the list holds it
     upto_present : (n : ℕ) (l : List ℕ) → Sorted l → Mem (suc n) l → upto (suc n) l ≡ suc (upto n l)
+    upto_present n [] s m = elim m [ ]
     upto_present n (x ∷ l) s (here e) =
         rw (le-leb x (suc n) (omega arith), lt-leb x n (omega arith), upto_absent n l (λ m. apart x (s.0 x (mem-cast (sym e) m)))) (omega arith)
     upto_present n (x ∷ l) s (later m) =

@@ -3,7 +3,7 @@
 use Prim.Native.Nat.{ℕ, suc, ◌+◌, ◌≤◌}
 use mathlib.Core.Path.{◌≡◌, refl, sym, ap, ◌∙◌}
 use mathlib.Core.List.{List, [], ◌∷◌, ◌++◌}
-use native.Mathlib.Nat.{add_zero, zero-add}
+use native.Mathlib.Nat.{add-zero, zero-add}
 use native.Mathlib.Numerals.{add-one}
 use native.Mathlib.Omega.{arith}
 use lib.ListN.{length, set, drop, length-append}
@@ -12,7 +12,7 @@ use Rattle.gate.specs.Records.{over}
 
 -- two lists are stored as one
 sets_append : (l : List ℕ) (i : ℕ) (xs ys : List ℕ) → sets l i (xs ++ ys) ≡ sets (sets l i xs) (i + length xs) ys
-sets_append l i [] ys = ap (λ (k : ℕ). sets l k ys) (sym (add_zero i))
+sets_append l i [] ys = ap (λ (k : ℕ). sets l k ys) (sym (add-zero i))
 sets_append l i (x ∷ xs) ys =
     let e : suc i + length xs ≡ i + suc (length xs) = omega arith in
     sets_append (set l i x) (suc i) xs ys ∙ ap (λ (k : ℕ). sets (sets (set l i x) (suc i) xs) k ys) e
@@ -27,7 +27,7 @@ Stored l at xs l' next = (next ≡ at + length xs) × (l' ≡ sets l at xs)
 
 -- nothing stored
 pub stored_none : (l : List ℕ) (at : ℕ) → Stored l at [] l at
-stored_none l at = (sym (add_zero at), refl)
+stored_none l at = (sym (add-zero at), refl)
 
 -- behind a list, a number and another list
 pub stored_more : (l : List ℕ) (at : ℕ) (xs : List ℕ) (y : ℕ) (ys : List ℕ) {l' l'' : List ℕ} {next next' : ℕ}

@@ -1,6 +1,6 @@
-use Prim.Native.Nat.{◌-◌}
+-- `first_unfit` meets its contract: the levels 1 to k are fit, and the next may be the first that is not.
+-- Assumes nothing.
 use native.Mathlib.Omega.{arith}
-use borrow.Author.Tests.{not-true, not-false}
 use Rattle.outline.proofs.FitTests.{fits_none, fits_more, unfit_next}
 use borrow.Author.Rules.{rules}
 use Rattle.outline.proofs.fitting.first_unfit.Goals as goal
@@ -13,13 +13,13 @@ returns-then-not-is_fit c =
     let fit = c.is_fit in
     let a = c.args in
     unfit_next a.levels.now a.count c.loop-k.k c.loop-k-test.true c.loop-k.invariant.1
-    (rw (not-true fit.result c.if-not-is_fit.true-raw) (goal.at.returns-then-not-is_fit c).At-loop-k fit.ensures)
+    (rw c.if-not-is_fit.true at fit.ensures)
 
 pub loop-k-preserved : goal.loop-k-preserved
 loop-k-preserved c =
     let fit = c.is_fit in (
       search rules,
-      fits_more c.args.levels.now c.loop-k.k c.loop-k.invariant.1 (rw (not-false fit.result c.if-not-is_fit.false-raw) (goal.at.loop-k-preserved c).At-loop-k fit.ensures),
+      fits_more c.args.levels.now c.loop-k.k c.loop-k.invariant.1 (rw c.if-not-is_fit.false at fit.ensures),
     )
 
 pub returns : goal.returns

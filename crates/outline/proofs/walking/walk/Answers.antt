@@ -40,7 +40,10 @@ returns-then-output-count c =
     })))
 
 pub last_stray-stray-requires : goal.last_stray-stray-requires
-last_stray-stray-requires c = (search rules, fit (goal.at.last_stray-stray-requires c).Else-unfit-ne0)
+last_stray-stray-requires c = record {
+  count_in_bounds = search rules;
+  fit_table = fit (goal.at.last_stray-stray-requires c).Else-unfit-ne0;
+}
 
 pub walk_under-requires : goal.walk_under-requires
 walk_under-requires c =
