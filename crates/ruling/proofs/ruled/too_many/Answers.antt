@@ -3,7 +3,6 @@
 use Prim.Native.Nat.{ℕ}
 use mathlib.Core.Path.{◌≡◌, sym, ◌∙◌}
 use mathlib.Core.Bool.{true}
-use borrow.Author.Tests.{not-true, not-false}
 use Rattle.text.specs.View.{Piece}
 use Rattle.elements.specs.Rules.{rule_of, few_components}
 use Rattle.elements.specs.internal.Layouts.{components_in}
