@@ -14,17 +14,19 @@ use Rattle.ruling.proofs.EarlyRules.{early_many, early_rest, unwanted_decides, o
 use Rattle.ruling.proofs.UnusedElements.{used_silent}
 use Rattle.ruling.proofs.UsualSegments.{usual_silent}
 use Rattle.ruling.proofs.ruled.early_verdict.Goals as goal
-use Rattle.ruling.proofs.ruled.early_verdict.Goals.{In_default}
+use Rattle.ruling.proofs.ruled.early_verdict.Goals.{In_default, Start}
 
 -- which elements are present
-abbrev there : tie.Start → ℕ → Bool
+abbrev there : Start → ℕ → Bool
 there c = there_in c.args.s.now c.args.starts.now c.args.layout
 
 -- 9 of an element that must be absent
-abbrev unwanted : tie.Start → Verdict
-unwanted c = unused_verdict (is_unused (element_profile c.args.profile) c.args.tag) (there c) c.args.layout.count
+abbrev unwanted : In_default → Verdict
+unwanted c =
+    unused_verdict (is_unused (element_profile c.args.profile) c.args.tag) (there_in c.args.s.now c.args.starts.now c.args.layout)
+    c.args.layout.count
 
-silent : (c : In_default) → Holds ≡ unwanted (goal.at.? c).Start
+silent : (c : In_default) → Holds ≡ unwanted c
 silent c = sym c.in_default.is ∙ c.unused_verdict.ensures
 
 pub returns-then-layout-usual : goal.returns-then-layout-usual

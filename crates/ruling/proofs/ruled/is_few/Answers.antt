@@ -11,8 +11,9 @@ use Rattle.elements.proofs.EveryTag.{few_but_NCA}
 use Rattle.ruling.proofs.TooMany.{few_fifth}
 use Rattle.elements.proofs.ByLayout.{element_at}
 use Rattle.ruling.proofs.ruled.is_few.Goals as goal
+use Rattle.ruling.proofs.ruled.is_few.Goals.{Start}
 
-abbrev at : tie.Start → ℕ → Piece
+abbrev at : Start → ℕ → Piece
 at c = components_in c.args.s.now c.args.starts.now c.args.layout c.args.component
 
 pub returns-then-tag-ne-NCA : goal.returns-then-tag-ne-NCA

@@ -3,6 +3,7 @@
 use Rattle.elements.proofs.RuleNumbers.{rules_N1, rules_DTM, rules_LIN, rules_NCA}
 use Rattle.elements.proofs.EveryTag.{no_notes}
 use Rattle.rows.specs.Tags.{tag_number}
+use native.Mathlib.Omega.{arith}
 use Rattle.ruling.proofs.ruled.notes_verdict.Goals as goal
 
 pub returns-in-7 : goal.returns-in-7
@@ -23,5 +24,4 @@ returns-in-32 c = rw (c.in-32.is, rules_NCA) c.party_notes-in-32.ensures
 
 pub returns-in_default : goal.returns-in_default
 unfolding tag_number
-returns-in_default c = rw (no_notes c.args.tag c.in_default.rest.0.0.0.1 c.in_default.rest.0.0.1 c.in_default.rest.0.1
-    c.in_default.rest.1)
+returns-in_default c = rw (no_notes c.args.tag (λ e. omega arith) (λ e. omega arith) (λ e. omega arith) (λ e. omega arith))

@@ -17,15 +17,15 @@ use Rattle.ruling.proofs.ruled.ruled_verdict.Goals as goal
 use Rattle.ruling.proofs.ruled.ruled_verdict.Goals.{Else-is_plain, In_default}
 
 -- what is found before the notes
-abbrev early : tie.Start → Verdict
+abbrev early : In_default → Verdict
 early c =
     early_by c.args.profile c.args.tag (there_in c.args.s.now c.args.starts.now c.args.layout)
     (components_in c.args.s.now c.args.starts.now c.args.layout c.args.component) c.args.layout.count
 
 ruled : (c : Else-is_plain) → length (rules_of c.args.tag).elements ≡ 0 → ⊥
-ruled (goal.at.? c).Else-is_plain z = true≢false (sym (c.is_plain.ensures ∙ eq-eqb _ 0 z) ∙ c.if-is_plain.false)
+ruled c z = true≢false (sym (c.is_plain.ensures ∙ eq-eqb _ 0 z) ∙ c.if-is_plain.false)
 
-silent : (c : In_default) → Holds ≡ early (goal.at.? c).Start
+silent : (c : In_default) → Holds ≡ early c
 silent c = sym c.in_default.is ∙ c.early_verdict.ensures
 
 pub returns-then-is_plain : goal.returns-then-is_plain

@@ -3,7 +3,6 @@
 use Prim.Native.Nat.{ℕ}
 use mathlib.Core.Path.{◌≡◌, sym, ◌∙◌}
 use mathlib.Core.Bool.{true}
-use borrow.Author.Tests.{not-true, not-false}
 use Rattle.text.specs.View.{Piece}
 use Rattle.elements.specs.Rules.{rule_of, few_components}
 use Rattle.elements.specs.internal.Layouts.{components_in}
@@ -11,18 +10,18 @@ use Rattle.elements.specs.internal.Verdicts.{rules_of}
 use Rattle.ruling.proofs.TooMany.{too_many_five, too_many_past, few_all}
 use Rattle.elements.proofs.ByLayout.{at_past}
 use Rattle.ruling.proofs.ruled.too_many.Goals as goal
-use Rattle.ruling.proofs.ruled.too_many.Goals.{Else-not-is_few}
+use Rattle.ruling.proofs.ruled.too_many.Goals.{Else-not-is_few, Start}
 
-abbrev at : tie.Start → ℕ → Piece
+abbrev at : Start → ℕ → Piece
 at c = components_in c.args.s.now c.args.starts.now c.args.layout c.args.component
 
-few : (c : Else-not-is_few) → few_components (rule_of (rules_of c.args.tag) 5).shape (at (goal.at.? c).Start 5) ≡ true
-few c = sym c.is_few.ensures ∙ not-false c.is_few.result c.if-not-is_few.false-raw
+few : (c : Else-not-is_few) → few_components (rule_of (rules_of c.args.tag) 5).shape (components_in c.args.s.now c.args.starts.now c.args.layout c.args.component 5) ≡ true
+few c = sym c.is_few.ensures ∙ c.if-not-is_few.false
 
 pub returns-then-not-is_few : goal.returns-then-not-is_few
 returns-then-not-is_few c =
     too_many_five c.args.tag c.args.layout.count (at (goal.at.returns-then-not-is_few c).Start) (λ l. at_past _ _ _ _ 5 l)
-    (sym c.is_few.ensures ∙ not-true c.is_few.result c.if-not-is_few.true-raw)
+    (sym c.is_few.ensures ∙ c.if-not-is_few.true)
 
 pub returns-then-last-layout : goal.returns-then-last-layout
 returns-then-last-layout c =

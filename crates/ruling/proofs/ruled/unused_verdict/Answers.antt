@@ -9,8 +9,9 @@ use Rattle.elements.specs.internal.Layouts.{there_in}
 use Rattle.ruling.proofs.RuleOrder.{there_past}
 use Rattle.ruling.proofs.UnusedElements.{report_used, others_used, used_silent, second_there, fourth_there, neither_there}
 use Rattle.ruling.proofs.ruled.unused_verdict.Goals as goal
+use Rattle.ruling.proofs.ruled.unused_verdict.Goals.{Start}
 
-abbrev there : tie.Start → ℕ → Bool
+abbrev there : Start → ℕ → Bool
 there c = there_in c.args.s.now c.args.starts.now c.args.layout
 
 pub returns-then-tag-ne-HL : goal.returns-then-tag-ne-HL

@@ -5,7 +5,7 @@ use Rattle.ruling.proofs.UsualSegments.{absent_suits, quick_suits}
 use Rattle.ruling.proofs.usual.id_suits.Goals as goal
 
 pub returns-then-p-eq0 : goal.returns-then-p-eq0
-returns-then-p-eq0 c = absent_suits _ ID _ _ _ c.if-p-eq0.true e
+returns-then-p-eq0 c e = absent_suits _ ID _ _ _ c.if-p-eq0.true e
 
 pub returns : goal.returns
-returns c = quick_suits _ ID _ _ _ _ c.if-p-eq0.false c.short_id.ensures e
+returns c e = quick_suits _ ID _ _ _ _ c.if-p-eq0.false c.short_id.ensures e

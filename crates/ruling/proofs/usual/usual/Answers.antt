@@ -12,28 +12,28 @@ use Rattle.ruling.proofs.usual.usual.Goals as goal
 
 pub returns-in-0 : goal.returns-in-0
 unfolding rules_of tag_number
-returns-in-0 c = (
+returns-in-0 c e = (
   rw c.in-0.is (suiting _ _ _ _ 2 c.usual_st.result refl c.usual_st.ensures e),
   others_used c.args.profile c.args.tag (λ z. omega (arith, c.in-0.is, z)),
 )
 
 pub returns-in-7 : goal.returns-in-7
 unfolding rules_of tag_number
-returns-in-7 c = (
+returns-in-7 c e = (
   rw c.in-7.is (suiting _ _ _ _ 4 c.usual_n1.result refl c.usual_n1.ensures e),
   others_used c.args.profile c.args.tag (λ z. omega (arith, c.in-7.is, z)),
 )
 
 pub returns-in-3 : goal.returns-in-3
 unfolding rules_of tag_number
-returns-in-3 c = (
+returns-in-3 c e = (
   rw c.in-3.is (suiting _ _ _ _ 3 c.usual_dtm.result refl c.usual_dtm.ensures e),
   others_used c.args.profile c.args.tag (λ z. omega (arith, c.in-3.is, z)),
 )
 
 pub returns-in-12 : goal.returns-in-12
 unfolding rules_of tag_number
-returns-in-12 c =
+returns-in-12 c e =
     let report = c.wants_none_absent.ensures (and_first c.wants_none_absent.result _ e) in (
       rw c.in-12.is
           (suiting _ _ _ _ 4 c.usual_hl.result refl c.usual_hl.ensures (and_second c.wants_none_absent.result _ e)),
@@ -42,24 +42,24 @@ returns-in-12 c =
 
 pub returns-in-27 : goal.returns-in-27
 unfolding rules_of tag_number
-returns-in-27 c = (
+returns-in-27 c e = (
   rw c.in-27.is (suiting _ _ _ _ 2 c.usual_nte.result refl c.usual_nte.ensures e),
   others_used c.args.profile c.args.tag (λ z. omega (arith, c.in-27.is, z)),
 )
 
 pub returns-in-32 : goal.returns-in-32
 unfolding rules_of tag_number
-returns-in-32 c = (
+returns-in-32 c e = (
   rw c.in-32.is (suiting _ _ _ _ 5 c.usual_nca.result refl c.usual_nca.ensures e),
   others_used c.args.profile c.args.tag (λ z. omega (arith, c.in-32.is, z)),
 )
 
 pub returns-in-33 : goal.returns-in-33
 unfolding rules_of tag_number
-returns-in-33 c = (
+returns-in-33 c e = (
   rw c.in-33.is (suiting _ _ _ _ 2 c.usual_se.result refl c.usual_se.ensures e),
   others_used c.args.profile c.args.tag (λ z. omega (arith, c.in-33.is, z)),
 )
 
 pub returns-in_default : goal.returns-in_default
-returns-in_default c = absurd (true≢false (sym e))
+returns-in_default c e = absurd (true≢false (sym e))

@@ -7,8 +7,9 @@ use Rattle.elements.specs.internal.Verdicts.{rules_of}
 use Rattle.ruling.specs.internal.Usual.{SuitsAt}
 use Rattle.ruling.proofs.UsualSegments.{one_more}
 use Rattle.ruling.proofs.usual.usual_n1.Goals as goal
+use Rattle.ruling.proofs.usual.usual_n1.Goals.{Start}
 
-abbrev Suited : tie.Start → ℕ → Type 0
+abbrev Suited : Start → ℕ → Type 0
 Suited c = SuitsAt c.args.s.now c.args.starts.now c.args.layout (tag "N1")
 
 pub returns : goal.returns

@@ -5,7 +5,7 @@ use mathlib.Core.Bool.{true≢false}
 use Rattle.ruling.proofs.usual.wants_none_absent.Goals as goal
 
 pub returns-in-Report : goal.returns-in-Report
-returns-in-Report c = c.in-Report.is
+returns-in-Report c e = c.in-Report.is
 
 pub returns-in-Reply : goal.returns-in-Reply
-returns-in-Reply c = absurd (true≢false (sym e))
+returns-in-Reply c e = absurd (true≢false (sym e))

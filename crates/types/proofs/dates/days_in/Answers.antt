@@ -1,7 +1,7 @@
 -- `days_in` meets its contract, month by month.
 -- Assumes nothing.
 use mathlib.Core.Path.{◌≡◌, sym}
-use mathlib.Core.Logic.{⊎_elim, inl, inr}
+use mathlib.Core.Logic.{⊎_elim}
 use Rattle.types.specs.Types.{days_in}
 use Rattle.types.proofs.Months.{thirty_one, no_month}
 use native.Mathlib.Omega.{arith}
@@ -21,25 +21,17 @@ returns-in-4 c = ⊎_elim (λ e. rw e) (⊎_elim (λ e. rw e) (⊎_elim (λ e. r
 
 pub returns-in_default : goal.returns-in_default
 unfolding days_in
-returns-in_default c = let z : c.args.month ≡ 0 = omega (arith, c.if-month-lt1.true) in rw z
+returns-in_default c = let z : c.args.month ≡ 0 = omega arith in rw z
 
 pub returns-in_default-2 : goal.returns-in_default-2
-returns-in_default-2 c =
-    let a = c.args in
-    let n9 : a.month ≡ 9 → ⊥ = λ e. c.in_default-1.rest.0.1 (inr (inr (inl e))) in
-    let n11 : a.month ≡ 11 → ⊥ = λ e. c.in_default-1.rest.0.1 (inr (inr (inr e))) in
-    let n10 : a.month ≡ 10 → ⊥ = λ e. c.in_default-1.rest.1 (inr (inr (inr (inl e)))) in
-    let n12 : a.month ≡ 12 → ⊥ = λ e. c.in_default-1.rest.1 (inr (inr (inr (inr e)))) in
-    sym (no_month a.year a.month (omega (arith, c.if-month-lt9.false)))
+returns-in_default-2 c = sym (no_month c.args.year c.args.month (grind arith))
 
 pub returns-in-1-to-12 : goal.returns-in-1-to-12
-unfolding days_in
-returns-in-1-to-12 c = ⊎_elim (λ e. rw e) (⊎_elim (λ e. rw e) (⊎_elim (λ e. rw e) (⊎_elim (λ e. rw e) (λ e. rw e)))) c.in-1-to-12.keys3
+returns-in-1-to-12 c =
+    sym
+    (thirty_one c.args.year c.args.month (omega arith) (omega arith) (λ e. omega arith) (λ e. omega arith) (λ e. omega arith) (λ e. omega arith) (λ e. omega arith))
 
 pub returns-in-1-to-12-2 : goal.returns-in-1-to-12-2
 returns-in-1-to-12-2 c =
-    let a = c.args in
-    let rest = c.in_default-1.rest in
     sym
-    (thirty_one a.year a.month c.if-month-lt1.false (omega (arith, c.if-month-lt9.true)) (λ e. rest.0.0.1 e) (λ e. rest.0.1 (inl e))
-    (λ e. rest.0.1 (inr (inl e))) (λ e. rest.0.1 (inr (inr (inl e)))) (λ e. rest.0.1 (inr (inr (inr e)))))
+    (thirty_one c.args.year c.args.month (omega arith) (omega arith) (λ e. grind arith) (λ e. grind arith) (λ e. grind arith) (λ e. grind arith) (λ e. grind arith))

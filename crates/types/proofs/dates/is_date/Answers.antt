@@ -2,7 +2,6 @@
 -- Assumes nothing.
 use mathlib.Core.Path.{◌≡◌, sym, ap₂, ◌∙◌}
 use mathlib.Core.Bool.{true}
-use borrow.Author.Tests.{not-true, not-false}
 use Rattle.types.specs.Types.{is_number, days_in}
 use Rattle.types.proofs.Figures.{written}
 use Rattle.types.proofs.Days.{date_length, date_digits, date_day}
@@ -11,14 +10,14 @@ use Rattle.types.proofs.dates.is_date.Goals as goal
 use Rattle.types.proofs.dates.is_date.Goals.{Else-not-is_number}
 
 digits : (c : Else-not-is_number) → is_number c.args.value.now ≡ true
-digits c = sym c.is_number.ensures ∙ not-false c.is_number.result c.if-not-is_number.false-raw
+digits c = sym c.is_number.ensures ∙ c.if-not-is_number.false
 
 pub returns-then-value-ne8 : goal.returns-then-value-ne8
 returns-then-value-ne8 c = date_length c.args.value.now c.if-value-ne8.true
 
 pub returns-then-not-is_number : goal.returns-then-not-is_number
 returns-then-not-is_number c = date_digits c.args.value.now
-    (sym c.is_number.ensures ∙ not-true c.is_number.result c.if-not-is_number.true-raw)
+    (sym c.is_number.ensures ∙ c.if-not-is_number.true)
 
 pub figures-requires : goal.figures-requires
 figures-requires c = written _ _ _ (digits (goal.at.figures-requires c).Else-not-is_number) (omega arith) (omega arith)

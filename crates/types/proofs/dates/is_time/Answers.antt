@@ -5,7 +5,6 @@ use mathlib.Core.Path.{◌≡◌, sym, ap, ◌∙◌}
 use mathlib.Core.Bool.{true}
 use lib.Dec.{leb}
 use lib.ListN.{length}
-use borrow.Author.Tests.{not-true, not-false}
 use Rattle.types.specs.Types.{is_number, figures}
 use Rattle.types.proofs.Figures.{written}
 use Rattle.types.proofs.Days.{timely, timely_by, timely_four, timely_six, time_length, time_digits, time_hour, time_minute, time_second, time_short}
@@ -15,13 +14,13 @@ use Rattle.types.proofs.dates.is_time.Goals.{Else-figures-gt23, Else-figures-gt5
 
 -- what each test that passed says
 sized : (c : Else-not-n) → timely (length c.args.value.now) ≡ true
-sized c = sym (timely_by (length c.args.value.now)) ∙ not-false _ c.if-not-n.false-raw
+sized c = sym (timely_by (length c.args.value.now)) ∙ c.if-not-n.false
 
 four : (c : Else-not-n) → 4 ≤ length c.args.value.now
-four c = timely_four (length c.args.value.now) (sized (goal.at.? c).Else-not-n)
+four c = timely_four (length c.args.value.now) (sized c)
 
 digits : (c : Else-not-is_number) → is_number c.args.value.now ≡ true
-digits c = sym c.is_number.ensures ∙ not-false c.is_number.result c.if-not-is_number.false-raw
+digits c = sym c.is_number.ensures ∙ c.if-not-is_number.false
 
 hours : (c : Else-figures-gt23) → figures 0 2 c.args.value.now ≤ 23
 hours c = rw c.figures.ensures at c.if-figures-gt23.false
@@ -31,11 +30,11 @@ minutes c = rw c.figures-2.ensures at c.if-figures-gt59.false
 
 pub returns-then-not-n : goal.returns-then-not-n
 returns-then-not-n c = time_length c.args.value.now
-    (sym (timely_by (length c.args.value.now)) ∙ not-true _ c.if-not-n.true-raw)
+    (sym (timely_by (length c.args.value.now)) ∙ c.if-not-n.true)
 
 pub returns-then-not-is_number : goal.returns-then-not-is_number
 returns-then-not-is_number c = time_digits c.args.value.now
-    (sym c.is_number.ensures ∙ not-true c.is_number.result c.if-not-is_number.true-raw)
+    (sym c.is_number.ensures ∙ c.if-not-is_number.true)
 
 pub figures-requires : goal.figures-requires
 figures-requires c = written _ _ _ (digits (goal.at.figures-requires c).Else-not-is_number) (omega (arith, four (goal.at.figures-requires c).Else-not-n)) (omega arith)

@@ -2,7 +2,6 @@
 -- Assumes nothing.
 use mathlib.Core.Path.{◌≡◌, sym, ◌∙◌}
 use mathlib.Core.Bool.{true}
-use borrow.Author.Tests.{not-true, not-false}
 use Rattle.types.specs.Types.{is_number}
 use Rattle.types.proofs.Figures.{written, number_none, number_long, number_other, number_written}
 use native.Mathlib.Omega.{arith}
@@ -10,7 +9,7 @@ use Rattle.types.proofs.digits.number_of.Goals as goal
 use Rattle.types.proofs.digits.number_of.Goals.{Else-not-is_number}
 
 digits : (c : Else-not-is_number) → is_number c.args.value.now ≡ true
-digits c = sym c.is_number.ensures ∙ not-false c.is_number.result c.if-not-is_number.false-raw
+digits c = sym c.is_number.ensures ∙ c.if-not-is_number.false
 
 pub returns-then-value-eq0 : goal.returns-then-value-eq0
 returns-then-value-eq0 c = number_none c.args.value.now c.if-value-eq0.true
@@ -20,7 +19,7 @@ returns-then-value-gt10 c = number_long c.args.value.now c.if-value-gt10.true
 
 pub returns-then-not-is_number : goal.returns-then-not-is_number
 returns-then-not-is_number c = number_other c.args.value.now
-    (sym c.is_number.ensures ∙ not-true c.is_number.result c.if-not-is_number.true-raw)
+    (sym c.is_number.ensures ∙ c.if-not-is_number.true)
 
 pub figures-requires : goal.figures-requires
 figures-requires c = written _ _ _ (digits (goal.at.figures-requires c).Else-not-is_number) (omega arith) c.if-value-gt10.false

@@ -1,4 +1,3 @@
-use Prim.Native.Nat.{◌-◌}
 use Rattle.types.proofs.Figures.{figured_none, room, figured_more, figured_all}
 use native.Mathlib.Omega.{arith}
 use Rattle.types.proofs.digits.value_from.Goals as goal

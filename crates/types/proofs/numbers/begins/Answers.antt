@@ -1,7 +1,6 @@
 -- `begins` meets its contract: an empty text begins with no byte.
 -- Assumes nothing.
 use Rattle.types.proofs.FirstDigits.{begins_none, begins_first}
-use Rattle.types.proofs.numbers.begins.Reads as reads
 use Rattle.types.proofs.numbers.begins.Goals as goal
 
 -- src/numbers.rt:32:9

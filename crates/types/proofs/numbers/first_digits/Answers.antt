@@ -1,7 +1,5 @@
-use Prim.Native.Nat.{◌-◌}
 use mathlib.Core.Path.{sym, ◌∙◌}
 use lib.Seq.{length-take-le}
-use borrow.Author.Tests.{not-true, not-false}
 use Rattle.types.proofs.FirstDigits.{running_none, running_more, running_stops, running_ends}
 use native.Mathlib.Omega.{arith}
 use Rattle.types.proofs.numbers.first_digits.Goals as goal
@@ -14,11 +12,11 @@ slice_bounds-result-end c = sym (length-take-le _ _ (omega (arith, c.loop-i-test
 
 pub returns-then-not-is_digit : goal.returns-then-not-is_digit
 returns-then-not-is_digit c = running_stops c.loop-i.invariant c.loop-i-test.true
-    (sym c.is_digit.ensures ∙ not-true c.is_digit.result c.if-not-is_digit.true-raw)
+    (sym c.is_digit.ensures ∙ c.if-not-is_digit.true)
 
 pub loop-i-preserved : goal.loop-i-preserved
 loop-i-preserved c = running_more c.loop-i.invariant c.loop-i-test.true
-    (sym c.is_digit.ensures ∙ not-false c.is_digit.result c.if-not-is_digit.false-raw)
+    (sym c.is_digit.ensures ∙ c.if-not-is_digit.false)
 
 pub returns : goal.returns
 returns c = running_ends c.loop-i.invariant c.loop-i-test.false

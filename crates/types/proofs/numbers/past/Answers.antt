@@ -3,8 +3,6 @@
 use mathlib.Core.Path.{sym, ◌∙◌}
 use Rattle.text.proofs.Lists.{part_from}
 use Rattle.types.proofs.FirstDigits.{begins_length}
-use Rattle.types.proofs.numbers.past.Reads as reads
-use Rattle.types.proofs.numbers.begins.Reads as begins_reads
 use Rattle.types.proofs.numbers.past.Goals as goal
 
 -- src/numbers.rt:42:16

@@ -1,6 +1,3 @@
-use Prim.Native.Nat.{◌-◌}
-use mathlib.Core.Bool.{◌||◌}
-use borrow.Author.Tests.{not-true, not-false}
 use Rattle.text.proofs.Tests.{passing_none, passing_more, every_fails, every_passes}
 use Rattle.types.proofs.values.is_id.Goals as goal
 
@@ -10,12 +7,12 @@ loop-i-init c = passing_none _ _
 pub returns-then-not-is_capital-is_digit : goal.returns-then-not-is_capital-is_digit
 returns-then-not-is_capital-is_digit c = every_fails 0 c.loop-i.invariant c.loop-i-test.true
     (rw (← c.is_capital.ensures, ← c.is_digit.ensures)
-    (not-true (c.is_capital.result || c.is_digit.result) c.if-not-is_capital-is_digit.true-raw))
+    c.if-not-is_capital-is_digit.true)
 
 pub loop-i-preserved : goal.loop-i-preserved
 loop-i-preserved c = passing_more 0 c.loop-i.invariant c.loop-i-test.true
     (rw (← c.is_capital.ensures, ← c.is_digit.ensures)
-    (not-false (c.is_capital.result || c.is_digit.result) c.if-not-is_capital-is_digit.false-raw))
+    c.if-not-is_capital-is_digit.false)
 
 pub returns : goal.returns
 returns c = every_passes 0 c.loop-i.invariant c.loop-i-test.false
