@@ -93,7 +93,7 @@ def table(tops, members):
     said = []
     lemmas = {it for it, kinds in tops.items() if kinds == {"lemma"}}
     # definitions first: a lemma that would have its function's name gets `_lem`
-    for name in sorted(list(every), key=lambda it: (it in lemmas, it)):
+    for name in sorted(list(every), key=lambda it: (it in lemmas or "-" in it, it)):
         new = every[name]
         if new in taken and name not in lemmas and new in lemmas and new not in every and f"{new}_lem" not in taken:
             every[new] = f"{new}_lem"
