@@ -15,7 +15,7 @@ inside c =
 pub overflow_add-end : goal.overflow_add-end
 overflow_add-end c =
     let a = c.args in
-    omega (arith, c.skipped_at.ensures, skipped_within a.how a.s.now a.at, (start c).well-formed.0, c.ranges.at)
+    omega (arith, c.skipped_at.ensures, skipped_within a.how a.s.now a.at, c.ranges.at)
 
 pub loop-i-init : goal.loop-i-init
 loop-i-init c = passing_none _ _ _ _ (omega arith)

@@ -9,7 +9,7 @@ use Rattle.reading.proofs.settling.pass_other.Goals as goal
 use Rattle.reading.proofs.settling.pass_other.Goals.{Else-not-segment_room}
 
 -- behind the test there is room
-fits : (c : Else-not-segment_room) → c.before.before.before.before.args.state.count < length c.before.before.before.before.args.segments.now / segment_width
+fits : (c : Else-not-segment_room) → c.args.state.count < length c.args.segments.now / segment_width
 fits c = room c.segment_room.result _ _ c.segment_room.ensures c.if-not-segment_room.false-raw
 
 pub returns-then-not-segment_room : goal.returns-then-not-segment_room
@@ -18,7 +18,7 @@ returns-then-not-segment_room c = λ levels lasts how before s gs rows g more t.
     full_other t _ refl (no_room asked.result _ _ asked.ensures c.if-not-segment_room.true-raw) _ c.refusal.ensures
 
 pub put_segment-requires : goal.put_segment-requires
-put_segment-requires c = record { at_le_end = c.before.before.before.before.before.requires.0; n_in_bounds = fits (goal.at.put_segment-requires c).Else-not-segment_room }
+put_segment-requires c = record { at_le_end = c.requires.at_le_end; n_in_bounds = fits (goal.at.put_segment-requires c).Else-not-segment_room }
 
 pub returns : goal.returns
 returns c = λ levels lasts how before s gs rows g more t.
