@@ -7,23 +7,26 @@ use Rattle.reading.proofs.reader.FirstTests.{unfit_refuses, long_refuses, segmen
 use Rattle.reading.proofs.reading.read.Goals as goal
 
 pub returns-then-not-fit : goal.returns-then-not-fit
-returns-then-not-fit c = unfit_refuses c.args.how _ _ c.ranges c.ranges c.if-not-fit.true-raw
+returns-then-not-fit c = unfit_refuses c.args.how _ _ c.fit.result c.fit.ensures c.if-not-fit.true-raw
 
 pub returns-then-s-gt-LIMIT : goal.returns-then-s-gt-LIMIT
 returns-then-s-gt-LIMIT c =
-    let told = c.ranges in
+    let told = c.fit in
     let a = c.args in
     long_refuses a.how a.s.now _ told.result told.ensures c.if-not-fit.false-raw (omega (arith, c.if-s-gt-LIMIT.true))
 
 pub read_on-ended-requires : goal.read_on-ended-requires
 read_on-ended-requires c =
-    let told = c.ranges in (
-      fitted _ (rw (← told.ensures, not-false told.result c.if-not-fit.false-raw) tt),
-      (omega (arith, c.if-s-gt-LIMIT.false), (c.set_special.ensures, c.next_table-table.ensures)),
-    )
+    let told = c.fit in
+    record {
+      fitted = fitted _ (rw (← told.ensures, not-false told.result c.if-not-fit.false-raw) tt);
+      s_len_bound = omega (arith, c.if-s-gt-LIMIT.false);
+      special_table = c.set_special.ensures;
+      next_table = c.next_table-table.ensures;
+    }
 
 pub returns : goal.returns
 returns c =
-    let told = c.ranges in
+    let told = c.fit in
     let a = c.args in
     segments_decide a.how a.s.now _ told.result told.ensures c.if-not-fit.false-raw (omega (arith, c.if-s-gt-LIMIT.false)) _ _ (rw c.clear.ensures c.read_on-ended.ensures)
