@@ -1,4 +1,6 @@
-use Prim.Native.Nat.{◌+◌, ◌-◌, ◌<◌}
+-- `past_line_end` meets its contract: the bytes of the line end are passed one by one, as `PastLineEnds` says.
+-- Assumes nothing.
+use Prim.Native.Nat.{◌+◌, ◌<◌}
 use mathlib.Core.Path.{ap}
 use native.Mathlib.Omega.{arith}
 use Rattle.gate.specs.Reads.{limit}

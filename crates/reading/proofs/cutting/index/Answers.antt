@@ -1,4 +1,5 @@
-use Prim.Native.Nat.{◌-◌}
+-- `index` meets its contract: each byte passed is counted, as `Index` says.
+-- Assumes nothing.
 use native.Mathlib.Omega.{arith}
 use Rattle.reading.proofs.cut.Index.{counted_none, counted_more, counted_at, counted_all, at_most_one_lem}
 use Rattle.reading.proofs.cutting.index.Goals as goal

@@ -2,7 +2,6 @@
 -- Assumes nothing.
 use mathlib.Core.Path.{◌≡◌, sym, ap, ◌∙◌}
 use mathlib.Core.Bool.{Bool, true, false}
-use borrow.Author.Tests.{not-true, not-false}
 use Rattle.text.specs.Bytes.{Bytes}
 use Rattle.types.specs.Types.{number_of}
 use Rattle.elements.specs.internal.Layouts.{element_in}
@@ -44,20 +43,20 @@ returns-then-not-same_bytes c =
     let start = (goal.at.returns-then-not-same_bytes c).Start in
     let told = counted (goal.at.returns-then-not-same_bytes c).After-number_of-told in
     other_control told c.args.state.count (control start) (opening start) (full start) c.if-told-eq0.false c.if-told-state.false
-    (same_by c.same_bytes.ensures c.element-control.ensures c.opening_control.ensures false (not-true _ c.if-not-same_bytes.true-raw))
+    (same_by c.same_bytes.ensures c.element-control.ensures c.opening_control.ensures false c.if-not-same_bytes.true)
 
 pub returns-then-not-all_filled : goal.returns-then-not-all_filled
 returns-then-not-all_filled c =
     let start = (goal.at.returns-then-not-all_filled c).Start in
     let told = counted (goal.at.returns-then-not-all_filled c).After-number_of-told in
     not_full told c.args.state.count (control start) (opening start) (full start) c.if-told-eq0.false c.if-told-state.false
-    (same_by c.same_bytes.ensures c.element-control.ensures c.opening_control.ensures true (not-false _ c.if-not-same_bytes.false-raw))
-    (sym c.all_filled.ensures ∙ not-true _ c.if-not-all_filled.true-raw)
+    (same_by c.same_bytes.ensures c.element-control.ensures c.opening_control.ensures true c.if-not-same_bytes.false)
+    (sym c.all_filled.ensures ∙ c.if-not-all_filled.true)
 
 pub returns : goal.returns
 returns c =
     let start = (goal.at.returns c).Start in
     let told = counted (goal.at.returns c).After-number_of-told in
     all_closed told c.args.state.count (control start) (opening start) (full start) c.if-told-eq0.false c.if-told-state.false
-    (same_by c.same_bytes.ensures c.element-control.ensures c.opening_control.ensures true (not-false _ c.if-not-same_bytes.false-raw))
-    (sym c.all_filled.ensures ∙ not-false _ c.if-not-all_filled.false-raw)
+    (same_by c.same_bytes.ensures c.element-control.ensures c.opening_control.ensures true c.if-not-same_bytes.false)
+    (sym c.all_filled.ensures ∙ c.if-not-all_filled.false)

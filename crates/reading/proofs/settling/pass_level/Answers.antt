@@ -1,7 +1,8 @@
 -- `pass_level` meets its contract: where there is room in both tables the reader stands behind the segment.
 -- Assumes nothing.
 use Prim.Native.Nat.{ℕ, ◌/◌, ◌<◌}
-use mathlib.Core.Path.{refl}
+use mathlib.Core.Path.{refl, ap}
+use mathlib.Core.Bool.{not}
 use native.Mathlib.Omega.{arith}
 use lib.ListN.{length}
 use Rattle.levels.specs.Widths.{segment_width, level_width}
@@ -11,21 +12,21 @@ use Rattle.reading.proofs.settling.pass_level.Goals.{Else-not-level_room, Else-n
 
 -- behind the test of the segment table there is room in it
 segment-fits : (c : Else-not-segment_room) → c.args.state.count < length c.args.segments.now / segment_width
-segment-fits c = room c.segment_room.result _ _ c.segment_room.ensures c.if-not-segment_room.false-raw
+segment-fits c = room c.segment_room.result _ _ c.segment_room.ensures (ap not c.if-not-segment_room.false)
 
 -- and behind that of the level table in that one
 level-fits : (c : Else-not-level_room) → c.args.state.levels < length c.args.levels.now / level_width
-level-fits c = room c.level_room.result _ _ c.level_room.ensures c.if-not-level_room.false-raw
+level-fits c = room c.level_room.result _ _ c.level_room.ensures (ap not c.if-not-level_room.false)
 
 -- no table has room for more records
 small : (c : Start) (n : ℕ) → n < length c.args.segments.now / segment_width → n < 9000000000000000000
 small c n room = omega arith
 
 pub returns-then-not-segment_room : goal.returns-then-not-segment_room
-returns-then-not-segment_room c = λ how before s gs rows g more t. full_level t _ _ refl (no_room c.segment_room.result _ _ c.segment_room.ensures c.if-not-segment_room.true-raw) _ c.refusal.ensures
+returns-then-not-segment_room c = λ how before s gs rows g more t. full_level t _ _ refl (no_room c.segment_room.result _ _ c.segment_room.ensures (ap not c.if-not-segment_room.true)) _ c.refusal.ensures
 
 pub returns-then-not-level_room : goal.returns-then-not-level_room
-returns-then-not-level_room c = λ how before s gs rows g more t. full_levels t _ _ refl (no_room c.level_room.result _ _ c.level_room.ensures c.if-not-level_room.true-raw) _ c.refusal-then-not-level_room.ensures
+returns-then-not-level_room c = λ how before s gs rows g more t. full_levels t _ _ refl (no_room c.level_room.result _ _ c.level_room.ensures (ap not c.if-not-level_room.true)) _ c.refusal-then-not-level_room.ensures
 
 pub overflow_add-number : goal.overflow_add-number
 overflow_add-number c = omega (arith, level-fits (goal.at.overflow_add-number c).Else-not-level_room)
