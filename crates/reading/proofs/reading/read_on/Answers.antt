@@ -1,6 +1,5 @@
 -- `read_on` meets its contract: each answer of a cut, of a judgement and of a settlement ends the reading or keeps the invariant, as `Going` says.
 -- Assumes nothing.
-use Prim.Native.Nat.{◌-◌}
 use mathlib.Core.Path.{refl}
 use native.Mathlib.Omega.{arith}
 use lib.ListN.{get_or-replicate}
