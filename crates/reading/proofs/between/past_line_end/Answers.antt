@@ -1,4 +1,6 @@
-use Prim.Native.Nat.{◌+◌, ◌-◌, ◌<◌}
+-- `past_line_end` meets its contract: the bytes of the line end are passed one by one, as `PastLineEnds` says.
+-- Assumes nothing.
+use Prim.Native.Nat.{◌+◌, ◌<◌}
 use mathlib.Core.Path.{ap}
 use native.Mathlib.Omega.{arith}
 use Rattle.gate.specs.Reads.{limit}
@@ -15,7 +17,7 @@ inside c =
 pub overflow_add-end : goal.overflow_add-end
 overflow_add-end c =
     let a = c.args in
-    omega (arith, c.skipped_at.ensures, skipped_within a.how a.s.now a.at, (start c).well-formed.0, c.ranges.at)
+    omega (arith, c.skipped_at.ensures, skipped_within a.how a.s.now a.at, c.ranges.at)
 
 pub loop-i-init : goal.loop-i-init
 loop-i-init c = passing_none _ _ _ _ (omega arith)

@@ -1,4 +1,5 @@
-use Prim.Native.Nat.{◌-◌}
+-- `fill` meets its contract: each byte passed has got the entry, as `SpecialBytes` says.
+-- Assumes nothing.
 use native.Mathlib.Omega.{arith}
 use Rattle.reading.proofs.cut.SpecialBytes.{filled_none, filled_more, filled_all}
 use Rattle.reading.proofs.cutting.fill.Goals as goal

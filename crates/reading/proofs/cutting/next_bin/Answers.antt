@@ -17,19 +17,17 @@ overflow_add-end c =
 pub next_counted-requires : goal.next_counted-requires
 next_counted-requires c =
     let a = c.args in
-    let pre = c.requires.fitted in (
-      pre.1.1,
-      (
-        attached_low a.separators a.s.now a.at pre.1.0 _ c.count.ensures _ _ c.in-Told.is,
-        attached_high a.separators a.s.now a.at pre.1.0 _ c.count.ensures _ _ c.in-Told.is,
-      ),
-    )
+    let marked = c.requires.t in
+    record {
+      starts_len = c.requires.starts_len;
+      at_bound = attached_low a.separators a.s.now a.at marked _ c.count.ensures _ _ c.in-Told.is;
+      attached_in_bounds = attached_high a.separators a.s.now a.at marked _ c.count.ensures _ _ c.in-Told.is;
+    }
 
 pub returns-in-Told : goal.returns-in-Told
 returns-in-Told c =
     let a = c.args in
-    let pre = c.requires.fitted in
-    counted_cuts a.separators a.s.now a.at pre.1.0 _ c.count.ensures _ _ c.in-Told.is _ _ pre.1.1 c.next_counted.result c.next_counted.ensures
+    counted_cuts a.separators a.s.now a.at c.requires.t _ c.count.ensures _ _ c.in-Told.is _ _ c.requires.starts_len c.next_counted.result c.next_counted.ensures
 
 pub returns-in-Open : goal.returns-in-Open
 returns-in-Open c =

@@ -1,4 +1,5 @@
-use Prim.Native.Nat.{◌-◌}
+-- `next_plain` meets its contract: each special place keeps the walk or ends it, as `Walk` and `Exits` say.
+-- Assumes nothing.
 use native.Mathlib.Omega.{arith}
 use Rattle.reading.proofs.cut.Walk.{walk_none, count_small, inside, on_element, on_component, on_refill}
 use Rattle.reading.proofs.cut.Exits.{at_end, at_bad, at_last}

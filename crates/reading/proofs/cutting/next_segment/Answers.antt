@@ -6,8 +6,11 @@ use Rattle.reading.proofs.cutting.next_segment.Goals as goal
 
 pub next_bin-requires : goal.next_bin-requires
 next_bin-requires c =
-    let pre = c.requires.special_table in
-    record { fitted = pre.1.0; t = rw (sym pre.1.1.1.0 ∙ c.if-onward.true) tt; starts_len = pre.1.1.1.1 }
+    record {
+      fitted = c.requires.fitted;
+      t = rw (sym c.requires.bin_value ∙ c.if-onward.true) tt;
+      starts_len = c.requires.starts_len;
+    }
 
 pub returns-then-onward : goal.returns-then-onward
 returns-then-onward c =
@@ -16,8 +19,12 @@ returns-then-onward c =
 
 pub next_plain-requires : goal.next_plain-requires
 next_plain-requires c =
-    let pre = c.requires.special_table in
-    record { special_table = pre.0; fitted = pre.1.0; ready = pre.1.1.0; starts_len = pre.1.1.1.1 }
+    record {
+      special_table = c.requires.special_table;
+      fitted = c.requires.fitted;
+      ready = c.requires.serves;
+      starts_len = c.requires.starts_len;
+    }
 
 pub returns : goal.returns
 returns c =

@@ -1,4 +1,5 @@
-use Prim.Native.Nat.{◌-◌}
+-- `stop` meets its contract: a terminator is met or never met, as `Searching` says.
+-- Assumes nothing.
 use Rattle.text.proofs.Searching.{passed_none, passed_more, met, never_met}
 use Rattle.reading.proofs.cutting.stop.Goals as goal
 

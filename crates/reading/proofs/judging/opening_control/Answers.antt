@@ -22,4 +22,4 @@ pub returns : goal.returns
 unfolding opening_control
 returns c =
     rw (le-ltb _ _ c.if-segments-lt-SEGMENT_WIDTH.false, le-ltb _ _ c.if-s-len.false)
-    (c.lookup.ensures.content ∙ (lies_part c.before.before.before.before.before.before.before.args.separators _ 2 0).holds)
+    (c.lookup.ensures.content ∙ (lies_part c.args.separators _ 2 0).holds)

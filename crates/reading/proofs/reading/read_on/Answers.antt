@@ -1,4 +1,5 @@
-use Prim.Native.Nat.{◌-◌}
+-- `read_on` meets its contract: each answer of a cut, of a judgement and of a settlement ends the reading or keeps the invariant, as `Going` says.
+-- Assumes nothing.
 use mathlib.Core.Path.{refl}
 use native.Mathlib.Omega.{arith}
 use lib.ListN.{get_or-replicate}
@@ -15,13 +16,18 @@ next_start-onward-requires c = c.requires.s_len_bound
 
 pub next_segment-requires : goal.next_segment-requires
 next_segment-requires c =
-    let pre = c.requires.fitted in
     let started = c.next_start-onward.ensures in
-    record { special_table = pre.1.1.0; fitted = pre.0; serves = onward_ready c.loop-end.invariant started pre.1.1.0; bin_value = started.bin_told; starts_len = c.loop-end.invariant.room }
+    record {
+      special_table = c.requires.special_table;
+      fitted = c.requires.fitted;
+      serves = onward_ready c.loop-end.invariant started c.requires.special_table;
+      bin_value = started.bin_told;
+      starts_len = c.loop-end.invariant.room;
+    }
 
 pub refused-requires : goal.refused-requires
 refused-requires c =
-    omega (arith, segments_few c.loop-end.invariant.stands, c.ranges)
+    omega (arith, segments_few c.loop-end.invariant.stands)
 
 pub shape_of-segments-in-Open : goal.shape_of-segments-in-Open
 shape_of-segments-in-Open c = segments_same c.loop-end.invariant.stands
@@ -38,7 +44,7 @@ pub bad_bytes-requires : goal.bad_bytes-requires
 bad_bytes-requires c =
     let stands = onward_stands c.loop-end.invariant c.next_start-onward.ensures in
     let w = bad_within stands _ _ _ _ c.next_segment.ensures _ c.in-Bad.is in
-    record { at_le_end = w.0; end_in_bounds = w.1; count_bound = omega (arith, segments_few stands, c.ranges) }
+    record { at_le_end = w.0; end_in_bounds = w.1; count_bound = omega (arith, segments_few stands) }
 
 pub shape_of-segments-in-Bad : goal.shape_of-segments-in-Bad
 shape_of-segments-in-Bad c = segments_same c.loop-end.invariant.stands
@@ -53,7 +59,7 @@ returns-in-Bad c =
 
 pub refused-requires-in-Broken : goal.refused-requires-in-Broken
 refused-requires-in-Broken c =
-    omega (arith, segments_few c.loop-end.invariant.stands, c.ranges)
+    omega (arith, segments_few c.loop-end.invariant.stands)
 
 pub shape_of-segments-in-Broken : goal.shape_of-segments-in-Broken
 shape_of-segments-in-Broken c = segments_same c.loop-end.invariant.stands
@@ -69,7 +75,7 @@ returns-in-Broken c =
 pub judge-judgement-requires : goal.judge-judgement-requires
 judge-judgement-requires c =
     let told = c.next_segment in
-    (c.requires.next_table, good_inside (cut_good told.result told.ensures c.in-Segment.is))
+    record { next_table = c.requires.next_table; inside = good_inside (cut_good told.result told.ensures c.in-Segment.is) }
 
 pub settle-requires : goal.settle-requires
 settle-requires c =

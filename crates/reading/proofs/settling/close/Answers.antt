@@ -1,7 +1,8 @@
 -- `close` meets its contract: where there is room the transaction is accepted.
 -- Assumes nothing.
 use Prim.Native.Nat.{◌/◌, ◌<◌}
-use mathlib.Core.Path.{refl}
+use mathlib.Core.Path.{refl, ap}
+use mathlib.Core.Bool.{not}
 use lib.ListN.{length}
 use Rattle.levels.specs.Widths.{segment_width}
 use Rattle.reading.proofs.reader.Settles.{room, no_room, full_last, settles_last}
@@ -9,16 +10,16 @@ use Rattle.reading.proofs.settling.close.Goals as goal
 use Rattle.reading.proofs.settling.close.Goals.{Else-not-segment_room}
 
 -- behind the test there is room
-fits : (c : Else-not-segment_room) → c.before.before.before.before.args.state.count < length c.before.before.before.before.args.segments.now / segment_width
-fits c = room c.segment_room.result _ _ c.segment_room.ensures c.if-not-segment_room.false-raw
+fits : (c : Else-not-segment_room) → c.args.state.count < length c.args.segments.now / segment_width
+fits c = room c.segment_room.result _ _ c.segment_room.ensures (ap not c.if-not-segment_room.false)
 
 pub returns-then-not-segment_room : goal.returns-then-not-segment_room
 returns-then-not-segment_room c = λ levels lasts how before s gs rows g more t.
     let asked = c.segment_room in
-    full_last t _ refl (no_room asked.result _ _ asked.ensures c.if-not-segment_room.true-raw) _ c.refusal.ensures
+    full_last t _ refl (no_room asked.result _ _ asked.ensures (ap not c.if-not-segment_room.true)) _ c.refusal.ensures
 
 pub put_segment-requires : goal.put_segment-requires
-put_segment-requires c = record { at_le_end = c.before.before.before.before.before.requires.0; n_in_bounds = fits (goal.at.put_segment-requires c).Else-not-segment_room }
+put_segment-requires c = record { at_le_end = c.requires.at_le_end; n_in_bounds = fits (goal.at.put_segment-requires c).Else-not-segment_room }
 
 pub returns : goal.returns
 returns c = λ levels lasts how before s gs rows g more t.
