@@ -13,7 +13,7 @@ use native.Mathlib.Omega.{arith}
 use Rattle.elements.proofs.fitting.elements_verdict.Goals as goal
 use Rattle.elements.proofs.fitting.elements_verdict.Goals.{After-is_complete, After-is_suited-suited, In-loop-k}
 
-abbrev at : tie.Start invariant-loop decreases-loop → ℕ → Piece
+abbrev at : Start → ℕ → Piece
 at c = components_in c.args.s.now c.args.starts.now c.args.layout c.args.component
 
 -- the element is one of the first 31
@@ -23,7 +23,7 @@ below c = omega (arith, c.loop-k-test.true, c.requires)
 -- what the two tests of element k find
 complete-here : (c : After-is_complete)
     → c.is_complete.result ≡ complete_at_of (rules_of c.args.tag)
-complete-hereore.before.before.before.before.before) c.loop-k.k
+    (components_in c.args.s.now c.args.starts.now c.args.layout c.args.component) c.loop-k.k
 complete-here c =
     c.is_complete.ensures
     ∙ complete_at _ _ _ c.rule_of-rule.result _ c.rule_of-rule.ensures.same
@@ -31,7 +31,7 @@ complete-here c =
 
 suited-here : (c : After-is_suited-suited)
     → c.is_suited-suited.result ≡ suits_at_of (rules_of c.args.tag)
-suited-hereefore.before.before.before.before.before.before.before) c.loop-k.k
+    (components_in c.args.s.now c.args.starts.now c.args.layout c.args.component) c.loop-k.k
 suited-here c =
     c.is_suited-suited.ensures
     ∙ suits_at _ _ _ c.rule_of-rule.result _ c.rule_of-rule.ensures.same

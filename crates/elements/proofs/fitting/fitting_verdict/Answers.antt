@@ -14,18 +14,18 @@ use Rattle.elements.proofs.ElementPass.{elements_reached}
 use native.Mathlib.Omega.{arith}
 use borrow.Author.Rules.{rules}
 use Rattle.elements.proofs.fitting.fitting_verdict.Goals as goal
-use Rattle.elements.proofs.fitting.fitting_verdict.Goals.{After-extent_of-extent, After-reach-upto}
+use Rattle.elements.proofs.fitting.fitting_verdict.Goals.{Start, After-extent_of-extent, After-reach-upto}
 
-abbrev at : tie.Start → ℕ → Piece
+abbrev at : Start → ℕ → Piece
 at c = components_in c.args.s.now c.args.starts.now c.args.layout c.args.component
 
 -- how far the rules reach, and the pass
 last : (c : After-extent_of-extent) → c.extent_of-extent.result.last ≡ length (rules_of c.args.tag).elements
-lastlding extent_of
+unfolding extent_of
 last c = ap (λ (x : Extent). x.last) c.extent_of-extent.ensures
 
 needed : (c : After-extent_of-extent) → c.extent_of-extent.result.needed ≡ last_must (rules_of c.args.tag).elements
-neededing extent_of
+unfolding extent_of
 needed c = ap (λ (x : Extent). x.needed) c.extent_of-extent.ensures
 
 within : (c : After-extent_of-extent) → c.extent_of-extent.result.needed ≤ c.extent_of-extent.result.last
