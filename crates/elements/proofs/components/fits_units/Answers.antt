@@ -1,4 +1,5 @@
-use Prim.Native.Nat.{◌-◌}
+-- `fits_units` meets its contract, from what its loop keeps.
+-- Assumes nothing.
 use mathlib.Core.Path.{sym, ◌∙◌}
 use Rattle.elements.proofs.ComponentPass.{passes_none, passes_unfit, passes_last, passes_more, passes_over}
 use native.Mathlib.Omega.{arith}

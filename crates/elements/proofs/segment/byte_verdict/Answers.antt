@@ -1,3 +1,5 @@
+-- `byte_verdict` meets its contract, from what its loop keeps.
+-- Assumes nothing.
 use mathlib.Core.Path.{sym, ◌∙◌}
 use Rattle.elements.proofs.Bytewise.{scanned_none, scanned_element, scanned_good, scanned_bad, scanned_all, bytes_bad}
 use Rattle.elements.proofs.segment.byte_verdict.Goals as goal
@@ -16,7 +18,7 @@ loop-i-preserved c =
     let inv = c.loop-i.invariant in
     let more = c.loop-i-test.true in
     elim c.if-b-element.branch [
-      then-b-element w ↦ rw w.k-is (scanned_element inv more w.if-b-element.true)
+      | then-b-element w ↦ rw w.k-is (scanned_element inv more w.if-b-element.true)
       | else-b-element+else-not-b-component w ↦ rw w.k-is (scanned_good inv more w.if-b-element.false w.if-not-b-component.false)
     ]
 

@@ -1,3 +1,5 @@
+-- `end_verdict` meets its contract, from what its loop keeps.
+-- Assumes nothing.
 use mathlib.Core.Path.{◌≡◌, sym, ◌∙◌}
 use mathlib.Core.Bool.{true, ◌||◌}
 use lib.Dec.{eqb}
@@ -18,7 +20,7 @@ loop-i-preserved c =
     let inv = c.loop-i.invariant in
     let more = c.loop-i-test.true in
     elim c.if-b-element.branch [
-      then-b-element+else-k-hollow w ↦ rw (w.k-is, w.bare-is, w.hollow-is) (ended_element inv more w.if-b-element.true w.if-k-hollow.false)
+      | then-b-element+else-k-hollow w ↦ rw (w.k-is, w.bare-is, w.hollow-is) (ended_element inv more w.if-b-element.true w.if-k-hollow.false)
       | else-b-element w ↦ rw (w.k-is, w.bare-is, w.hollow-is) (ended_other inv more w.if-b-element.false)
     ]
 

@@ -1,3 +1,5 @@
+-- `all_filled` meets its contract, from what its loop keeps.
+-- Assumes nothing.
 use mathlib.Core.Path.{ap, ◌∙◌}
 use Rattle.finding.specs.internal.Answers.{none_owes}
 use Rattle.finding.proofs.NoteLaws.{owes_one, owes_none, owes_nobody}

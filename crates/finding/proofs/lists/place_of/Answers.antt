@@ -1,4 +1,5 @@
-use Prim.Native.Nat.{◌-◌}
+-- `place_of` meets its contract, from what its loop keeps.
+-- Assumes nothing.
 use native.Mathlib.Omega.{arith}
 use Rattle.finding.proofs.PlaceLaws.{placed_none, placed_more, placed_all}
 use Rattle.finding.proofs.lists.place_of.Goals as goal

@@ -1,4 +1,5 @@
-use Prim.Native.Nat.{◌-◌}
+-- `find` meets its contract, from what its loops keep.
+-- Assumes nothing.
 use native.Mathlib.Omega.{arith}
 use Rattle.finding.proofs.LevelSearch.{seeks_all, sought_nowhere, seeks_other_end, compares_none, compares_inside, compares_more, compares_next, seeks_other_byte, sought_met}
 use Rattle.finding.proofs.search.find.Goals as goal
