@@ -1,4 +1,4 @@
-//! The build of the library for this processor, whose names begin with `native_`.
+//! The build of the library for this processor, as far as the kit compiles for it; its names begin with `native_`.
 
 #![allow(unsafe_code)]
 

@@ -37,7 +37,7 @@ pub struct Side {
     pub rewrite: Call,
 }
 
-/// The build that callers link, the one for this processor where it is built, and the hand-written reader, always last.
+/// The build that callers link, the native one where it is built, and the hand-written reader, always last.
 pub fn sides() -> Vec<Side> {
     vec![
         Side { name: "callers", read: library_read, rewrite: library_rewrite },

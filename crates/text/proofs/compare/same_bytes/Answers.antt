@@ -1,4 +1,3 @@
-use Prim.Native.Nat.{◌-◌}
 use Rattle.text.proofs.Alike.{alike_none, alike_more, alike_differ, alike_all, other_length}
 use Rattle.text.proofs.compare.same_bytes.Goals as goal
 

@@ -1,4 +1,4 @@
--- `at_most_one_lem` meets its contract.
+-- `at_most_one` meets its contract.
 -- Assumes nothing.
 use native.Mathlib.Omega.{arith}
 use Rattle.text.proofs.LineEnds.{one_past_end, one_there}

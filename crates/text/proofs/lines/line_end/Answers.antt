@@ -22,7 +22,7 @@ returns-then-s-at-gt13 c =
 pub overflow_add-at : goal.overflow_add-at
 overflow_add-at c =
     let a = c.args in
-    omega (arith, c.if-s-at.false, within.before.before.well-formed.0, c.at_most_one-returns.ensures, one_at_most a.separators CR (drop a.at a.s.now))
+    omega (arith, c.if-s-at.false, c.at_most_one-returns.ensures, one_at_most a.separators CR (drop a.at a.s.now))
 
 pub overflow_add-result : goal.overflow_add-result
 overflow_add-result c =

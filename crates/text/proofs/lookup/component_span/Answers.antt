@@ -14,7 +14,7 @@ use Rattle.text.proofs.lookup.component_span.Goals.{After-struct_known-2-1}
 
 -- what is found in the element
 found : (c : After-struct_known-2-1)
-found (let a = c.args in c.piece_span-within.result ≡ piece_span a.separator (part_of a.segment.now a.whole) (a.part - 1))
+    → (let a = c.args in c.piece_span-within.result ≡ piece_span a.separator (part_of a.segment.now a.whole) (a.part - 1))
 found c =
     let a = c.args in
     rw (add-sub_cancel_left a.whole.start a.whole.len) at c.piece_span-within.ensures

@@ -23,7 +23,7 @@ returns-then-segment-attached c =
 pub bin_span-requires : goal.bin_span-requires
 bin_span-requires c =
     let a = attached_within _ _ (shorter (goal.at.bin_span-requires c).Else-segment-attached) in
-    rw c.requires (a.low, a.high)
+    rw c.requires (record { le_attached = a.low; attached_in_bounds = a.high })
 
 pub returns : goal.returns
 returns c = c.bin_span.ensures ∙ rw c.requires (span_bin _ _ _ (shorter (goal.at.returns c).Else-segment-attached))

@@ -1,4 +1,3 @@
-use Prim.Native.Nat.{◌-◌}
 use native.Mathlib.Omega.{arith}
 use Rattle.text.proofs.Spans.{begun_none, begun_at, begun_more, met_inside, within, span_cut, span_last, span_past}
 use Rattle.text.proofs.lookup.piece_span.Goals as goal

@@ -1,4 +1,3 @@
-use Prim.Native.Nat.{◌-◌}
 use Rattle.text.proofs.Searching.{passed_none, passed_more, met, never_met}
 use Rattle.text.proofs.search.find.Goals as goal
 

@@ -1,4 +1,4 @@
--- `is_digit_lem` meets its contract: the same two tests.
+-- `is_digit` meets its contract: the same two tests.
 -- Assumes nothing.
 use mathlib.Core.Path.{refl}
 use Rattle.text.proofs.separators.is_digit.Goals as goal
