@@ -103,7 +103,7 @@ each_broken n a zero k f h l u e = absurd (omega arith)
 each_broken n a (suc m) k f h l u e =
     by_cases (dec_lt a k)
     (λ less. rw (h a (omega arith) less) (each_broken n (suc a) m k f (λ j p q. h j (omega arith) q) less (omega arith) e))
-    (λ not-less. let same : a ≡ k = omega arith in rw (same, e))
+    (λ not-less. let same : a ≡ k = omega arith in let fails : f a ≡ false = ap f same ∙ e in rw fails (ap (Broken n) same))
 
 -- elements that pass at the end do not matter
 pub each_upto : (n a m t : ℕ) (f : ℕ → Bool) → m ≤ t → ((k : ℕ) → a + m ≤ k → k < a + t → f k ≡ true)

@@ -1,4 +1,5 @@
-use Prim.Native.Nat.{◌-◌}
+-- `component_end` meets its contract, from what its loop keeps.
+-- Assumes nothing.
 use Rattle.text.proofs.Searching.{passed_none, passed_more}
 use Rattle.elements.proofs.ComponentPass.{upto_met, upto_end}
 use native.Mathlib.Omega.{arith}

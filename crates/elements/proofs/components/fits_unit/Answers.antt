@@ -8,14 +8,14 @@ pub returns-then-p-eq0 : goal.returns-then-p-eq0
 returns-then-p-eq0 c = unit_empty c.args.j c.requires c.args.p.now c.if-p-eq0.true
 
 pub returns-then-j-eq0 : goal.returns-then-j-eq0
-returns-then-j-eq0 c = c.fits2.ensures ∙ unit_first c.args.j c.requires
+returns-then-j-eq0 c = c.fits.ensures ∙ unit_first c.args.j c.requires
     c.args.p.now c.if-p-eq0.false c.if-j-eq0.true
 
 pub returns-then-j-eq1 : goal.returns-then-j-eq1
-returns-then-j-eq1 c = c.fits3.ensures ∙ unit_second c.args.j c.requires
+returns-then-j-eq1 c = c.fits-then-j-eq1.ensures ∙ unit_second c.args.j c.requires
     c.args.p.now c.if-p-eq0.false c.if-j-eq1.true
 
 pub returns : goal.returns
-returns c = c.fits4.ensures ∙ unit_third c.args.j c.requires
+returns c = c.fits-2.ensures ∙ unit_third c.args.j c.requires
     c.args.p.now c.if-p-eq0.false c.if-j-eq0.false
     c.if-j-eq1.false

@@ -1,6 +1,6 @@
-use Prim.Native.Nat.{◌-◌}
+-- `fits_units` meets its contract, from what its loop keeps.
+-- Assumes nothing.
 use mathlib.Core.Path.{sym, ◌∙◌}
-use borrow.Author.Tests.{not-true, not-false}
 use Rattle.elements.proofs.ComponentPass.{passes_none, passes_unfit, passes_last, passes_more, passes_over}
 use native.Mathlib.Omega.{arith}
 use Rattle.elements.proofs.components.fits_units.Goals as goal
@@ -17,12 +17,12 @@ slice_bounds-fits_unit-count c = c.component_end-to.ensures.forward
 pub returns-then-not-fits_unit : goal.returns-then-not-fits_unit
 returns-then-not-fits_unit c = passes_unfit c.loop-j.invariant c.component_end-to.ensures
     c.loop-j-test.true
-    (sym c.fits_unit.ensures ∙ not-true c.fits_unit.result c.if-not-fits_unit.true-raw)
+    (sym c.fits_unit.ensures ∙ c.if-not-fits_unit.true)
 
 pub returns-then-to-p : goal.returns-then-to-p
 returns-then-to-p c = passes_last c.loop-j.invariant c.component_end-to.ensures
     c.loop-j-test.true
-    (sym c.fits_unit.ensures ∙ not-false c.fits_unit.result c.if-not-fits_unit.false-raw) c.if-to-p.true
+    (sym c.fits_unit.ensures ∙ c.if-not-fits_unit.false) c.if-to-p.true
 
 pub overflow_add-from : goal.overflow_add-from
 overflow_add-from c = omega (arith, c.component_end-to.ensures.inside, c.if-to-p.false)
@@ -30,7 +30,7 @@ overflow_add-from c = omega (arith, c.component_end-to.ensures.inside, c.if-to-p
 pub loop-j-preserved : goal.loop-j-preserved
 loop-j-preserved c = passes_more c.loop-j.invariant c.component_end-to.ensures
     c.loop-j-test.true
-    (sym c.fits_unit.ensures ∙ not-false c.fits_unit.result c.if-not-fits_unit.false-raw) c.if-to-p.false
+    (sym c.fits_unit.ensures ∙ c.if-not-fits_unit.false) c.if-to-p.false
 
 pub returns : goal.returns
 returns c = passes_over c.loop-j.invariant c.loop-j-test.false

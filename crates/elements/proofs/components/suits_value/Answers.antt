@@ -6,7 +6,7 @@ use Rattle.elements.proofs.ComponentPass.{simple_free, simple_cut}
 use Rattle.elements.proofs.components.suits_value.Goals as goal
 
 pub returns-then-single : goal.returns-then-single
-returns-then-single c = rw c.if-single.true c.fits2.ensures
+returns-then-single c = rw c.if-single.true c.fits.ensures
 
 pub returns-then-holds : goal.returns-then-holds
 returns-then-holds c = rw c.if-single.false
@@ -17,7 +17,7 @@ returns-then-holds c = rw c.if-single.false
 
 pub returns : goal.returns
 returns c = rw c.if-single.false
-    (c.fits3.ensures
+    (c.fits-2.ensures
     ∙ simple_free (value c.args.rule.kind c.args.rule.least
     c.args.rule.most) c.args.separator
     c.args.p.now

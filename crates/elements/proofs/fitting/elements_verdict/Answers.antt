@@ -1,58 +1,50 @@
-use Prim.Native.Nat.{ℕ, ◌-◌, ◌<◌}
+-- `elements_verdict` meets its contract, from what its loop keeps.
+-- Assumes nothing.
 use mathlib.Core.Path.{◌≡◌, sym, ap, ◌∙◌}
 use mathlib.Core.Bool.{Bool, not, ◌&&◌}
-use mathlib.Core.Logic.{⊎_elim}
 use lib.Dec.{eqb}
-use borrow.Author.Tests.{not-true, not-false}
-use Rattle.text.specs.View.{Piece}
 use Rattle.elements.specs.internal.Layouts.{components_in}
 use Rattle.elements.specs.internal.Verdicts.{rules_of, complete_at_of, suits_at_of}
 use Rattle.elements.proofs.ElementPass.{judged_none, judged_first, judged_kept, judged_missing, judged_unfit, judged_all, complete_at, suits_at}
 use Rattle.elements.proofs.ByLayout.{element_early, element_at}
 use native.Mathlib.Omega.{arith}
 use Rattle.elements.proofs.fitting.elements_verdict.Goals as goal
-use Rattle.elements.proofs.fitting.elements_verdict.Goals.{After-is_complete, After-is_suited-suited, In-loop-k}
-
-abbrev at : tie.Start invariant-loop decreases-loop → ℕ → Piece
-at c = components_in c.args.s.now c.args.starts.now c.args.layout c.args.component
-
--- the element is one of the first 31
-below : (c : In-loop-k) → c.loop-k.k < 32
-below c = omega (arith, c.loop-k-test.true, c.requires)
+use Rattle.elements.proofs.fitting.elements_verdict.Goals.{After-is_complete, After-is_suited-suited, then-unfit-suited, else-unfit-suited}
 
 -- what the two tests of element k find
-complete-here : (c : After-is_complete)
+complete_here : (c : After-is_complete)
     → c.is_complete.result ≡ complete_at_of (rules_of c.args.tag)
-complete-hereore.before.before.before.before.before) c.loop-k.k
-complete-here c =
+    (components_in c.args.s.now c.args.starts.now c.args.layout c.args.component) c.loop-k.k
+complete_here c =
     c.is_complete.ensures
     ∙ complete_at _ _ _ c.rule_of-rule.result _ c.rule_of-rule.ensures.same
-    (element_at _ _ _ _ _ _ (c.element-p.ensures ∙ element_early _ _ _ _ (below (goal.at.? c).In-loop-k)))
+    (element_at _ _ _ _ _ _ (c.element-p.ensures ∙ element_early _ _ _ _ (omega arith)))
 
-suited-here : (c : After-is_suited-suited)
+suited_here : (c : After-is_suited-suited)
     → c.is_suited-suited.result ≡ suits_at_of (rules_of c.args.tag)
-suited-hereefore.before.before.before.before.before.before.before) c.loop-k.k
-suited-here c =
+    (components_in c.args.s.now c.args.starts.now c.args.layout c.args.component) c.loop-k.k
+suited_here c =
     c.is_suited-suited.ensures
     ∙ suits_at _ _ _ c.rule_of-rule.result _ c.rule_of-rule.ensures.same
-    (element_at _ _ _ _ _ _ (c.element-p.ensures ∙ element_early _ _ _ _ (below (goal.at.? c).In-loop-k)))
+    (element_at _ _ _ _ _ _ (c.element-p.ensures ∙ element_early _ _ _ _ (omega arith)))
 
 pub loop-k-init : goal.loop-k-init
 loop-k-init c = (judged_none _ _, omega arith)
 
 pub returns-then-not-is_complete : goal.returns-then-not-is_complete
 returns-then-not-is_complete c = judged_missing c.loop-k.invariant.0 _ c.loop-k-test.true
-    (sym (complete-here (goal.at.returns-then-not-is_complete c).After-is_complete) ∙ not-true c.is_complete.result c.if-not-is_complete.true-raw)
+    (sym (complete_here (goal.at.returns-then-not-is_complete c).After-is_complete) ∙ c.if-not-is_complete.true)
 
 pub loop-k-preserved : goal.loop-k-preserved
 loop-k-preserved c =
     let inv = c.loop-k.invariant.0 in
-    let complete = sym (complete-here (goal.at.loop-k-preserved c).After-is_complete) ∙ not-false c.is_complete.result
-    c.if-not-is_complete.false-raw in
+    let complete = sym (complete_here (goal.at.loop-k-preserved c).After-is_complete) ∙ c.if-not-is_complete.false in
     let suited = ap (λ (t : Bool). eqb c.loop-k.unfit 0 && not t)
-    (sym (suited-here (goal.at.loop-k-preserved c).After-is_suited-suited)) in (
-      ⊎_elim (λ w. rw w.1 (judged_first inv complete (suited ∙ w.0.taken))) (λ w. rw w.1 (judged_kept inv complete (suited ∙ w.0.left)))
-          c.if-unfit-suited.branch,
+    (sym (suited_here (goal.at.loop-k-preserved c).After-is_suited-suited)) in (
+      elim c.if-unfit-suited.branch [
+        | then-unfit-suited w ↦ rw w.unfit-is (judged_first inv complete (suited ∙ w.if-unfit-suited.true))
+        | else-unfit-suited w ↦ rw w.unfit-is (judged_kept inv complete (suited ∙ w.if-unfit-suited.false))
+      ],
       omega arith,
     )
 

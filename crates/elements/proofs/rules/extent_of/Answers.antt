@@ -1,10 +1,11 @@
 -- `extent_of` meets its contract, tag by tag: each arm is computed from the data.
 -- Assumes nothing.
+use native.Mathlib.Omega.{arith}
 use mathlib.Core.Path.{◌∙◌}
 use Rattle.rows.specs.Tags.{tag_number}
 use Rattle.elements.specs.internal.Verdicts.{rules_of}
 use Rattle.elements.specs.internal.Table.{extent_of}
-use Rattle.elements.proofs.RuleTable.{extent_plain}
+use Rattle.elements.proofs.RuleTable.{Plain, extent_plain}
 use Rattle.elements.proofs.rules.extent_of.Goals as goal
 
 pub returns-in-0 : goal.returns-in-0
@@ -41,4 +42,7 @@ returns-in-33 c = rw c.in-33.is c.stretch-in-33.ensures
 
 pub returns-in_default : goal.returns-in_default
 unfolding tag_number
-returns-in_default c = c.stretch-in_default.ensures ∙ extent_plain _ c.in_default.rest
+returns-in_default c =
+    let plain : Plain c.args.tag =
+    ((((((((tt, λ e. omega arith), λ e. omega arith), λ e. omega arith), λ e. omega arith), λ e. omega arith), λ e. omega arith), λ e. omega arith), λ e. omega arith) in
+    c.stretch-in_default.ensures ∙ extent_plain c.args.tag plain

@@ -1,12 +1,13 @@
 -- `is_plain` meets its contract, tag by tag.
 -- Assumes nothing.
+use native.Mathlib.Omega.{arith}
 use mathlib.Core.Path.{sym, ap}
 use borrow.Author.Tests.{eq-eqb}
 use Rattle.rows.specs.Tags.{tag_number}
 use Rattle.elements.specs.internal.Verdicts.{rules_of}
 use Rattle.elements.specs.internal.Table.{extent_of}
 use Rattle.elements.specs.declared.rules.Extent.{Extent}
-use Rattle.elements.proofs.RuleTable.{extent_plain}
+use Rattle.elements.proofs.RuleTable.{Plain, extent_plain}
 use Rattle.elements.proofs.rules.is_plain.Goals as goal
 
 pub returns-in-0 : goal.returns-in-0
@@ -43,4 +44,7 @@ returns-in-33 c = rw c.in-33.is
 
 pub returns-in_default : goal.returns-in_default
 unfolding extent_of tag_number
-returns-in_default c = sym (eq-eqb _ 0 (sym (ap (λ (x : Extent). x.last) (extent_plain _ c.in_default.rest))))
+returns-in_default c =
+    let plain : Plain c.args.tag =
+    ((((((((tt, λ e. omega arith), λ e. omega arith), λ e. omega arith), λ e. omega arith), λ e. omega arith), λ e. omega arith), λ e. omega arith), λ e. omega arith) in
+    sym (eq-eqb _ 0 (sym (ap (λ (x : Extent). x.last) (extent_plain c.args.tag plain))))

@@ -1,10 +1,11 @@
-use Prim.Native.Nat.{◌-◌}
+-- `end_verdict` meets its contract, from what its loop keeps.
+-- Assumes nothing.
 use mathlib.Core.Path.{◌≡◌, sym, ◌∙◌}
 use mathlib.Core.Bool.{true, ◌||◌}
 use lib.Dec.{eqb}
-use mathlib.Core.Logic.{⊎_elim}
 use Rattle.elements.proofs.Endings.{ended_none, ended_element, ended_other, ended_badly, ended_all, ends_pass}
 use Rattle.elements.proofs.segment.end_verdict.Goals as goal
+use Rattle.elements.proofs.segment.end_verdict.Goals.{then-b-element+else-k-hollow, else-b-element}
 
 pub loop-i-init : goal.loop-i-init
 loop-i-init c = ended_none _ _ _
@@ -18,8 +19,10 @@ pub loop-i-preserved : goal.loop-i-preserved
 loop-i-preserved c =
     let inv = c.loop-i.invariant in
     let more = c.loop-i-test.true in
-    ⊎_elim (λ w. rw (w.2, w.3, w.4) (ended_element inv more w.0.taken w.1.left))
-    (λ w. rw (w.1, w.2, w.3) (ended_other inv more w.0.left)) c.if-b-element.branch
+    elim c.if-b-element.branch [
+      | then-b-element+else-k-hollow w ↦ rw (w.k-is, w.bare-is, w.hollow-is) (ended_element inv more w.if-b-element.true w.if-k-hollow.false)
+      | else-b-element w ↦ rw (w.k-is, w.bare-is, w.hollow-is) (ended_other inv more w.if-b-element.false)
+    ]
 
 pub returns-then-k-bare : goal.returns-then-k-bare
 returns-then-k-bare c =

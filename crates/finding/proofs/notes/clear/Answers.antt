@@ -1,4 +1,5 @@
-use Prim.Native.Nat.{◌-◌}
+-- `clear` meets its contract, from what its loop keeps.
+-- Assumes nothing.
 use native.Mathlib.Omega.{arith}
 use Rattle.finding.proofs.NoteLaws.{cleared_none, cleared_long, cleared_more, cleared_all}
 use Rattle.finding.proofs.notes.clear.Goals as goal

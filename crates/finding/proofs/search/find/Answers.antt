@@ -1,6 +1,6 @@
-use Prim.Native.Nat.{◌-◌}
+-- `find` meets its contract, from what its loops keep.
+-- Assumes nothing.
 use native.Mathlib.Omega.{arith}
-use borrow.Author.Tests.{not-true, not-false}
 use Rattle.finding.proofs.LevelSearch.{seeks_all, sought_nowhere, seeks_other_end, compares_none, compares_inside, compares_more, compares_next, seeks_other_byte, sought_met}
 use Rattle.finding.proofs.search.find.Goals as goal
 
@@ -19,12 +19,12 @@ levels-smaller-then-not-may_end c = omega (arith, c.before-left.ensures)
 pub levels-preserved-then-not-may_end : goal.levels-preserved-then-not-may_end
 levels-preserved-then-not-may_end c =
     seeks_other_end c.levels.invariant c.levels-test.true c.before-left.ensures c.id_start-from.ensures
-    (rw (not-true c.may_end.result c.if-not-may_end.true-raw) at c.may_end.ensures)
+    (rw c.if-not-may_end.true at c.may_end.ensures)
 
 pub loop-i-init : goal.loop-i-init
 loop-i-init c =
     compares_none c.levels.invariant c.levels-test.true c.before-left.ensures c.id_start-from.ensures
-    (rw (not-false c.may_end.result c.if-not-may_end.false-raw) at c.may_end.ensures)
+    (rw c.if-not-may_end.false at c.may_end.ensures)
 
 pub overflow_add-from : goal.overflow_add-from
 overflow_add-from c = omega (arith, compares_inside c.loop-i.invariant c.loop-i-test.true)

@@ -8,7 +8,7 @@ use Rattle.finding.proofs.search.id_start.Goals.{After-segment_start-start}
 
 -- the segment of level n starts there
 starts : (c : After-segment_start-start) → (let a = c.args in
-startssegment-start.result ≡ start_of a.segments.now (level_entry a.levels.now a.n 0))
+    c.segment_start-start.result ≡ start_of a.segments.now (level_entry a.levels.now a.n 0))
 starts c =
     c.segment_start-start.ensures ∙ ap (start_of c.args.segments.now) c.level_segment.ensures
 

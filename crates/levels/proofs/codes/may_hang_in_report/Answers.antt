@@ -1,5 +1,6 @@
 -- `may_hang_in_report` meets its contract, by the parent's code.
 -- Assumes nothing.
+use native.Mathlib.Omega.{arith}
 use Rattle.levels.proofs.CodeLetters.{under_report, under_item, under_component, under_others}
 use Rattle.levels.proofs.codes.may_hang_in_report.Goals as goal
 
@@ -13,4 +14,4 @@ pub returns-in-3 : goal.returns-in-3
 returns-in-3 c = under_component _ _ c.in-3.is
 
 pub returns-in_default : goal.returns-in_default
-returns-in_default c = under_others _ _ c.in_default.rest.0.0.1 c.in_default.rest.0.1 c.in_default.rest.1
+returns-in_default c = under_others c.args.parent c.args.child (λ e. omega arith) (λ e. omega arith) (λ e. omega arith)

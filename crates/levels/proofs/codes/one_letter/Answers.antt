@@ -1,5 +1,6 @@
 -- `one_letter` meets its contract, by the letter.
 -- Assumes nothing.
+use native.Mathlib.Omega.{arith}
 use Rattle.levels.proofs.CodeLetters.{code_item, code_component, no_letter}
 use Rattle.levels.proofs.codes.one_letter.Goals as goal
 
@@ -10,4 +11,4 @@ pub returns-in-70 : goal.returns-in-70
 returns-in-70 c = code_component _ c.in-70.is
 
 pub returns-in_default : goal.returns-in_default
-returns-in_default c = no_letter _ c.in_default.rest.0.1 c.in_default.rest.1
+returns-in_default c = no_letter c.args.a (λ e. omega arith) (λ e. omega arith)

@@ -1,7 +1,5 @@
 -- `root_verdict` meets its contract: each test decides in its turn.
 -- Assumes nothing.
-use mathlib.Core.Bool.{◌&&◌}
-use borrow.Author.Tests.{not-true, not-false}
 use Rattle.levels.proofs.judging.root_verdict.Goals as goal
 
 pub returns-then-not-is_known-may_stand_alone : goal.returns-then-not-is_known-may_stand_alone
@@ -9,7 +7,7 @@ returns-then-not-is_known-may_stand_alone c =
     rw (
       ← c.is_known.ensures,
       ← c.may_stand_alone.ensures,
-      not-true (c.is_known.result && c.may_stand_alone.result) c.if-not-is_known-may_stand_alone.true-raw,
+      c.if-not-is_known-may_stand_alone.true,
     )
 
 pub returns-then-not-mark_fits : goal.returns-then-not-mark_fits
@@ -17,9 +15,9 @@ returns-then-not-mark_fits c =
     rw (
       ← c.is_known.ensures,
       ← c.may_stand_alone.ensures,
-      not-false (c.is_known.result && c.may_stand_alone.result) c.if-not-is_known-may_stand_alone.false-raw,
+      c.if-not-is_known-may_stand_alone.false,
       ← c.mark_fits.ensures,
-      not-true c.mark_fits.result c.if-not-mark_fits.true-raw,
+      c.if-not-mark_fits.true,
     )
 
 pub returns : goal.returns
@@ -27,7 +25,7 @@ returns c =
     rw (
       ← c.is_known.ensures,
       ← c.may_stand_alone.ensures,
-      not-false (c.is_known.result && c.may_stand_alone.result) c.if-not-is_known-may_stand_alone.false-raw,
+      c.if-not-is_known-may_stand_alone.false,
       ← c.mark_fits.ensures,
-      not-false c.mark_fits.result c.if-not-mark_fits.false-raw,
+      c.if-not-mark_fits.false,
     )
