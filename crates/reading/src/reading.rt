@@ -75,8 +75,8 @@ fn read_on(
     requires s_len_bound { length s.now ≤ limit }
     requires special_table { SpecialTable how.separators specials.now }
     requires next_table { NextTable table.now }
-    ensures { Read (profile_of how) how s.now (record { segments = segments.entry.now; levels = levels.old }) result.answer
-        (record { segments = segments.exit.now; levels = cleared result.levels levels.new }) }
+    ensures { Read (profile_of how) how s.now (record { segments = segments.old; levels = levels.old }) result.answer
+        (record { segments = segments.new; levels = cleared result.levels levels.new }) }
 {
     let mut lasts: [u32; LISTS] = [0; LISTS];
     let mut queue: [usize; 72] = [0; 72];
@@ -131,8 +131,8 @@ fn read_on(
 // Reads one transaction from the start of the bytes. The answer, the records in both lent tables: four numbers a segment (start, length,
 // row, level) and four a level (segment, parent's level, depth, code).
 pub fn read(s: &[u8], how: How, segments: &mut [u64], levels: &mut [u64]) -> Answer
-    ensures { Reads how s.now (record { segments = segments.entry.now; levels = levels.old }) result
-        (record { segments = segments.exit.now; levels = levels.new }) }
+    ensures { Reads how s.now (record { segments = segments.old; levels = levels.old }) result
+        (record { segments = segments.new; levels = levels.new }) }
 {
     if !how.separators.fit() {
         return Answer::Refused {

@@ -81,8 +81,8 @@ pub fn rewrite(
     levels: &mut [u64],
     output: &mut [u8],
 ) -> Answer
-    ensures { Rewrites profile old new s.now (record { segments = segments.entry.now; levels = levels.old }) output.old result
-        (record { segments = segments.exit.now; levels = levels.new }) output.new }
+    ensures { Rewrites profile old new s.now (record { segments = segments.old; levels = levels.old }) output.old result
+        (record { segments = segments.new; levels = levels.new }) output.new }
 {
     if !old.fit() {
         return refused(1, 0);
