@@ -5,10 +5,9 @@ ghost use Rattle.std.specs.Io.{ReadsAtMost};
 use crate::{hints, printing, refusing};
 use std::alloc::{AllocError, Global};
 use std::env::FillError;
-use std::io;
 use std::io::{ErrorKind, IsTerminal, Read, Write};
 use std::rt::{Env, Files};
-use std::{fs, str};
+use std::{fs, io, str};
 use text::compare;
 
 // The system's number for a name that is too long, ENAMETOOLONG.
@@ -86,10 +85,7 @@ fn beyond<I: Read + IsTerminal>(input: &mut I) -> io::Result<bool> {
 fn open_named<R: Files>(rt: &R, name: &[u8]) -> io::Result<R::File> {
     match str::from_utf8(name) {
         Ok(path) => fs::open(rt, path),
-        Err(_) => Err(io::Error::new(
-            ErrorKind::InvalidInput,
-            "File name not UTF-8",
-        )),
+        Err(_) => Err(io::Error::new(ErrorKind::InvalidInput, "File name not UTF-8")),
     }
 }
 

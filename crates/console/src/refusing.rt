@@ -9,5 +9,8 @@ pub fn refuse<O: Write>(
     byte: usize,
     element: usize,
 ) -> io::Result<()> {
-    writeln!(out, "refused {answer} segment {segment} byte {byte} element {element}")
+    writeln!(
+        out,
+        "refused {answer} segment {segment} byte {byte} element {element}"
+    )
 }

@@ -55,7 +55,13 @@ fn main(rt: HostRuntime) -> io::Result<()> {
     let mut space = [0u8; 4096];
     let Source { opened, long } = input::open(&rt, &mut err, alloc, &mut space)?;
     match opened {
-        Opened::Standard => run(&mut rt.stdin(), &mut out, &mut err, alloc, b"standard input"),
+        Opened::Standard => run(
+            &mut rt.stdin(),
+            &mut out,
+            &mut err,
+            alloc,
+            b"standard input",
+        ),
         Opened::File(mut file) => run(&mut file, &mut out, &mut err, alloc, &space[..long]),
         Opened::Nothing => Ok(()),
     }
