@@ -49,6 +49,7 @@ fn run<I: Read + IsTerminal, O: Write, E: Write>(
     Ok(())
 }
 
+// Each line goes out once it is whole, so that a hint comes behind the line that it is about.
 fn main(rt: HostRuntime) -> io::Result<()> {
     let alloc = rt.alloc();
     let mut out = LineWriter::new(alloc, rt.stdout())?;
