@@ -1,25 +1,26 @@
-// Words and numbers, on standard output and standard error.
+// Words and numbers, on a writer that stands for standard output, and on one that stands for standard error.
+use std::io;
+use std::io::Write;
 
-pub fn word(bytes: &[u8]) {
-    io::write_all(libc::STDOUT_FILENO, bytes);
+pub fn word<O: Write>(out: &mut O, bytes: &[u8]) -> io::Result<()> {
+    out.write_all(bytes)
 }
 
-pub fn number(n: u64) {
-    io::print_decimal(libc::STDOUT_FILENO, n);
+pub fn number<O: Write>(out: &mut O, n: u64) -> io::Result<()> {
+    write!(out, "{n}")
 }
 
 // A number behind a space.
-pub fn next(n: u64) {
-    word(b" ");
-    number(n);
+pub fn next<O: Write>(out: &mut O, n: u64) -> io::Result<()> {
+    write!(out, " {n}")
 }
 
-// A word on standard error.
-pub fn warn(bytes: &[u8]) {
-    io::write_all(libc::STDERR_FILENO, bytes);
+// A word on standard error. Where that cannot be written nobody can be told, and the verdict stands all the same.
+pub fn warn<E: Write>(err: &mut E, bytes: &[u8]) {
+    let _ = err.write_all(bytes);
 }
 
 // A number there.
-pub fn warn_number(n: u64) {
-    io::print_decimal(libc::STDERR_FILENO, n);
+pub fn warn_number<E: Write>(err: &mut E, n: u64) {
+    let _ = write!(err, "{n}");
 }

@@ -1,14 +1,16 @@
 // The line of a refusal, on standard output.
-use crate::printing;
+use std::io;
+use std::io::Write;
 
-pub fn refuse(answer: usize, segment: usize, byte: usize, element: usize) {
-    printing::word(b"refused ");
-    printing::number(answer as u64);
-    printing::word(b" segment ");
-    printing::number(segment as u64);
-    printing::word(b" byte ");
-    printing::number(byte as u64);
-    printing::word(b" element ");
-    printing::number(element as u64);
-    printing::word(b"\n");
+pub fn refuse<O: Write>(
+    out: &mut O,
+    answer: usize,
+    segment: usize,
+    byte: usize,
+    element: usize,
+) -> io::Result<()> {
+    writeln!(
+        out,
+        "refused {answer} segment {segment} byte {byte} element {element}"
+    )
 }

@@ -1,6 +1,8 @@
 // The lines of an outline, on standard output.
 use console::{codes, printing};
 use levels::widths::SEGMENT_WIDTH;
+use std::io;
+use std::io::Write;
 use text::lookup;
 use text::separators::Separators;
 
@@ -19,26 +21,23 @@ fn entry(table: &[u64], k: u64, which: usize) -> u64 {
     table[4 * before + which]
 }
 
-// How many segments belong to the level.
+// How many segments belong to the level, whose number is the last of their records.
 fn belonging(segments: &[u64], level: u64) -> u64 {
-    let mut count: u64 = 0;
-    let mut k: usize = 0;
-    while k < segments.len() / SEGMENT_WIDTH {
-        if segments[k * SEGMENT_WIDTH + 3] == level {
-            count += 1;
-        }
-        k += 1;
-    }
-    count
+    let count = segments
+        .iter()
+        .skip(SEGMENT_WIDTH - 1)
+        .step_by(SEGMENT_WIDTH)
+        .filter(|of| **of == level)
+        .count();
+    count as u64
 }
 
 // Two blanks for each level above one of this depth.
-fn indent(depth: u64) {
-    let mut above: u64 = 1;
-    while above < depth {
-        printing::word(b"  ");
-        above += 1;
+fn indent<O: Write>(out: &mut O, depth: u64) -> io::Result<()> {
+    for _ in 1..depth {
+        printing::word(out, b"  ")?;
     }
+    Ok(())
 }
 
 // The bytes from there, so many, where there are so many.
@@ -53,37 +52,43 @@ fn part(bytes: &[u8], start: usize, len: usize) -> &[u8] {
 }
 
 // The HL01 of a level's segment.
-fn name(segment: &[u8]) {
+fn name<O: Write>(out: &mut O, segment: &[u8]) -> io::Result<()> {
     let span = lookup::part_span(segment, Separators::standard(), 1, 0);
-    printing::word(part(segment, span.start, span.len));
+    printing::word(out, part(segment, span.start, span.len))
 }
 
 // The line of a level: the code in words and letters, HL01, where its HL stands, and how many segments belong to the level.
-fn line(report: &[u8], segments: &[u64], levels: &[u64], level: u64) {
+fn line<O: Write>(
+    out: &mut O,
+    report: &[u8],
+    segments: &[u64],
+    levels: &[u64],
+    level: u64,
+) -> io::Result<()> {
     let hl = entry(levels, level, 0);
     let code = entry(levels, level, 3);
     let start = entry(segments, hl, 0);
-    indent(entry(levels, level, 2));
-    codes::in_words(code);
-    codes::letters(code);
-    printing::word(b" ");
-    name(part(report, start as usize, entry(segments, hl, 1) as usize));
-    printing::word(b" segment ");
-    printing::number(hl);
-    printing::word(b" byte ");
-    printing::number(start);
-    printing::word(b" segments ");
-    printing::number(belonging(segments, level));
-    printing::word(b"\n");
+    let len = entry(segments, hl, 1);
+    indent(out, entry(levels, level, 2))?;
+    codes::in_words(out, code)?;
+    codes::letters(out, code)?;
+    printing::word(out, b" ")?;
+    name(out, part(report, start as usize, len as usize))?;
+    let count = belonging(segments, level);
+    writeln!(out, " segment {hl} byte {start} segments {count}")
 }
 
 // A line for each of the levels whose numbers stand first in the order, so many.
-pub(crate) fn list(report: &[u8], segments: &[u64], levels: &[u64], order: &[u64], count: usize) {
-    let mut i: usize = 0;
-    while i < count {
-        if i < order.len() {
-            line(report, segments, levels, order[i]);
-        }
-        i += 1;
+pub(crate) fn list<O: Write>(
+    out: &mut O,
+    report: &[u8],
+    segments: &[u64],
+    levels: &[u64],
+    order: &[u64],
+    count: usize,
+) -> io::Result<()> {
+    for level in order.iter().take(count) {
+        line(out, report, segments, levels, *level)?;
     }
+    Ok(())
 }

@@ -5,39 +5,65 @@
 
 mod lines;
 
+use console::input::{Opened, Source};
 use console::{hints, input, judging};
 use outline::walking;
+use std::alloc::Global;
+use std::io;
+use std::io::{IsTerminal, LineWriter, Read, Write};
 
 // Reads the report and prints what came of it. Room for 1,000 segments and 200 levels.
-fn judge(report: &[u8], name: &[u8]) {
+fn judge<O: Write, E: Write>(
+    out: &mut O,
+    err: &mut E,
+    report: &[u8],
+    name: &[u8],
+) -> io::Result<()> {
     let mut segments = [0u64; 4000];
     let mut levels = [0u64; 800];
     let mut order = [0u64; 200];
-    let verdict = judging::judge(report, name, &mut segments, &mut levels);
+    let verdict = judging::judge(out, err, report, name, &mut segments, &mut levels)?;
     if verdict.accepted {
         walking::walk(&levels, verdict.levels, &mut order);
-        lines::list(report, &segments, &levels, &order, verdict.levels);
-        hints::after_acceptance(report, verdict.bytes, name);
+        lines::list(out, report, &segments, &levels, &order, verdict.levels)?;
+        hints::after_acceptance(err, report, verdict.bytes, name);
     }
+    Ok(())
 }
 
-// Judges what the descriptor gives, at most 65,536 bytes.
-fn run(descriptor: i32, name: &[u8]) {
-    let mut buffer = io::large_buffer();
-    let filled = input::fill(descriptor, name, &mut buffer);
+// Judges what the input gives, at most 65,536 bytes.
+fn run<I: Read + IsTerminal, O: Write, E: Write>(
+    input: &mut I,
+    out: &mut O,
+    err: &mut E,
+    alloc: Global,
+    name: &[u8],
+) -> io::Result<()> {
+    let mut buffer = [0u8; 65536];
+    let filled = input::fill(input, out, err, alloc, name, &mut buffer)?;
     let len = filled.len;
     if filled.whole {
-        judge(&buffer[..len], name);
+        judge(out, err, &buffer[..len], name)?;
     }
+    Ok(())
 }
 
-fn main() {
-    let mut space = io::buffer();
-    let source = input::open(&mut space);
-    let long = source.long;
-    if source.standard {
-        run(0, b"standard input");
-    } else if 0 <= source.descriptor {
-        run(source.descriptor, &space[..long]);
+// Each line goes out once it is whole, so that a hint comes behind the line that it is about.
+fn main(rt: HostRuntime) -> io::Result<()> {
+    let alloc = rt.alloc();
+    let mut out = LineWriter::new(alloc, rt.stdout())?;
+    let mut err = rt.stderr();
+    let mut space = [0u8; 4096];
+    let Source { opened, long } = input::open(&rt, &mut err, alloc, &mut space)?;
+    match opened {
+        Opened::Standard => run(
+            &mut rt.stdin(),
+            &mut out,
+            &mut err,
+            alloc,
+            b"standard input",
+        ),
+        Opened::File(mut file) => run(&mut file, &mut out, &mut err, alloc, &space[..long]),
+        Opened::Nothing => Ok(()),
     }
 }

@@ -18,6 +18,10 @@ use gate::how::How;
 use outline::answer::Walked;
 use outline::walking;
 use rows::profile::ProfileName;
+use std::alloc::Global;
+use std::io::{BufWriter, ErrorKind, Read, Write};
+use std::rt::{Env, Files};
+use std::{fs, io, str};
 use text::lines::LineEnds;
 use text::lookup;
 use text::lookup::Span;
@@ -25,37 +29,31 @@ use text::separators::Separators;
 use types::numbers;
 use types::numbers::Number;
 
-fn word(bytes: &[u8]) {
-    io::write_all(1, bytes);
+fn word<O: Write>(out: &mut O, bytes: &[u8]) -> io::Result<()> {
+    out.write_all(bytes)
 }
 
-fn number(n: u64) {
-    io::print_decimal(1, n);
+fn number<O: Write>(out: &mut O, n: u64) -> io::Result<()> {
+    write!(out, "{n}")
 }
 
 // A number behind a space.
-fn next(n: u64) {
-    word(b" ");
-    number(n);
+fn next<O: Write>(out: &mut O, n: u64) -> io::Result<()> {
+    write!(out, " {n}")
 }
 
 // How far a number lies from 0.
 fn size(n: i64) -> u64 {
-    if 0 <= n {
-        return n as u64;
-    }
-    let less = n + 1;
-    let back = 0 - less;
-    back as u64 + 1
+    n.unsigned_abs()
 }
 
 // A number with its sign, behind a space.
-fn next_signed(n: i64) {
-    word(b" ");
+fn next_signed<O: Write>(out: &mut O, n: i64) -> io::Result<()> {
+    word(out, b" ")?;
     if n < 0 {
-        word(b"-");
+        word(out, b"-")?;
     }
-    number(size(n));
+    number(out, size(n))
 }
 
 // A byte of a header; 0 past its end.
@@ -88,22 +86,18 @@ fn lend(table: &mut [u64; 120], first: u64)
     requires first_bound { first < 1000000 }
     ensures { length table.new ≡ 120 }
 {
-    let mut i: usize = 0;
-    while i < 120 {
+    for i in 0..120usize {
         table[i] = first + i as u64;
-        i += 1;
     }
 }
 
 // The numbers of a table, on one line.
-fn list(name: &[u8], table: &[u64]) {
-    word(name);
-    let mut i: usize = 0;
-    while i < table.len() {
-        next(table[i]);
-        i += 1;
+fn list<O: Write>(out: &mut O, name: &[u8], table: &[u64]) -> io::Result<()> {
+    word(out, name)?;
+    for n in table {
+        next(out, *n)?;
     }
-    word(b"\n");
+    word(out, b"\n")
 }
 
 // What an output holds before a case.
@@ -111,46 +105,38 @@ fn lend_output(output: &mut [u8; 400])
     requires { length output.old ≡ 400 }
     ensures { length output.new ≡ 400 }
 {
-    let mut i: usize = 0;
-    while i < 400 {
+    for i in 0..400usize {
         output[i] = ((i * 7 + 3) % 256) as u8;
-        i += 1;
     }
 }
 
 // The bytes of an output, on one line.
-fn list_output(output: &[u8]) {
-    word(b"output");
-    let mut i: usize = 0;
-    while i < output.len() {
-        next(byte_at(output, i) as u64);
-        i += 1;
+fn list_output<O: Write>(out: &mut O, output: &[u8]) -> io::Result<()> {
+    word(out, b"output")?;
+    for byte in output {
+        next(out, u64::from(*byte))?;
     }
-    word(b"\n");
+    word(out, b"\n")
 }
 
 // The four numbers of an answer.
-fn four(a: usize, b: usize, c: usize, d: usize) {
-    number(a as u64);
-    next(b as u64);
-    next(c as u64);
-    next(d as u64);
-    word(b"\n");
+fn four<O: Write>(out: &mut O, a: usize, b: usize, c: usize, d: usize) -> io::Result<()> {
+    writeln!(out, "{a} {b} {c} {d}")
 }
 
-fn print_answer(answer: Answer) {
+fn print_answer<O: Write>(out: &mut O, answer: Answer) -> io::Result<()> {
     match answer {
         Answer::Accepted {
             segments,
             levels,
             bytes,
-        } => four(0, segments, levels, bytes),
+        } => four(out, 0, segments, levels, bytes),
         Answer::Refused {
             number: answer,
             segment,
             byte,
             element,
-        } => four(answer, segment, byte, element),
+        } => four(out, answer, segment, byte, element),
     }
 }
 
@@ -193,14 +179,21 @@ fn profile_at(header: &[u8], at: usize) -> ProfileName {
 }
 
 // The answer of a reading, and the tables afterwards.
-fn read_lent(input: &[u8], how: How, segments: &mut [u64], levels: &mut [u64]) {
-    print_answer(reading::reading::read(input, how, segments, levels));
-    list(b"segments", segments);
-    list(b"levels", levels);
+fn read_lent<O: Write>(
+    out: &mut O,
+    input: &[u8],
+    how: How,
+    segments: &mut [u64],
+    levels: &mut [u64],
+) -> io::Result<()> {
+    let answer = reading::reading::read(input, how, segments, levels);
+    print_answer(out, answer)?;
+    list(out, b"segments", segments)?;
+    list(out, b"levels", levels)
 }
 
 // A reading, with tables of the sizes that the header has.
-fn read_case(header: &[u8], input: &[u8]) {
+fn read_case<O: Write>(out: &mut O, header: &[u8], input: &[u8]) -> io::Result<()> {
     let how = How {
         separators: separators_at(header, 1),
         lines: lines_at(header, 11),
@@ -213,11 +206,12 @@ fn read_case(header: &[u8], input: &[u8]) {
     lend(&mut segments, 700000);
     lend(&mut levels, 800000);
     read_lent(
+        out,
         input,
         how,
         &mut segments[..segment_numbers],
         &mut levels[..level_numbers],
-    );
+    )
 }
 
 // Bytes `~`, one more than a reading takes.
@@ -229,31 +223,33 @@ fn longest() -> [u8; 1048577]
 
 // Puts bytes at the start of others, where they fit.
 fn copy(from: &[u8], to: &mut [u8]) {
-    if to.len() < from.len() {
-        return;
-    }
-    let mut i: usize = 0;
-    while i < from.len() {
-        to[i] = from[i];
-        i += 1;
+    let count = from.len();
+    if count <= to.len() {
+        to[..count].copy_from_slice(from);
     }
 }
 
 // A reading of the lent bytes with the input at their start.
-fn read_long(header: &[u8], input: &[u8], bytes: &mut [u8]) {
+fn read_long<O: Write>(
+    out: &mut O,
+    header: &[u8],
+    input: &[u8],
+    bytes: &mut [u8],
+) -> io::Result<()> {
     copy(input, bytes);
-    read_case(header, bytes);
+    read_case(out, header, bytes)
 }
 
 // A reading of an input that is as long as the header says.
-fn long_case(header: &[u8], input: &[u8]) {
+fn long_case<O: Write>(out: &mut O, header: &[u8], input: &[u8]) -> io::Result<()> {
     let mut bytes = longest();
     let length = least(three_at(header, 4), 1048577);
-    read_long(header, input, &mut bytes[..length]);
+    read_long(out, header, input, &mut bytes[..length])
 }
 
 // The answer of a rewriting, and the tables and the output afterwards.
-fn rewrite_lent(
+fn rewrite_lent<O: Write>(
+    out: &mut O,
     input: &[u8],
     profile: ProfileName,
     old: Separators,
@@ -261,15 +257,21 @@ fn rewrite_lent(
     segments: &mut [u64],
     levels: &mut [u64],
     output: &mut [u8],
-) {
-    print_answer(rewriting::rewriting::rewrite(input, profile, old, new, segments, levels, output));
-    list(b"segments", segments);
-    list(b"levels", levels);
-    list_output(output);
+) -> io::Result<()> {
+    let answer = rewriting::rewriting::rewrite(input, profile, old, new, segments, levels, output);
+    print_answer(out, answer)?;
+    list(out, b"segments", segments)?;
+    list(out, b"levels", levels)?;
+    list_output(out, output)
 }
 
 // A rewriting by the profile, with tables and an output of the sizes that the header has.
-fn rewrite_case(header: &[u8], input: &[u8], profile: ProfileName) {
+fn rewrite_case<O: Write>(
+    out: &mut O,
+    header: &[u8],
+    input: &[u8],
+    profile: ProfileName,
+) -> io::Result<()> {
     let old = separators_at(header, 1);
     let new = separators_at(header, 4);
     let segment_numbers = least(two_at(header, 7), 120);
@@ -282,6 +284,7 @@ fn rewrite_case(header: &[u8], input: &[u8], profile: ProfileName) {
     lend(&mut levels, 800000);
     lend_output(&mut output);
     rewrite_lent(
+        out,
         input,
         profile,
         old,
@@ -289,39 +292,37 @@ fn rewrite_case(header: &[u8], input: &[u8], profile: ProfileName) {
         &mut segments[..segment_numbers],
         &mut levels[..level_numbers],
         &mut output[..bytes],
-    );
+    )
 }
 
-fn print_span(span: Span) {
-    word(b"span ");
-    number(span.start as u64);
-    next(span.len as u64);
-    word(b"\n");
+fn print_span<O: Write>(out: &mut O, span: Span) -> io::Result<()> {
+    let start = span.start;
+    let len = span.len;
+    writeln!(out, "span {start} {len}")
 }
 
-fn print_number(checked: Number) {
-    word(b"number");
-    next(checked.fit as u64);
-    let value = checked.value;
-    next_signed(value);
-    next(checked.places as u64);
-    let exponent = checked.exponent;
-    next_signed(exponent);
-    next(checked.written as u64);
-    word(b"\n");
+fn print_number<O: Write>(out: &mut O, checked: Number) -> io::Result<()> {
+    word(out, b"number")?;
+    next(out, u64::from(checked.fit))?;
+    next_signed(out, checked.value)?;
+    next(out, u64::from(checked.places))?;
+    next_signed(out, checked.exponent)?;
+    next(out, u64::from(checked.written))?;
+    word(out, b"\n")
 }
 
 // A number check, with the least and the most digits that the header has.
-fn number_case(header: &[u8], text: &[u8]) {
-    print_number(numbers::check_number(text, two_at(header, 7), two_at(header, 9)));
+fn number_case<O: Write>(out: &mut O, header: &[u8], text: &[u8]) -> io::Result<()> {
+    let checked = numbers::check_number(text, two_at(header, 7), two_at(header, 9));
+    print_number(out, checked)
 }
 
 // A lookup of the two numbers that the header has.
-fn lookup_case(header: &[u8], segment: &[u8]) {
+fn lookup_case<O: Write>(out: &mut O, header: &[u8], segment: &[u8]) -> io::Result<()> {
     let separators = separators_at(header, 1);
     let number = two_at(header, 7);
     let part = two_at(header, 9);
-    print_span(lookup::part_span(segment, separators, number, part));
+    print_span(out, lookup::part_span(segment, separators, number, part))
 }
 
 // The number that a byte of a level table stands for.
@@ -329,7 +330,7 @@ fn table_number(byte: u8) -> u64 {
     if byte == 255 {
         18446744073709551615
     } else {
-        byte as u64
+        u64::from(byte)
     }
 }
 
@@ -338,38 +339,40 @@ fn fill(table: &mut [u64; 120], input: &[u8])
     requires { length table.old ≡ 120 }
     ensures { length table.new ≡ 120 }
 {
-    let mut i: usize = 0;
-    while i < 120 {
+    for i in 0..120usize {
         table[i] = table_number(byte_at(input, i));
-        i += 1;
     }
 }
 
 // The two numbers of a walk's answer.
-fn two(a: usize, b: usize) {
-    number(a as u64);
-    next(b as u64);
-    word(b"\n");
+fn two<O: Write>(out: &mut O, a: usize, b: usize) -> io::Result<()> {
+    writeln!(out, "{a} {b}")
 }
 
-fn print_walked(answer: Walked) {
+fn print_walked<O: Write>(out: &mut O, answer: Walked) -> io::Result<()> {
     match answer {
-        Walked::Listed { levels } => two(0, levels),
+        Walked::Listed { levels } => two(out, 0, levels),
         Walked::Refused {
             number: answer,
             level,
-        } => two(answer, level),
+        } => two(out, answer, level),
     }
 }
 
 // The answer of a walk, and the output afterwards.
-fn walk_lent(levels: &[u64], count: usize, output: &mut [u64]) {
-    print_walked(walking::walk(levels, count, output));
-    list(b"order", output);
+fn walk_lent<O: Write>(
+    out: &mut O,
+    levels: &[u64],
+    count: usize,
+    output: &mut [u64],
+) -> io::Result<()> {
+    let answer = walking::walk(levels, count, output);
+    print_walked(out, answer)?;
+    list(out, b"order", output)
 }
 
 // A walk, with the count and an output of the size that the header has.
-fn walk_case(header: &[u8], input: &[u8]) {
+fn walk_case<O: Write>(out: &mut O, header: &[u8], input: &[u8]) -> io::Result<()> {
     let count = two_at(header, 7);
     let level_numbers = least(input.len(), 120);
     let output_numbers = least(two_at(header, 9), 120);
@@ -378,65 +381,108 @@ fn walk_case(header: &[u8], input: &[u8]) {
     fill(&mut levels, input);
     lend(&mut output, 900000);
     walk_lent(
+        out,
         &levels[..level_numbers],
         count,
         &mut output[..output_numbers],
-    );
+    )
 }
 
 // One case.
-fn run_case(header: &[u8], input: &[u8]) {
+fn run_case<O: Write>(out: &mut O, header: &[u8], input: &[u8]) -> io::Result<()> {
     match byte_at(header, 0) {
-        1 => read_case(header, input),
-        2 => rewrite_case(header, input, ProfileName::Report),
-        3 => lookup_case(header, input),
-        4 => long_case(header, input),
-        5 => number_case(header, input),
-        6 => rewrite_case(header, input, ProfileName::Reply),
-        7 => walk_case(header, input),
-        _ => word(b"no such kind\n"),
+        1 => read_case(out, header, input),
+        2 => rewrite_case(out, header, input, ProfileName::Report),
+        3 => lookup_case(out, header, input),
+        4 => long_case(out, header, input),
+        5 => number_case(out, header, input),
+        6 => rewrite_case(out, header, input, ProfileName::Reply),
+        7 => walk_case(out, header, input),
+        _ => word(out, b"no such kind\n"),
     }
 }
 
 // The cases of a file, one after the other.
-fn run_cases(file: &[u8]) {
-    let mut at: usize = 0;
-    while 16 <= file.len() - at {
-        let len = three_at(&file[at..at + 16], 13);
-        if file.len() - at - 16 < len {
-            word(b"cut off\n");
-            return;
+fn run_cases<O: Write>(out: &mut O, file: &[u8]) -> io::Result<()> {
+    let mut rest = file;
+    while let Some((header, behind)) = rest.split_at_checked(16) {
+        let Some((input, others)) = behind.split_at_checked(three_at(header, 13)) else {
+            return word(out, b"cut off\n");
+        };
+        run_case(out, header, input)?;
+        rest = others;
+    }
+    Ok(())
+}
+
+// The bytes of the file with this name, the first 65,536 where it is longer.
+fn read_file<R: Files>(rt: &R, alloc: Global, name: &[u8]) -> io::Result<Vec<u8>> {
+    let Ok(path) = str::from_utf8(name) else {
+        return Err(io::Error::new(ErrorKind::InvalidInput, "File name not UTF-8"));
+    };
+    let mut bytes = Vec::new(alloc);
+    fs::open(rt, path)?.take(65536).read_to_end(&mut bytes)?;
+    Ok(bytes)
+}
+
+// The system's own words for an error: std puts its number behind them.
+fn words(message: &str) -> &str {
+    match message.split_once(" (os error ") {
+        Some((words, _)) => words,
+        None => message,
+    }
+}
+
+// Says on standard error that a file could not be read, and why.
+fn unreadable<E: Write>(
+    err: &mut E,
+    alloc: Global,
+    name: &[u8],
+    error: &io::Error,
+) -> io::Result<()> {
+    let message = format!(in alloc; "{error}")?;
+    word(err, name)?;
+    word(err, b": ")?;
+    word(err, words(message.as_str()).as_bytes())?;
+    word(err, b"\n")
+}
+
+// One file: false where there is no such argument, or where it cannot be read, which is said.
+fn run_file<R: Env + Files, O: Write, E: Write>(
+    rt: &R,
+    out: &mut O,
+    err: &mut E,
+    alloc: Global,
+    k: usize,
+) -> io::Result<bool> {
+    let mut path = [0u8; 4096];
+    let Ok(length) = rt.arg(k, &mut path) else {
+        return Ok(false);
+    };
+    let name = &path[..length];
+    match read_file(rt, alloc, name) {
+        Ok(file) => {
+            word(out, b"file ")?;
+            word(out, name)?;
+            word(out, b"\n")?;
+            run_cases(out, file.as_slice())?;
+            Ok(true)
         }
-        run_case(&file[at..at + 16], &file[at + 16..at + 16 + len]);
-        at += 16 + len;
+        Err(error) => {
+            unreadable(err, alloc, name, &error)?;
+            Ok(false)
+        }
     }
 }
 
-// One file: false where there is no such argument.
-fn run_file(k: usize) -> bool {
-    let mut path = io::buffer();
-    let length = os::arg(k, &mut path);
-    if os::errno() != 0 {
-        return false;
+fn main(rt: HostRuntime) -> io::Result<()> {
+    let alloc = rt.alloc();
+    let mut out = BufWriter::new(alloc, rt.stdout())?;
+    let mut err = rt.stderr();
+    for k in 1..1000usize {
+        if !run_file(&rt, &mut out, &mut err, alloc, k)? {
+            break;
+        }
     }
-    let fd = os::open_read(&path[..length]);
-    if fd < 0 {
-        os::fail(&path[..length]);
-        return false;
-    }
-    let mut file = io::large_buffer();
-    let n = io::read_full(fd, &mut file);
-    libc::close(fd);
-    word(b"file ");
-    word(&path[..length]);
-    word(b"\n");
-    run_cases(&file[..n]);
-    true
-}
-
-fn main() {
-    let mut k: usize = 1;
-    while k < 1000 && run_file(k) {
-        k += 1;
-    }
+    out.flush()
 }
