@@ -113,11 +113,13 @@ module _ (is : List Items) (more : List Edge) (x : ℕ) (w : List ℕ) (later : 
   firsts_read : (i : Items) → OneOf (Begins x w) (firsts i is more) → Spells (i ∷ is) (x ∷ w)
   firsts_read end h = ([], x ∷ w, done, later h, refl)
   firsts_read (row n t m true rest) (inl h) = row_reads n t m true rest h
+  firsts_read (row n t m true rest) (inr h) = elim h [ ]
   firsts_read (row n t m false rest) (inl h) = row_reads n t m false rest h
   firsts_read (row n t m false rest) (inr h) =
       let r = firsts_read rest h in
       (r.0, r.1, no_time n t m r.2, r.3, r.4)
   firsts_read (loop n t true body rest) (inl h) = loop_reads n t true body rest h
+  firsts_read (loop n t true body rest) (inr h) = elim h [ ]
   firsts_read (loop n t false body rest) (inl h) = loop_reads n t false body rest h
   firsts_read (loop n t false body rest) (inr h) =
       let r = firsts_read rest h in

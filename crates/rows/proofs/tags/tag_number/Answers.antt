@@ -4,32 +4,18 @@ use native.Mathlib.Omega.{arith}
 use Rattle.rows.proofs.Packing.{two_number, three_number, other_length}
 use Rattle.rows.proofs.tags.tag_number.Goals as goal
 
-pub packed_before-requires-then-tag-eq2 : goal.packed_before-requires-then-tag-eq2
-packed_before-requires-then-tag-eq2 c = let byte = c.shared_slice_known-then-tag-eq2-2-1.given in omega (arith, byte 0, byte 1)
-
-pub number_of_two-requires : goal.number_of_two-requires
-number_of_two-requires c = let byte = c.shared_slice_known-then-tag-eq2-2-1.given in omega (arith, byte 0, byte 1)
-
 pub returns-then-tag-eq2 : goal.returns-then-tag-eq2
 returns-then-tag-eq2 c =
-    let byte = c.shared_slice_known-then-tag-eq2-2-1.given in
+    let byte = c.type_inv.tag in
     let last = c.packed_before in
     let both = c.packed_before-then-tag-eq2 in
     two_number c.args.tag.now last.result both.result c.number_of_two.result
     c.if-tag-eq2.true (omega (arith, byte 0)) (omega (arith, byte 1)) last.ensures both.ensures
     c.number_of_two.ensures
 
-pub packed_before-requires-then-tag-eq3-2 : goal.packed_before-requires-then-tag-eq3-2
-packed_before-requires-then-tag-eq3-2 c = let byte = c.shared_slice_known-then-tag-eq3-3-1.given in omega (arith, byte 0, byte 1, byte 2)
-
-pub packed_before-requires-then-tag-eq3-3 : goal.packed_before-requires-then-tag-eq3-3
-packed_before-requires-then-tag-eq3-3 c =
-    let byte = c.shared_slice_known-then-tag-eq3-3-1.given in
-    omega (arith, byte 0, byte 1, byte 2)
-
 pub returns-then-tag-eq3 : goal.returns-then-tag-eq3
 returns-then-tag-eq3 c =
-    let byte = c.shared_slice_known-then-tag-eq3-3-1.given in
+    let byte = c.type_inv.tag in
     let last = c.packed_before-then-tag-eq3 in
     let later = c.packed_before-then-tag-eq3-2 in
     let all = c.packed_before-then-tag-eq3-3 in
