@@ -2,7 +2,6 @@
 -- Assumes nothing.
 use mathlib.Core.Path.{◌≡◌, sym, ◌∙◌}
 use mathlib.Core.Bool.{true}
-use borrow.Author.Tests.{not-true, not-false}
 use Rattle.text.specs.Separators.{fit_separators}
 use Rattle.text.proofs.View.{fitted}
 use Rattle.rewriting.proofs.AcceptedTable.{accepted_names, accepted_bytes, accepted_cut}
@@ -12,19 +11,19 @@ use Rattle.rewriting.proofs.rewriting.rewrite.Goals.{Else-not-fit, Else-not-fit-
 
 -- both sets are fit
 old-fits : (c : Else-not-fit) → fit_separators c.args.old ≡ true
-old-fits c = sym c.fit.ensures ∙ not-false _ c.if-not-fit.false
+old-fits c = sym c.fit.ensures ∙ c.if-not-fit.false
 
 new-fits : (c : Else-not-fit-2) → fit_separators c.args.new ≡ true
-new-fits c = sym c.fit-2.ensures ∙ not-false _ c.if-not-fit-2.false
+new-fits c = sym c.fit-2.ensures ∙ c.if-not-fit-2.false
 
 pub returns-then-not-fit : goal.returns-then-not-fit
 returns-then-not-fit c =
-    rw c.refused.ensures (old_unfit _ _ _ _ _ _ (sym c.fit.ensures ∙ not-true _ c.if-not-fit.true))
+    rw c.refused.ensures (old_unfit _ _ _ _ _ _ (sym c.fit.ensures ∙ c.if-not-fit.true))
 
 pub returns-then-not-fit-2 : goal.returns-then-not-fit-2
 returns-then-not-fit-2 c =
     rw c.refused-then-not-fit-2.ensures
-    (new_unfit _ _ _ _ _ _ (old-fits (goal.at.returns-then-not-fit-2 c).Else-not-fit) (sym c.fit-2.ensures ∙ not-true _ c.if-not-fit-2.true))
+    (new_unfit _ _ _ _ _ _ (old-fits (goal.at.returns-then-not-fit-2 c).Else-not-fit) (sym c.fit-2.ensures ∙ c.if-not-fit-2.true))
 
 pub write_accepted-requires : goal.write_accepted-requires
 write_accepted-requires c =
