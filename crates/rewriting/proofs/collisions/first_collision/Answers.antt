@@ -1,4 +1,5 @@
-use Prim.Native.Nat.{◌-◌}
+-- The goals of `first_collision`: record by record, up to the first that collides.
+-- Assumes nothing.
 use Rattle.rewriting.proofs.HarmlessBytes.{as_cut}
 use Rattle.rewriting.proofs.RecordByRecord.{Next, ahead_next, apart_start, apart_end, apart_next, apart_clash}
 use native.Mathlib.Omega.{arith}

@@ -1,4 +1,5 @@
-use Prim.Native.Nat.{◌-◌}
+-- The goals of `harmless_runs`: run by run, up to each BIN02 and behind it.
+-- Assumes nothing.
 use native.Mathlib.Omega.{arith}
 use Rattle.rewriting.proofs.SegmentBytes.{used_within}
 use Rattle.rewriting.proofs.Runs.{run_next, run_to}

@@ -1,4 +1,5 @@
-use Prim.Native.Nat.{◌-◌}
+-- The goals of `segment_collision`: a whole BIN, and any other segment byte by byte.
+-- Assumes nothing.
 use Rattle.text.proofs.BinSpans.{bin_of, plain_of}
 use Rattle.rewriting.proofs.CollidingBytes.{bin_apart, apart_none, apart_all, apart_behind, apart_more, apart_not}
 use Rattle.rewriting.proofs.collisions.segment_collision.Goals as goal

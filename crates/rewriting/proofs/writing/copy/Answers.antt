@@ -1,4 +1,5 @@
-use Prim.Native.Nat.{◌-◌}
+-- The goals of `copy`: byte by byte, as they are.
+-- Assumes nothing.
 use mathlib.Core.Path.{ap, ◌∙◌}
 use mathlib.Core.List.{map-id}
 use Rattle.text.specs.Bytes.{Bytes}

@@ -1,5 +1,5 @@
-use Prim.Native.Nat.{◌-◌}
-use Rattle.rewriting.specs.internal.Output.{byte_again}
+-- The goals of `write_again`: byte by byte, with the new separators.
+-- Assumes nothing.
 use Rattle.rewriting.proofs.OutputSoFar.{so_far_length}
 use Rattle.rewriting.proofs.ByteByByte.{written_none, written_inside, written_more, written_all}
 use Rattle.rewriting.proofs.writing.write_again.Goals as goal

@@ -1,4 +1,6 @@
-use Prim.Native.Nat.{◌-◌, ◌≤◌, ◌<◌}
+-- The goals of `write_segments`: run by run, each BIN02 as it is.
+-- Assumes nothing.
+use Prim.Native.Nat.{◌≤◌, ◌<◌}
 use lib.ListN.{length}
 use Rattle.rewriting.proofs.OutputSoFar.{so_far_length}
 use Rattle.rewriting.proofs.SegmentBytes.{used_within}
