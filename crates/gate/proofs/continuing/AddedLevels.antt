@@ -172,7 +172,8 @@ above_more n l ls e above m a b = go (dec_lt m (suc (length ls)))
         (above m a (omega arith)))
     go (no h) =
         let i : m ≡ suc (length ls) = omega arith in
-        rw (i, level_latest l ls, e) tt
+        subst (λ (k : ℕ). T (served (l ∷ ls) k (level_at k (l ∷ ls)))) (sym i)
+        (subst (λ (x : Level). T (served (l ∷ ls) (suc (length ls)) x)) (sym (level_latest l ls)) (rw e tt))
 
 -- it is an HL
 pub hl_is : (id parent code : Bytes) → is_hl (hl_view id parent code) ≡ true

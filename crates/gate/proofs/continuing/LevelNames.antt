@@ -148,7 +148,7 @@ named_earlier name q l ls m a b new n =
     (λ t. let e = ap (λ (s : Bytes). called s ls) (same_equal l.id (level_at m ls).id t) in omega (arith, n.found, new, e)) in
     record {
       nameable = rw (level_earlier m l ls b) n.nameable;
-      found = rw (level_earlier m l ls b, other) n.found;
+      found = subst (λ (x : Level). called x.id (l ∷ ls) ≡ m) (sym (level_earlier m l ls b)) (rw other n.found);
     }
 
 -- and is so itself

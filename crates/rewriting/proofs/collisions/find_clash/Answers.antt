@@ -17,11 +17,11 @@ harmless-requires c = within (goal.at.harmless-requires c).Start
 
 pub returns-then-harmless : goal.returns-then-harmless
 returns-then-harmless c =
-    let pre = c.requires.cut_off in
-    sym (harmless_used _ _ _ _ pre.0 pre.1.0 _ pre.1.1 (sym c.harmless.ensures ∙ c.if-harmless.true))
+    sym
+    (harmless_used _ _ _ _ c.requires.cut_off c.requires.fitted _ c.requires.bytes_value (sym c.harmless.ensures ∙ c.if-harmless.true))
 
 pub harmless_runs-requires : goal.harmless_runs-requires
-harmless_runs-requires c = c.requires.names_from
+harmless_runs-requires c = c.requires
 
 pub returns-then-harmless_runs : goal.returns-then-harmless_runs
 returns-then-harmless_runs c = sym (c.harmless_runs.ensures c.if-harmless_runs.true)

@@ -1,4 +1,5 @@
-use Prim.Native.Nat.{◌-◌}
+-- The goals of `harmless`: the bytes from `from` up to `to`, each tested in turn.
+-- Assumes nothing.
 use Rattle.rewriting.proofs.HarmlessBytes.{tested_none, tested_more, tested_all}
 use Rattle.rewriting.proofs.collisions.harmless.Goals as goal
 

@@ -1,8 +1,9 @@
-use Prim.Native.Nat.{◌-◌}
-use mathlib.Core.Logic.{⊎_elim}
+-- The goals of `segment_collision`: a whole BIN, and any other segment byte by byte.
+-- Assumes nothing.
 use Rattle.text.proofs.BinSpans.{bin_of, plain_of}
 use Rattle.rewriting.proofs.CollidingBytes.{bin_apart, apart_none, apart_all, apart_behind, apart_more, apart_not}
 use Rattle.rewriting.proofs.collisions.segment_collision.Goals as goal
+use Rattle.rewriting.proofs.collisions.segment_collision.Goals.{then-byte-change, else-byte-change+else-byte-change-2}
 
 pub returns-then-attached_from-segment : goal.returns-then-attached_from-segment
 returns-then-attached_from-segment c = bin_apart _ _ _ (bin_of _ _ (rw c.attached_from.ensures at c.if-attached_from-segment.true)) c.requires.fitted
@@ -18,8 +19,11 @@ pub loop-i-preserved : goal.loop-i-preserved
 loop-i-preserved c =
     let inv = c.loop-i.invariant in
     let inside = c.loop-i-test.true in
-    ⊎_elim (λ w. rw w.1 (apart_behind _ _ _ inv inside w.0.taken))
-    (λ w. rw w.4 (apart_more _ _ _ inv inside w.0.left (rw w.2.ensures at w.3.left))) c.if-byte-change.branch
+    elim c.if-byte-change.branch [
+      | then-byte-change w ↦ rw w.element-is (apart_behind _ _ _ inv inside w.if-byte-change.true)
+      | else-byte-change+else-byte-change-2 w ↦
+          rw w.element-is (apart_more _ _ _ inv inside w.if-byte-change.false (rw w.separates.ensures at w.if-byte-change-2.false))
+    ]
 
 pub returns : goal.returns
 returns c = apart_all _ _ _ c.loop-i.invariant c.loop-i-test.false

@@ -2,7 +2,6 @@
 -- Assumes nothing.
 use mathlib.Core.Path.{◌≡◌, sym, ◌∙◌}
 use mathlib.Core.Bool.{true}
-use borrow.Author.Tests.{not-true, not-false}
 use Rattle.text.specs.Separators.{fit_separators}
 use Rattle.text.proofs.View.{fitted}
 use Rattle.rewriting.proofs.AcceptedTable.{accepted_names, accepted_bytes, accepted_cut}
@@ -12,28 +11,30 @@ use Rattle.rewriting.proofs.rewriting.rewrite.Goals.{Else-not-fit, Else-not-fit-
 
 -- both sets are fit
 old-fits : (c : Else-not-fit) → fit_separators c.args.old ≡ true
-old-fits c = sym c.ranges ∙ not-false _ c.if-not-fit.false-raw
+old-fits c = sym c.fit.ensures ∙ c.if-not-fit.false
 
 new-fits : (c : Else-not-fit-2) → fit_separators c.args.new ≡ true
-new-fits c = sym c.fit-2.ensures ∙ not-false _ c.if-not-fit-2.false-raw
+new-fits c = sym c.fit-2.ensures ∙ c.if-not-fit-2.false
 
 pub returns-then-not-fit : goal.returns-then-not-fit
 returns-then-not-fit c =
-    rw c.refused.ensures (old_unfit _ _ _ _ _ _ (sym c.ranges ∙ not-true _ c.if-not-fit.true-raw))
+    rw c.refused.ensures (old_unfit _ _ _ _ _ _ (sym c.fit.ensures ∙ c.if-not-fit.true))
 
 pub returns-then-not-fit-2 : goal.returns-then-not-fit-2
 returns-then-not-fit-2 c =
     rw c.refused-then-not-fit-2.ensures
-    (new_unfit _ _ _ _ _ _ (old-fits (goal.at.returns-then-not-fit-2 c).Else-not-fit) (sym c.fit-2.ensures ∙ not-true _ c.if-not-fit-2.true-raw))
+    (new_unfit _ _ _ _ _ _ (old-fits (goal.at.returns-then-not-fit-2 c).Else-not-fit) (sym c.fit-2.ensures ∙ c.if-not-fit-2.true))
 
 pub write_accepted-requires : goal.write_accepted-requires
 write_accepted-requires c =
     let accepted = rw c.in-Accepted.is at c.read.ensures in
-    let a = both.before.before.before.before.before.before.before.before.args in
-    let new_fit = fitted a.new (rw (new-fits (goal.at.write_accepted-requires c).Else-not-fit-2) tt) in (
-      accepted_names a.profile a.old _ _ _ _ _ _ accepted,
-      (accepted_cut a.profile a.old _ _ _ _ _ _ accepted, (new_fit, accepted_bytes a.profile a.old _ _ _ _ _ _ accepted)),
-    )
+    let a = c.args in
+    record {
+      names_from = accepted_names a.profile a.old _ _ _ _ _ _ accepted;
+      cut_off = accepted_cut a.profile a.old _ _ _ _ _ _ accepted;
+      fitted = fitted a.new (rw (new-fits (goal.at.write_accepted-requires c).Else-not-fit-2) tt);
+      bytes_value = accepted_bytes a.profile a.old _ _ _ _ _ _ accepted;
+    }
 
 pub returns-in-Accepted : goal.returns-in-Accepted
 returns-in-Accepted c =

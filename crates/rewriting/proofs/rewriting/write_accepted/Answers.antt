@@ -13,8 +13,13 @@ returns-then-output-bytes c =
 
 pub write_segments-requires : goal.write_segments-requires
 write_segments-requires c =
-    let pre = c.requires.names_from in
-    record { names_from = pre.0; cut_off = pre.1.0; bytes_value = pre.1.1.1; bytes_in_bounds = c.if-output-bytes.false }
+    let pre = c.requires in
+    record {
+      names_from = pre.names_from;
+      cut_off = pre.cut_off;
+      bytes_value = pre.bytes_value;
+      bytes_in_bounds = c.if-output-bytes.false;
+    }
 
 pub returns-in-At : goal.returns-in-At
 returns-in-At c =

@@ -1,4 +1,5 @@
-use Prim.Native.Nat.{◌-◌}
+-- The goals of `copy`: byte by byte, as they are.
+-- Assumes nothing.
 use mathlib.Core.Path.{ap, ◌∙◌}
 use mathlib.Core.List.{map-id}
 use Rattle.text.specs.Bytes.{Bytes}
@@ -8,7 +9,7 @@ use Rattle.rewriting.proofs.ByteByByte.{written_none, written_inside, written_mo
 use Rattle.rewriting.proofs.writing.copy.Goals as goal
 
 pub loop-i-init : goal.loop-i-init
-loop-i-init c = let pre = c.requires.from_le_to in written_none _ _ _ _ _ pre.0 pre.1.0 pre.1.1
+loop-i-init c = written_none _ _ _ _ _ c.requires.from_le_to c.requires.to_in_bounds c.requires.to_in_bounds_2
 
 pub bounds-output-i : goal.bounds-output-i
 bounds-output-i c = written_inside _ _ _ _ _ c.loop-i.invariant c.loop-i-test.true

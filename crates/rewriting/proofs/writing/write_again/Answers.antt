@@ -1,11 +1,11 @@
-use Prim.Native.Nat.{◌-◌}
-use Rattle.rewriting.specs.internal.Output.{byte_again}
+-- The goals of `write_again`: byte by byte, with the new separators.
+-- Assumes nothing.
 use Rattle.rewriting.proofs.OutputSoFar.{so_far_length}
 use Rattle.rewriting.proofs.ByteByByte.{written_none, written_inside, written_more, written_all}
 use Rattle.rewriting.proofs.writing.write_again.Goals as goal
 
 pub loop-i-init : goal.loop-i-init
-loop-i-init c = let pre = c.requires.from_le_to in written_none _ _ _ _ _ pre.0 pre.1.0 pre.1.1
+loop-i-init c = written_none _ _ _ _ _ c.requires.from_le_to c.requires.to_in_bounds c.requires.to_in_bounds_2
 
 pub bounds-output-i : goal.bounds-output-i
 bounds-output-i c = written_inside _ _ _ _ _ c.loop-i.invariant c.loop-i-test.true
