@@ -34,6 +34,7 @@ pub fn begins(s: &[u8], at: usize, element: u8) -> bool
 }
 
 // The count from `from` on: 1 to 15 digits, which write 1 at least, and the element separator.
+#[tactic(auto, using(crate::proofs::Counting::count_nothing))]
 pub fn count(s: &[u8], from: usize, element: u8) -> Counted
     ensures { result ≡ count_from element 0 0 from (drop from s.now) }
 {

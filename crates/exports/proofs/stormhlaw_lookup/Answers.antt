@@ -8,7 +8,7 @@ use Rattle.exports.specs.Promises.{span_numbers}
 use Rattle.exports.proofs.stormhlaw_lookup.Goals as goal
 
 pub returns : goal.returns
-returns c =
+returns c terminator =
     let a = c.args in
     c.two.ensures
     ∙ ap span_numbers

@@ -15,4 +15,4 @@ returns-then-number-eq0 c =
 
 pub returns : goal.returns
 unfolding list842 tag_number
-returns c = row_list_agrees c.args.number (omega (arith, c.if-number-eq0.false)) (omega (arith, c.if-number-gt-LAST.false))
+returns c = row_list_agrees c.args.number (omega arith) (omega arith)

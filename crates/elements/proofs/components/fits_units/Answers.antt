@@ -25,7 +25,7 @@ returns-then-to-p c = passes_last c.loop-j.invariant c.component_end-to.ensures
     (sym c.fits_unit.ensures ∙ c.if-not-fits_unit.false) c.if-to-p.true
 
 pub overflow_add-from : goal.overflow_add-from
-overflow_add-from c = omega (arith, c.component_end-to.ensures.inside, c.if-to-p.false)
+overflow_add-from c = omega (arith, c.component_end-to.ensures.inside)
 
 pub loop-j-preserved : goal.loop-j-preserved
 loop-j-preserved c = passes_more c.loop-j.invariant c.component_end-to.ensures

@@ -17,4 +17,4 @@ returns-then-room-len-2 c =
 pub returns : goal.returns
 returns c =
     let a = c.args in
-    next_decides a.separator a.s.now a.from a.len (omega (arith, c.if-room-len.false, c.if-room-len-2.false))
+    next_decides a.separator a.s.now a.from a.len (omega arith)

@@ -10,10 +10,10 @@ use Rattle.numbering.proofs.next.row_after.Goals.{Else-tag-ge-NO_TAG, else-again
 
 -- past the first tests the row is 1 to 79 and the tag number below 34
 low : (c : Else-tag-ge-NO_TAG) → 1 ≤ c.args.row
-low c = omega (arith, c.if-row-eq0.false)
+low c = omega arith
 
 high : (c : Else-tag-ge-NO_TAG) → c.args.row ≤ 79
-high c = omega (arith, c.if-row-gt-LAST.false)
+high c = omega arith
 
 tag_in : (c : Else-tag-ge-NO_TAG) → c.args.tag < 34
 tag_in c = c.if-tag-ge-NO_TAG.false

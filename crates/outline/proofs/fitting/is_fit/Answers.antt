@@ -17,7 +17,7 @@ returns-then-k-parent c =
 pub depth_in-requires : goal.depth_in-requires
 depth_in-requires c =
     let near = not_outside c.args.k c.parent_in-parent.result c.depth_in-depth.result c.if-k-parent.false in
-    (omega (arith, c.if-parent-eq0.false), omega (arith, c.requires.1))
+    (omega arith, omega (arith, c.requires.1))
 
 pub overflow_sub-result : goal.overflow_sub-result
 overflow_sub-result c =

@@ -40,7 +40,7 @@ walk_under-next-requires t c =
     let deeper = child_depth levels level (pre.fit_table level (omega arith) (omega arith)) c.args.of hangs in
     let depth : c.args.depth + 1 ≡ depth_of levels level =
     omega (arith, pre.of_le_count.1, level_depth levels level (omega arith)) in (
-      omega (arith, c.decreases, c.if-depth-lt4.true),
+      omega (arith, c.decreases),
       (pre.count_in_bounds, (pre.fit_table, (pre.stray_value, ((omega arith, depth), rw length-set (omega arith))))),
     )
 

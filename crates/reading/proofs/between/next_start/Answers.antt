@@ -7,12 +7,12 @@ use Rattle.reading.proofs.between.next_start.Goals as goal
 pub returns-then-s-at : goal.returns-then-s-at
 returns-then-s-at c =
     let a = c.args in
-    stays_at_end a.how a.s.now a.at a.left (omega (arith, c.if-s-at.true))
+    stays_at_end a.how a.s.now a.at a.left (omega arith)
 
 pub returns-then-s-at-gt66 : goal.returns-then-s-at-gt66
 returns-then-s-at-gt66 c =
     let a = c.args in
-    stays_behind_b a.how a.s.now a.at a.left (omega (arith, c.if-s-at.false)) (omega (arith, c.if-s-at-gt66.true))
+    stays_behind_b a.how a.s.now a.at a.left (omega arith) (omega arith)
 
 pub returns : goal.returns
 returns c = c.past_line_end.ensures

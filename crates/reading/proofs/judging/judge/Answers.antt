@@ -19,9 +19,9 @@ returns-then-tag-ge-NO_TAG c =
 
 pub returns-then-not-layout : goal.returns-then-not-layout
 returns-then-not-layout c = λ before gs rows g more fit nt st.
-    judges_end fit nt st _ c.tag_of-tag.ensures (omega (arith, c.if-tag-ge-NO_TAG.false)) (rw c.if-not-layout.true tt) _ c.bad_end.ensures
+    judges_end fit nt st _ c.tag_of-tag.ensures (omega arith) (rw c.if-not-layout.true tt) _ c.bad_end.ensures
 
 pub judge_known-requires : goal.judge_known-requires
 judge_known-requires c =
-    let known : KnownTag _ _ c.args.layout _ = record { tagged = c.tag_of-tag.ensures; listed = omega (arith, c.if-tag-ge-NO_TAG.false); ended = of-not c.args.layout.ended c.if-not-layout.false } in
+    let known : KnownTag _ _ c.args.layout _ = record { tagged = c.tag_of-tag.ensures; listed = omega arith; ended = of-not c.args.layout.ended c.if-not-layout.false } in
     record { next_table = c.requires.next_table; known_tag = known }

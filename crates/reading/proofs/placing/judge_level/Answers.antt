@@ -70,7 +70,7 @@ returns c = λ m ls h f e.
     let own = own-found (goal.at.returns c).After-find m ls h f.0 e in
     let found = above-found (goal.at.returns c).After-find-above m ls h f.1 in
     let above = c.find-above.result in
-    let told = told_parent h above (omega (arith, c.if-above-eq0.false)) (omega (arith, found, called_below (claim start).parent ls)) in
+    let told = told_parent h above (omega arith) (omega (arith, found, called_below (claim start).parent ls)) in
     rw (c.parent_at-found.ensures ∙ told, c.element-code.ensures, c.element-mark.ensures) at c.judge_child.ensures
     ∙ judged_child_lem (level_profile c.args.profile) ls (claim start) (sym own ∙ c.if-find-ne0.false) above found
     (λ z. c.if-parent-eq0.false (ap length c.element-parent.ensures ∙ z)) c.if-above-eq0.false (level_at above ls) refl

@@ -14,14 +14,14 @@ pub returns-then-s-gt-LIMIT : goal.returns-then-s-gt-LIMIT
 returns-then-s-gt-LIMIT c =
     let told = c.fit in
     let a = c.args in
-    long_refuses a.how a.s.now _ told.result told.ensures (ap not c.if-not-fit.false) (omega (arith, c.if-s-gt-LIMIT.true))
+    long_refuses a.how a.s.now _ told.result told.ensures (ap not c.if-not-fit.false) (omega arith)
 
 pub read_on-ended-requires : goal.read_on-ended-requires
 read_on-ended-requires c =
     let told = c.fit in
     record {
       fitted = fitted _ (rw (← told.ensures, c.if-not-fit.false) tt);
-      s_len_bound = omega (arith, c.if-s-gt-LIMIT.false);
+      s_len_bound = omega arith;
       special_table = c.set_special.ensures;
       next_table = c.next_table-table.ensures;
     }
@@ -30,4 +30,4 @@ pub returns : goal.returns
 returns c =
     let told = c.fit in
     let a = c.args in
-    segments_decide a.how a.s.now _ told.result told.ensures (ap not c.if-not-fit.false) (omega (arith, c.if-s-gt-LIMIT.false)) _ _ (rw c.clear.ensures c.read_on-ended.ensures)
+    segments_decide a.how a.s.now _ told.result told.ensures (ap not c.if-not-fit.false) (omega arith) _ _ (rw c.clear.ensures c.read_on-ended.ensures)

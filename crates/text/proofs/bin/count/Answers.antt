@@ -15,11 +15,8 @@ other c = sym c.is_digit.ensures ∙ not-false c.is_digit.result c.if-not-is_dig
 pub loop-i-init : goal.loop-i-init
 loop-i-init c = counting_none _ _ _
 
-pub returns-then-number-eq0 : goal.returns-then-number-eq0
-returns-then-number-eq0 c = count_nothing c.loop-i.invariant c.loop-i-test.true c.if-b-element.true (omega (arith, c.if-number-eq0.true))
-
 pub returns-then-b-element : goal.returns-then-b-element
-returns-then-b-element c = count_tells c.loop-i.invariant c.loop-i-test.true c.if-b-element.true (omega (arith, c.if-number-eq0.false))
+returns-then-b-element c = count_tells c.loop-i.invariant c.loop-i-test.true c.if-b-element.true (omega arith)
 
 pub returns-then-not-is_digit : goal.returns-then-not-is_digit
 returns-then-not-is_digit c =

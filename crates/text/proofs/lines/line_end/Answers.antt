@@ -12,17 +12,17 @@ use Rattle.text.proofs.lines.line_end.Goals as goal
 pub returns-then-s-at : goal.returns-then-s-at
 returns-then-s-at c =
     let a = c.args in
-    sym (past_end a.separators Skipped a.s.now a.at (omega (arith, c.if-s-at.true)))
+    sym (past_end a.separators Skipped a.s.now a.at (omega arith))
 
 pub returns-then-s-at-gt13 : goal.returns-then-s-at-gt13
 returns-then-s-at-gt13 c =
     let a = c.args in
-    greater_there a.separators a.s.now a.at (omega (arith, c.if-s-at.false)) (omega (arith, c.if-s-at-gt13.true))
+    greater_there a.separators a.s.now a.at (omega arith) (omega arith)
 
 pub overflow_add-at : goal.overflow_add-at
 overflow_add-at c =
     let a = c.args in
-    omega (arith, c.if-s-at.false, c.at_most_one-returns.ensures, one_at_most a.separators CR (drop a.at a.s.now))
+    omega (arith, c.at_most_one-returns.ensures, one_at_most a.separators CR (drop a.at a.s.now))
 
 pub overflow_add-result : goal.overflow_add-result
 overflow_add-result c =

@@ -12,13 +12,13 @@ use Rattle.text.proofs.lookup.element_span.Goals.{Else-segment-attached}
 
 -- BIN02 starts before the end
 shorter : (c : Else-segment-attached) → attached_from c.args.separator c.args.segment.now < length c.args.segment.now
-shorter c = omega (arith, c.requires, c.if-segment-attached.false)
+shorter c = omega (arith, c.requires)
 
 pub returns-then-segment-attached : goal.returns-then-segment-attached
 returns-then-segment-attached c =
     let a = c.args in
     c.piece_span.ensures ∙ ap (piece_span a.separator a.segment.now) (omega arith)
-    ∙ span_pieces _ _ _ (omega (arith, c.requires, c.if-segment-attached.true))
+    ∙ span_pieces _ _ _ (omega (arith, c.requires))
 
 pub bin_span-requires : goal.bin_span-requires
 bin_span-requires c =

@@ -5,7 +5,7 @@ use Rattle.text.proofs.Parts.{only_whole, only_end}
 use Rattle.text.proofs.lookup.only_span.Goals as goal
 
 pub returns-then-part-le1 : goal.returns-then-part-le1
-returns-then-part-le1 c = only_whole _ _ (omega (arith, c.if-part-le1.true))
+returns-then-part-le1 c = only_whole _ _ (omega arith)
 
 pub returns : goal.returns
-returns c = only_end _ _ _ (omega arith) (omega (arith, c.if-part-le1.false))
+returns c = only_end _ _ _ (omega arith) (omega arith)

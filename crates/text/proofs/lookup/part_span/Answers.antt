@@ -13,9 +13,6 @@ use Rattle.text.proofs.lookup.part_span.Goals as goal
 pub element_span-whole-requires : goal.element_span-whole-requires
 element_span-whole-requires c = c.attached_from-attached.ensures
 
-pub returns-then-part-eq0 : goal.returns-then-part-eq0
-returns-then-part-eq0 c = c.element_span-whole.ensures ∙ span_whole _ _ _ _ (omega (arith, c.if-part-eq0.true))
-
 pub only_span-requires : goal.only_span-requires
 only_span-requires c = rw c.element_span-whole.ensures (lies_element _ _ _).inside
 
@@ -23,7 +20,7 @@ pub returns-then-attached-segment : goal.returns-then-attached-segment
 returns-then-attached-segment c =
     let a = c.args in
     c.only_span.ensures ∙ ap (λ (p : Span). only_span p a.part) c.element_span-whole.ensures
-    ∙ span_only _ _ _ _ (omega (arith, c.if-part-eq0.false)) (bin_of _ _ (omega (arith, c.attached_from-attached.ensures, attached_most a.separators.element a.segment.now, c.if-attached-segment.true)))
+    ∙ span_only _ _ _ _ (omega arith) (bin_of _ _ (omega (arith, c.attached_from-attached.ensures, attached_most a.separators.element a.segment.now)))
 
 pub component_span-requires : goal.component_span-requires
 component_span-requires c = rw c.element_span-whole.ensures (lies_element _ _ _).inside
@@ -33,4 +30,4 @@ returns c =
     let a = c.args in
     c.component_span.ensures
     ∙ ap (λ (p : Span). span_within p (piece_span a.separators.component (part_of a.segment.now p) (a.part - 1))) c.element_span-whole.ensures
-    ∙ span_pieced _ _ _ _ (omega (arith, c.if-part-eq0.false)) (plain_of _ _ (omega (arith, c.attached_from-attached.ensures, c.if-attached-segment.false)))
+    ∙ span_pieced _ _ _ _ (omega arith) (plain_of _ _ (omega (arith, c.attached_from-attached.ensures)))
