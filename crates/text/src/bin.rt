@@ -18,6 +18,7 @@ pub enum Counted {
 }
 
 // Whether `BIN` and the element separator stand from `at` on.
+#[tactic(auto, using(crate::proofs::Bins::begins_other))]
 pub fn begins(s: &[u8], at: usize, element: u8) -> bool
     ensures { result ≡ begins_bin element (drop at s.now) }
 {
