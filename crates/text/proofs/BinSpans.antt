@@ -106,6 +106,14 @@ module _ (e : ℕ) (g : Bytes) where
     pub count_broken : r ≡ Broken → length g ≡ attached_from e g
     count_broken z = uncounted (λ n m w. let x : ◌≡◌ {A = ℕ} 0 1 = cc in omega arith)
 
+  -- what is counted ends with the bytes, or not
+  pub attached_counted : (end : ℕ) → begins_bin e g ≡ true → count_from e 0 0 4 (drop 4 g) ≡ Told (length g - end - 1) end → end + 1 ≡ attached_from e g
+  attached_counted end b z = attached_here (rw b tt) _ refl (length g - end - 1) end z refl
+
+  pub attached_otherwise : (number end : ℕ) → begins_bin e g ≡ true → count_from e 0 0 4 (drop 4 g) ≡ Told number end
+      → (length g - end - 1 ≡ number → ⊥) → length g ≡ attached_from e g
+  attached_otherwise number end b z n = attached_elsewhere (rw b tt) _ refl number end z n
+
   -- the elements by that place
   pub bin_of : attached_from e g < length g → is_bin e g ≡ true
   bin_of l = by (is_bin e g) refl
