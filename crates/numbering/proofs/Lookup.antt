@@ -10,7 +10,7 @@ use native.Mathlib.Omega.{arith}
 use native.Mathlib.Decide.{dec_lt}
 use lib.Dec.{eqb}
 use lib.ListN.{get_or}
-use borrow.Author.Tests.{eq-eqb, ne_eqb, le-leb, lt-leb, le-ltb, lt-ltb}
+use borrow.Author.Tests.{eq-eqb, ne_eqb, eqb-true, eqb-false, le-leb, lt-leb, le-ltb, lt-ltb}
 use Rattle.text.proofs.Bools.{cond_same}
 use Rattle.text.proofs.Tables.{tab, tab_at}
 use Rattle.rows.specs.Tags.{tag, tag_number}
@@ -135,14 +135,26 @@ module _ {table : List ℕ} {r : ℕ} {again : Bool} {t : ℕ} where
       third_refused p q s = by_entry 0 (rw (p, eq-eqb (stands_at table r t) r q, s))
 
       -- a row of another maximum once more
-      pub other_maximum : again ≡ true → stands_at table r t ≡ r → eqb (max_of r) 2 ≡ false
+      other_maximum : again ≡ true → stands_at table r t ≡ r → eqb (max_of r) 2 ≡ false
           → RowAfter table r again t (stands_at table r t)
       other_maximum p q s = by_entry (stands_at table r t) (rw (p, eq-eqb (stands_at table r t) r q, s))
 
       -- another row after one that stands right behind itself
-      pub other_row : again ≡ true → (stands_at table r t ≡ r → ⊥) → RowAfter table r again t (stands_at table r t)
+      other_row : again ≡ true → (stands_at table r t ≡ r → ⊥) → RowAfter table r again t (stands_at table r t)
       other_row p q = by_entry (stands_at table r t) (rw (p, ne_eqb (stands_at table r t) r q))
 
       -- any row after one that stands once
-      pub first_time : again ≡ false → RowAfter table r again t (stands_at table r t)
+      first_time : again ≡ false → RowAfter table r again t (stands_at table r t)
       first_time p = by_entry (stands_at table r t) (rw p)
+
+      -- any row but a third
+      pub goes_on : (again ≡ true → stands_at table r t ≡ r → eqb (max_of r) 2 ≡ true → ⊥)
+          → RowAfter table r again t (stands_at table r t)
+      goes_on n = by again (eqb (stands_at table r t) r) (eqb (max_of r) 2) refl refl refl
+        where
+          by : (a e m : Bool) → again ≡ a → eqb (stands_at table r t) r ≡ e → eqb (max_of r) 2 ≡ m
+              → RowAfter table r again t (stands_at table r t)
+          by false e m p q s = first_time p
+          by true false m p q s = other_row p (eqb-false _ _ q)
+          by true true false p q s = other_maximum p (eqb-true _ _ q) s
+          by true true true p q s = absurd (n p (eqb-true _ _ q) s)

@@ -74,14 +74,14 @@ module _ (e : ℕ) (g : Bytes) where
       counted = marked_counts e g f.count f.rest whole f.free
 
       -- it ends with the bytes
-      pub attached_here : length g - end - 1 ≡ number → end + 1 ≡ attached_from e g
+      attached_here : length g - end - 1 ≡ number → end + 1 ≡ attached_from e g
       attached_here h =
           let c = digits_counts f.count f.rest f.digits (sym f.number_is ∙ omega (arith, long)) in
           let n : count_in e g ≡ f.count = ap (count_in e) whole ∙ count_made e f.count f.rest f.free in
           sym (attached_bin (counted ∙ counts_passes f.count f.rest c) ∙ omega (arith, ap length n, f.end_is))
 
       -- or not
-      pub attached_elsewhere : (length g - end - 1 ≡ number → ⊥) → length g ≡ attached_from e g
+      attached_elsewhere : (length g - end - 1 ≡ number → ⊥) → length g ≡ attached_from e g
       attached_elsewhere h =
           sym
           (attached_plain
@@ -105,6 +105,14 @@ module _ (e : ℕ) (g : Bytes) where
 
     pub count_broken : r ≡ Broken → length g ≡ attached_from e g
     count_broken z = uncounted (λ n m w. let x : ◌≡◌ {A = ℕ} 0 1 = cc in omega arith)
+
+  -- what is counted ends with the bytes, or not
+  pub attached_counted : (end : ℕ) → begins_bin e g ≡ true → count_from e 0 0 4 (drop 4 g) ≡ Told (length g - end - 1) end → end + 1 ≡ attached_from e g
+  attached_counted end b z = attached_here (rw b tt) _ refl (length g - end - 1) end z refl
+
+  pub attached_otherwise : (number end : ℕ) → begins_bin e g ≡ true → count_from e 0 0 4 (drop 4 g) ≡ Told number end
+      → (length g - end - 1 ≡ number → ⊥) → length g ≡ attached_from e g
+  attached_otherwise number end b z n = attached_elsewhere (rw b tt) _ refl number end z n
 
   -- the elements by that place
   pub bin_of : attached_from e g < length g → is_bin e g ≡ true

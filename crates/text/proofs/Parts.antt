@@ -11,14 +11,14 @@ use Rattle.text.specs.Bytes.{Bytes}
 use Rattle.text.specs.Pieces.{pieces, joined}
 use Rattle.text.specs.Bin.{is_bin}
 use Rattle.text.specs.View.{Piece, View, view_of, elements_of, bin_elements, element_of}
-use Rattle.text.specs.Lookup.{span, span_among, span_within, element_span, part_span, part_of}
+use Rattle.text.specs.Lookup.{span, span_among, span_within, element_span, part_span, part_of, attached_from}
 use Rattle.text.specs.internal.Spans.{piece_span, only_span}
 use Rattle.text.specs.declared.lookup.Span.{Span}
 use Rattle.text.specs.declared.separators.Separators.{Separators}
 use Rattle.text.proofs.Spans.{Lies, lies_among, part_of_part}
 use Rattle.text.proofs.Pieces.{joined_pieces}
 use Rattle.text.proofs.BinView.{view_bin, view_plain, elements_bin, elements_plain}
-use Rattle.text.proofs.BinSpans.{lies_element}
+use Rattle.text.proofs.BinSpans.{lies_element, bin_of}
 
 -- the bytes of a span that lies within are as many as it says
 lies_long : {s piece : Bytes} {p : Span} → Lies s p piece → p.len ≡ length piece
@@ -109,6 +109,9 @@ module _ (q : Separators) (g : Bytes) (n : ℕ) where
       from = omega arith
   span_only (suc (suc k)) l h =
       sym (only_end whole (suc (suc k)) (whole.start + whole.len) refl (omega arith)) ∙ rw (only_component h, le-ltb (suc k) 1 (omega arith))
+
+  pub span_attached : (part : ℕ) → 1 ≤ part → attached_from q.element g < length g → only_span whole part ≡ part_span q g n part
+  span_attached part l h = span_only part l (bin_of q.element g h)
 
   -- and of one that is cut
   pub span_pieced : (part : ℕ) → 1 ≤ part → is_bin q.element g ≡ false

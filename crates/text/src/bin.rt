@@ -18,6 +18,7 @@ pub enum Counted {
 }
 
 // Whether `BIN` and the element separator stand from `at` on.
+#[tactic(auto, using(crate::proofs::Bins::begins_other))]
 pub fn begins(s: &[u8], at: usize, element: u8) -> bool
     ensures { result ≡ begins_bin element (drop at s.now) }
 {
@@ -63,6 +64,7 @@ pub fn count(s: &[u8], from: usize, element: u8) -> Counted
 }
 
 // Where BIN02 of a whole BIN starts; the end of any other segment.
+#[tactic(auto, using(crate::proofs::BinSpans::attached_counted, crate::proofs::BinSpans::attached_otherwise))]
 pub fn attached_from(segment: &[u8], element: u8) -> usize
     ensures { result ≡ attached_from element segment.now }
 {

@@ -27,6 +27,7 @@ fn at_most_one(s: &[u8], at: usize, separators: Separators, byte: u8) -> usize
 }
 
 // The length of the line end at that place. Few bytes are so small: any other is told by one comparison.
+#[tactic(auto, using(crate::proofs::LineEnds::greater_there))]
 fn line_end(s: &[u8], at: usize, separators: Separators) -> usize
     ensures { result ≡ line_end separators (drop at s.now) }
 {

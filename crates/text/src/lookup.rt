@@ -108,7 +108,7 @@ fn component_span(segment: &[u8], whole: Span, separator: u8, part: usize) -> Sp
 
 // Where a part of the segment stands: of the element with that number, 0 being the tag, the component with the number `part`, from 1; part 0
 // is the whole element.
-#[tactic(auto, using(crate::proofs::Parts::span_whole))]
+#[tactic(auto, using(crate::proofs::Parts::span_whole, crate::proofs::Parts::span_attached, crate::proofs::BinSpans::attached_most))]
 pub fn part_span(segment: &[u8], separators: Separators, number: usize, part: usize) -> Span
     ensures { result ≡ part_span separators segment.now number part }
 {

@@ -43,6 +43,7 @@ pub(crate) fn figures(value: &[u8], from: usize, count: usize) -> usize
 }
 
 // The number that one to ten digits write; 0 for any other value.
+#[tactic(auto, using(crate::proofs::Figures::number_long))]
 pub fn number_of(value: &[u8]) -> usize
     ensures { result ≡ number_of value.now }
 {

@@ -4,9 +4,9 @@ use mathlib.Core.Path.{sym, ◌∙◌}
 use mathlib.Core.Logic.{⊎_elim}
 use native.Mathlib.Omega.{arith}
 use Prim.Native.Nat.{◌≤◌, ◌<◌}
-use Rattle.numbering.proofs.Lookup.{start_st, start_other, row_outside, tag_outside, no_row, third_refused, other_maximum, other_row, first_time}
+use Rattle.numbering.proofs.Lookup.{start_st, start_other, row_outside, tag_outside, no_row, third_refused, goes_on}
 use Rattle.numbering.proofs.next.row_after.Goals as goal
-use Rattle.numbering.proofs.next.row_after.Goals.{Else-tag-ge-NO_TAG, else-again-via-then-again+then-next-row+else-at_most_two, else-again-via-then-again+else-next-row, else-again-via-else-again}
+use Rattle.numbering.proofs.next.row_after.Goals.{Else-tag-ge-NO_TAG}
 
 -- past the first tests the row is 1 to 79 and the tag number below 34
 low : (c : Else-tag-ge-NO_TAG) → 1 ≤ c.args.row
@@ -36,18 +36,10 @@ returns-then-next-ge-NONE c =
 pub returns-then-at_most_two : goal.returns-then-at_most_two
 returns-then-at_most_two c =
     let s = (goal.at.returns-then-at_most_two c).Else-tag-ge-NO_TAG in
-    third_refused (low s) (high s) (tag_in s) c.if-next-ge-NONE.false c.if-again.true c.if-next-row.true
+    third_refused (low s) (high s) (tag_in s) c.if-next-ge-NONE.false c.if-again.true (omega arith)
     (sym c.at_most_two.ensures ∙ c.if-at_most_two.true)
 
 pub returns : goal.returns
 returns c =
     let s = (goal.at.returns c).Else-tag-ge-NO_TAG in
-    let h = c.if-next-ge-NONE.false in
-    elim c.else-again.branch [
-      | else-again-via-then-again+then-next-row+else-at_most_two w ↦
-          other_maximum (low s) (high s) (tag_in s) h w.if-again.true w.if-next-row.true
-          (sym w.at_most_two.ensures ∙ w.if-at_most_two.false)
-      | else-again-via-then-again+else-next-row w ↦
-          other_row (low s) (high s) (tag_in s) h w.if-again.true w.if-next-row.false
-      | else-again-via-else-again w ↦ first_time (low s) (high s) (tag_in s) h w.if-again.false
-    ]
+    goes_on (low s) (high s) (tag_in s) c.if-next-ge-NONE.false (λ a n m. grind arith)

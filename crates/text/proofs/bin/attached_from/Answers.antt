@@ -5,7 +5,7 @@ use native.Mathlib.Omega.{arith}
 use lib.Dec.{T}
 use borrow.Author.Tests.{not-false}
 use Rattle.text.specs.Bin.{begins_bin}
-use Rattle.text.proofs.BinSpans.{unmarked, end_inside, attached_here, attached_elsewhere, count_open, count_broken}
+use Rattle.text.proofs.BinSpans.{unmarked, end_inside, count_open, count_broken}
 use Rattle.text.proofs.bin.attached_from.Goals as goal
 use Rattle.text.proofs.bin.attached_from.Goals.{Else-not-begins}
 
@@ -27,14 +27,6 @@ overflow_sub-segment-in-Told c =
 pub overflow_add-result : goal.overflow_add-result
 overflow_add-result c =
     omega (arith, end_inside _ _ (marked (goal.at.overflow_add-result c).Else-not-begins) _ c.count.ensures _ _ c.in-Told.is)
-
-pub returns-then-segment-end : goal.returns-then-segment-end
-returns-then-segment-end c =
-    attached_here _ _ (marked (goal.at.returns-then-segment-end c).Else-not-begins) _ c.count.ensures _ _ c.in-Told.is c.if-segment-end.true
-
-pub returns-else-segment-end : goal.returns-else-segment-end
-returns-else-segment-end c =
-    attached_elsewhere _ _ (marked (goal.at.returns-else-segment-end c).Else-not-begins) _ c.count.ensures _ _ c.in-Told.is c.if-segment-end.false
 
 pub returns-in-Open : goal.returns-in-Open
 returns-in-Open c = count_open _ _ (marked (goal.at.returns-in-Open c).Else-not-begins) _ c.count.ensures c.in-Open.is

@@ -4,7 +4,7 @@ use native.Mathlib.Omega.{arith}
 use lib.ListN.{get_or}
 use borrow.Author.Tests.{not-true, not-false}
 use Rattle.text.specs.Separators.{is_digit}
-use Rattle.text.proofs.Counting.{counting_none, number_small, count_ends, count_nothing, count_tells, count_other, digit_low, digit_high, count_many, counting_more}
+use Rattle.text.proofs.Counting.{counting_none, number_small, count_ends, count_tells, count_other, digit_low, digit_high, count_many, counting_more}
 use Rattle.text.proofs.bin.count.Goals as goal
 use Rattle.text.proofs.bin.count.Goals.{Else-not-is_digit}
 

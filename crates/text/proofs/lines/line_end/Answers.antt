@@ -1,4 +1,4 @@
--- `line_end` meets its contract: a greater byte is told at once, then the CR and the LF are counted.
+-- `line_end` meets its contract: the CR and the LF are counted. The attribute's lemma answers for a greater byte.
 -- Assumes nothing.
 use native.Mathlib.Omega.{arith}
 use Prim.Native.Nat.{◌+◌}
@@ -6,18 +6,13 @@ use lib.ListN.{drop}
 use mathlib.Core.Path.{sym}
 use Rattle.text.specs.Cut.{CR, LF}
 use Rattle.text.specs.declared.lines.LineEnds.TheVariants.{Skipped}
-use Rattle.text.proofs.LineEnds.{past_end, one_at_most, greater_there, both_there}
+use Rattle.text.proofs.LineEnds.{past_end, one_at_most, both_there}
 use Rattle.text.proofs.lines.line_end.Goals as goal
 
 pub returns-then-s-at : goal.returns-then-s-at
 returns-then-s-at c =
     let a = c.args in
     sym (past_end a.separators Skipped a.s.now a.at (omega arith))
-
-pub returns-then-s-at-gt13 : goal.returns-then-s-at-gt13
-returns-then-s-at-gt13 c =
-    let a = c.args in
-    greater_there a.separators a.s.now a.at (omega arith) (omega arith)
 
 pub overflow_add-at : goal.overflow_add-at
 overflow_add-at c =

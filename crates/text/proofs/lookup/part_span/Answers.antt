@@ -4,10 +4,10 @@ use Prim.Native.Nat.{◌-◌}
 use mathlib.Core.Path.{ap, ◌∙◌}
 use native.Mathlib.Omega.{arith}
 use Rattle.text.specs.Lookup.{span_within, part_of}
-use Rattle.text.specs.internal.Spans.{piece_span, only_span}
+use Rattle.text.specs.internal.Spans.{piece_span}
 use Rattle.text.specs.declared.lookup.Span.{Span}
-use Rattle.text.proofs.BinSpans.{bin_of, plain_of, attached_most, lies_element}
-use Rattle.text.proofs.Parts.{span_whole, span_only, span_pieced}
+use Rattle.text.proofs.BinSpans.{plain_of, lies_element}
+use Rattle.text.proofs.Parts.{span_pieced}
 use Rattle.text.proofs.lookup.part_span.Goals as goal
 
 pub element_span-whole-requires : goal.element_span-whole-requires
@@ -15,12 +15,6 @@ element_span-whole-requires c = c.attached_from-attached.ensures
 
 pub only_span-requires : goal.only_span-requires
 only_span-requires c = rw c.element_span-whole.ensures (lies_element _ _ _).inside
-
-pub returns-then-attached-segment : goal.returns-then-attached-segment
-returns-then-attached-segment c =
-    let a = c.args in
-    c.only_span.ensures ∙ ap (λ (p : Span). only_span p a.part) c.element_span-whole.ensures
-    ∙ span_only _ _ _ _ (omega arith) (bin_of _ _ (omega (arith, c.attached_from-attached.ensures, attached_most a.separators.element a.segment.now)))
 
 pub component_span-requires : goal.component_span-requires
 component_span-requires c = rw c.element_span-whole.ensures (lies_element _ _ _).inside
