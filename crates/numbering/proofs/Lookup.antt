@@ -135,16 +135,16 @@ module _ {table : List ℕ} {r : ℕ} {again : Bool} {t : ℕ} where
       third_refused p q s = by_entry 0 (rw (p, eq-eqb (stands_at table r t) r q, s))
 
       -- a row of another maximum once more
-      other_maximum : again ≡ true → stands_at table r t ≡ r → eqb (max_of r) 2 ≡ false
+      pub other_maximum : again ≡ true → stands_at table r t ≡ r → eqb (max_of r) 2 ≡ false
           → RowAfter table r again t (stands_at table r t)
       other_maximum p q s = by_entry (stands_at table r t) (rw (p, eq-eqb (stands_at table r t) r q, s))
 
       -- another row after one that stands right behind itself
-      other_row : again ≡ true → (stands_at table r t ≡ r → ⊥) → RowAfter table r again t (stands_at table r t)
+      pub other_row : again ≡ true → (stands_at table r t ≡ r → ⊥) → RowAfter table r again t (stands_at table r t)
       other_row p q = by_entry (stands_at table r t) (rw (p, ne_eqb (stands_at table r t) r q))
 
       -- any row after one that stands once
-      first_time : again ≡ false → RowAfter table r again t (stands_at table r t)
+      pub first_time : again ≡ false → RowAfter table r again t (stands_at table r t)
       first_time p = by_entry (stands_at table r t) (rw p)
 
       -- any row but a third

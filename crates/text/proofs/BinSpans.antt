@@ -74,14 +74,14 @@ module _ (e : ℕ) (g : Bytes) where
       counted = marked_counts e g f.count f.rest whole f.free
 
       -- it ends with the bytes
-      attached_here : length g - end - 1 ≡ number → end + 1 ≡ attached_from e g
+      pub attached_here : length g - end - 1 ≡ number → end + 1 ≡ attached_from e g
       attached_here h =
           let c = digits_counts f.count f.rest f.digits (sym f.number_is ∙ omega (arith, long)) in
           let n : count_in e g ≡ f.count = ap (count_in e) whole ∙ count_made e f.count f.rest f.free in
           sym (attached_bin (counted ∙ counts_passes f.count f.rest c) ∙ omega (arith, ap length n, f.end_is))
 
       -- or not
-      attached_elsewhere : (length g - end - 1 ≡ number → ⊥) → length g ≡ attached_from e g
+      pub attached_elsewhere : (length g - end - 1 ≡ number → ⊥) → length g ≡ attached_from e g
       attached_elsewhere h =
           sym
           (attached_plain
