@@ -1,12 +1,13 @@
--- The answers of a walk that goes on from the test of the room: an unfit level, and the whole list.
+-- The answers of a walk that goes on from the test of the room: an unfit level, an output that is too short, and the whole list.
 -- Assumes nothing.
-use Prim.Native.Nat.{ℕ, zero, suc, ◌≤◌}
+use Prim.Native.Nat.{ℕ, zero, suc, ◌<◌, ◌≤◌}
 use mathlib.Core.Path.{◌≡◌, refl, ◌∙◌}
+use mathlib.Core.Logic.{inl, inr}
 use mathlib.Core.List.{List}
 use native.Mathlib.Omega.{arith}
 use lib.ListN.{length}
 use lib.Seq.{sets}
-use Rattle.outline.specs.Walks.{FitTable, Unfit, Lists, room_of}
+use Rattle.outline.specs.Walks.{FitTable, Unfit, Lists, room_of, Walks}
 use Rattle.outline.specs.declared.answer.Walked.TheVariants.{Listed, Refused}
 use Rattle.outline.specs.internal.Fitting.{FirstUnfit}
 use Rattle.outline.specs.internal.Listing.{listed}
@@ -27,6 +28,12 @@ unfit_found t count (suc k) output room found some = record {
   answer = refl;
   unchanged = refl;
 }
+
+-- where none is found, and the output has fewer places than there are levels, the walk is refused with 21
+pub walk_too_short : (t : List ℕ) (count : ℕ) (output : List ℕ) (k : ℕ) → count ≤ room_of t → FirstUnfit t count k → k ≡ 0 → length output < count
+    → Walks t count output (Refused 21 0) output
+walk_too_short t count output k room found none shorter =
+    inr (inr (inl (record { room = room; fit = rw none at found; shorter = shorter; answer = refl; unchanged = refl })))
 
 module _ (t : List ℕ) (count : ℕ) where
   -- where none is found, all are fit

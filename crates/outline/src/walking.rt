@@ -54,6 +54,7 @@ fn walk_under(
 
 // Lists the levels 1 to count of the table in the output, each under its parent. Where that is refused the output keeps what it held, and so
 // does what lies behind the list.
+#[tactic(auto, using(crate::proofs::WalkAnswers::walk_too_short))]
 pub fn walk(levels: &[u64], count: usize, output: &mut [u64]) -> Walked
     ensures { Walks levels.now count output.old result output.new }
 {

@@ -26,19 +26,6 @@ returns-then-unfit-ne0 c =
     (unfit_found a.levels.now a.count c.first_unfit-unfit.result a.output.now c.if-levels-count.false c.first_unfit-unfit.ensures
     c.if-unfit-ne0.true))
 
-pub returns-then-output-count : goal.returns-then-output-count
-returns-then-output-count c =
-    inr
-    (inr
-    (inl
-    (record {
-      room = c.if-levels-count.false;
-      fit = fit (goal.at.returns-then-output-count c).Else-unfit-ne0;
-      shorter = c.if-output-count.true;
-      answer = refl;
-      unchanged = refl;
-    })))
-
 pub last_stray-stray-requires : goal.last_stray-stray-requires
 last_stray-stray-requires c = record {
   count_in_bounds = search rules;
@@ -49,7 +36,7 @@ pub walk_under-requires : goal.walk_under-requires
 walk_under-requires c =
     let a = c.args in
     let all = fit (goal.at.walk_under-requires c).Else-unfit-ne0 in
-    let room = list_fits a.levels.now a.count all a.output.now c.if-output-count.false in
+    let room = list_fits a.levels.now a.count all a.output.now (omega arith) in
     record { count_in_bounds = search rules; fit_table = all; stray_value = c.last_stray-stray.ensures; of_le_count = (omega arith, refl); of_in_bounds = omega arith }
 
 pub returns : goal.returns
@@ -58,5 +45,5 @@ returns c =
     inr
     (inr
     (inr
-    (list_written a.levels.now a.count (fit (goal.at.returns c).Else-unfit-ne0) a.output.now c.if-output-count.false c.if-levels-count.false
+    (list_written a.levels.now a.count (fit (goal.at.returns c).Else-unfit-ne0) a.output.now (omega arith) (omega arith)
     c.walk_under.ensures.1)))
