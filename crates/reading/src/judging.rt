@@ -223,6 +223,7 @@ fn judge_known(
 }
 
 // What the rules say of the next segment, by where the reader stands.
+#[tactic(auto, using(crate::proofs::reader::JudgeSteps::judges_tag))]
 pub(crate) fn judge(
     s: &[u8],
     how: How,

@@ -4,18 +4,13 @@ use mathlib.Core.Path.{◌≡◌, subst}
 use mathlib.Core.Bool.{Bool, true, false, not}
 use native.Mathlib.Omega.{arith}
 use lib.Dec.{T}
-use Rattle.reading.proofs.reader.JudgeSteps.{judges_tag, judges_end}
+use Rattle.reading.proofs.reader.JudgeSteps.{judges_end}
 use Rattle.reading.specs.internal.Judgements.{KnownTag}
 use Rattle.reading.proofs.judging.judge.Goals as goal
 
 of-not : (b : Bool) → not b ≡ false → T b
 of-not true e = tt
 of-not false e = subst (λ (x : Bool). T x) e tt
-
-pub returns-then-tag-ge-NO_TAG : goal.returns-then-tag-ge-NO_TAG
-returns-then-tag-ge-NO_TAG c =
-    let how = c.args.how in
-    λ before gs rows g more fit nt st. judges_tag how rows _ _ c.if-tag-ge-NO_TAG.true c.tag_of-tag.ensures fit nt
 
 pub returns-then-not-layout : goal.returns-then-not-layout
 returns-then-not-layout c = λ before gs rows g more fit nt st.
