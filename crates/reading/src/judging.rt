@@ -223,7 +223,7 @@ fn judge_known(
 }
 
 // What the rules say of the next segment, by where the reader stands.
-#[tactic(auto, using(crate::proofs::reader::JudgeSteps::judges_tag))]
+#[tactic(auto, using(crate::proofs::reader::JudgeSteps::tag_refused))]
 pub(crate) fn judge(
     s: &[u8],
     how: How,

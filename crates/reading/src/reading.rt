@@ -130,7 +130,7 @@ fn read_on(
 
 // Reads one transaction from the start of the bytes. The answer, the records in both lent tables: four numbers a segment (start, length,
 // row, level) and four a level (segment, parent's level, depth, code).
-#[tactic(auto, using(crate::proofs::reader::FirstTests::unfit_refuses, crate::proofs::reader::FirstTests::long_refuses))]
+#[tactic(auto, using(crate::proofs::reader::FirstTests::unfit_answered, crate::proofs::reader::FirstTests::long_answered))]
 pub fn read(s: &[u8], how: How, segments: &mut [u64], levels: &mut [u64]) -> Answer
     ensures { Reads how s.now (record { segments = segments.old; levels = levels.old }) result
         (record { segments = segments.new; levels = levels.new }) }

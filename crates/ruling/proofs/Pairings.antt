@@ -1,13 +1,13 @@
--- The notes P and R, over the elements they name, and LIN's pairs one by one.
+-- The notes P, R and C, over the elements they name, and LIN's pairs one by one.
 -- Assumes nothing.
 use Prim.Native.Nat.{ℕ, zero, suc, ◌+◌, ◌*◌, ◌≤◌, ◌<◌}
 use mathlib.Core.Path.{◌≡◌, refl, sym, ◌∙◌}
 use mathlib.Core.Bool.{Bool, true, false, not, ◌&&◌, ◌||◌}
 use mathlib.Core.List.{List, [], ◌∷◌}
 use native.Mathlib.Omega.{arith}
-use Rattle.text.proofs.Bools.{or_false}
+use Rattle.text.proofs.Bools.{or_assoc, or_false}
 use Rattle.elements.specs.Checks.{first_broken}
-use Rattle.elements.specs.Data.{Note, Paired, Required, pairs_from}
+use Rattle.elements.specs.Data.{Note, Paired, Required, Conditional, pairs_from}
 use Rattle.elements.specs.Rules.{note_holds, named_first, note_checks}
 use Rattle.elements.specs.declared.verdict.Verdict.{Verdict}
 use Rattle.elements.specs.declared.verdict.Verdict.TheVariants.{Holds, Broken}
@@ -18,16 +18,30 @@ pair_holds true false = refl
 pair_holds false true = refl
 pair_holds false false = refl
 
+condition_holds : (a b : Bool) → not (a && not b) ≡ not a || b && true
+condition_holds true true = refl
+condition_holds true false = refl
+condition_holds false b = refl
+
 either_holds : (a b : Bool) → a || b ≡ a || (b || false)
 either_holds a b = simp or_false
 
--- P of two: both or neither; R of two: at least one
+some_holds : (a b c : Bool) → a || b || c ≡ a || (b || (c || false))
+some_holds a b c = simp (or_assoc, or_false)
+
+-- P of two: both or neither; C of two: not the first without the other; R of two and of three: at least one
 module _ (there : ℕ → Bool) (a b : ℕ) {x y : Bool} (p : x ≡ there a) (q : y ≡ there b) where
   pub paired_two : x && y || not (x || y) ≡ note_holds there (Paired (a ∷ b ∷ []))
   paired_two = rw (p, q) (pair_holds (there a) (there b))
 
+  pub conditional_two : not (x && not y) ≡ note_holds there (Conditional a (b ∷ []))
+  conditional_two = rw (p, q) (condition_holds (there a) (there b))
+
   pub required_two : x || y ≡ note_holds there (Required (a ∷ b ∷ []))
   required_two = rw (p, q) (either_holds (there a) (there b))
+
+  pub required_three : (c : ℕ) {z : Bool} → z ≡ there c → x || y || z ≡ note_holds there (Required (a ∷ b ∷ c ∷ []))
+  required_three c r = rw (p, q, r) (some_holds (there a) (there b) (there c))
 
 module _ (there : ℕ → Bool) where
   abbrev verdict : List Note → Verdict

@@ -121,11 +121,17 @@ verdict_cases Holds f g = f refl
 verdict_cases (Faulty n e) f g = g n e refl
 
 -- 4
-pub judges_tag : (q : Separators) (s : Bytes) (starts : List ℕ) (layout : Layout) (g more : Bytes) (profile : Profile) (rows : List ℕ) (h : List View)
+pub tag_refused : (q : Separators) (s : Bytes) (starts : List ℕ) (layout : Layout) (g more : Bytes) (profile : Profile) (rows : List ℕ) (h : List View)
     → CutAs q s starts layout g more → Fitted q → 34 ≤ tag_number (element_in s starts layout 0)
     → FirstBroken (rules profile rows h (view_of q g)) 4 0
-judges_tag q s starts layout g more profile rows h nt fit l =
+tag_refused q s starts layout g more profile rows h nt fit l =
     unknown_tag profile rows h (view_of q g) nt.laid.data_only (rw (← tag_is nt fit) l)
+
+pub judges_tag : (how : How) {s : Bytes} {starts : List ℕ} {layout : Layout} {g more : Bytes} (rows : List ℕ) (h : List View) (t : ℕ) → 34 ≤ t
+    → t ≡ tag_number (element_in s starts layout 0) → Fitted how.separators → CutAs how.separators s starts layout g more
+    → Judges (profile_of how) rows h (view_of how.separators g) (Broken 4 0)
+judges_tag how {s = s} {starts = starts} {layout = layout} {g = g} {more = more} rows h t l found fit nt =
+    tag_refused how.separators s starts layout g more (profile_of how) rows h nt fit (rw (← found) l)
 
 module _ {how : How} {before : Tables} {s : Bytes} {segments levels lasts : List ℕ} {at : ℕ} {state : State} {gs : List Placed} {rows : List ℕ}
     {starts : List ℕ} {layout : Layout} {g more : Bytes} (fit : Fitted how.separators) (nt : CutAs how.separators s starts layout g more)

@@ -2,7 +2,7 @@
 -- Assumes nothing.
 use native.Mathlib.Omega.{arith}
 use Rattle.text.proofs.View.{fitted}
-use Rattle.reading.proofs.reader.FirstTests.{segments_decide}
+use Rattle.reading.proofs.reader.FirstTests.{segments_answer}
 use Rattle.reading.proofs.reading.read.Goals as goal
 
 pub read_on-ended-requires : goal.read_on-ended-requires
@@ -17,4 +17,4 @@ read_on-ended-requires c =
 pub returns : goal.returns
 returns c =
     let a = c.args in
-    segments_decide a.how a.s.now _ (grind arith) (omega arith) _ _ (rw c.clear.ensures c.read_on-ended.ensures)
+    segments_answer a.how a.s.now _ (grind arith) (omega arith) _ _ (rw c.clear.ensures c.read_on-ended.ensures)
