@@ -105,12 +105,12 @@ module _ {how : How} {before : Tables} {s : Bytes} {segments levels lasts : List
   full_last row q l = full row (says (Last row) q).0 (no_segment_room t.standing g more t.cut t.whole l)
 
   -- passed
-  pub settles_other : (row : ℕ) → j ≡ Other row → state.count < length segments / segment_width → (segments' : List ℕ)
-      → segments' ≡ stored_at segment_width segments state.count (layout.at ∷ (layout.end - layout.at) ∷ row ∷ state.levels ∷ []) → (after : State)
-      → after ≡ state_after state row state.levels → Stands how before s segments' levels lasts (start_at how s (layout.end + 1)) after
-  settles_other row q room segments' stored after is =
+  pub settles_other : (row : ℕ) → j ≡ Other row → state.count < length segments / segment_width → (segments' : List ℕ) (level : ℕ)
+      → segments' ≡ stored_at segment_width segments state.count (layout.at ∷ (layout.end - layout.at) ∷ row ∷ level ∷ []) → level ≡ state.levels
+      → (after : State) → after ≡ state_after state row state.levels → Stands how before s segments' levels lasts (start_at how s (layout.end + 1)) after
+  settles_other row q room segments' level stored latest after is =
       let p = says (Other row) q in
-      rw (stored, is, long, ← next_at) (record {
+      rw (stored, latest, is, long, ← next_at) (record {
         gs = gs ++ (record { at = layout.at; segment = g } ∷ []);
         rows = rows ++ (row ∷ []);
         standing = standing_other t.standing g more t.cut t.whole row p.0 p.1 p.2 room;
@@ -129,10 +129,10 @@ module _ {how : How} {before : Tables} {s : Bytes} {segments levels lasts : List
       })
 
   -- accepted
-  pub settles_last : (row : ℕ) → j ≡ Last row → state.count < length segments / segment_width → (segments' : List ℕ)
-      → segments' ≡ stored_at segment_width segments state.count (layout.at ∷ (layout.end - layout.at) ∷ row ∷ 0 ∷ [])
+  pub settles_last : (row : ℕ) → j ≡ Last row → state.count < length segments / segment_width → (segments' : List ℕ) (level : ℕ)
+      → segments' ≡ stored_at segment_width segments state.count (layout.at ∷ (layout.end - layout.at) ∷ row ∷ level ∷ []) → level ≡ 0
       → (r : Step) → r ≡ accepted_at layout state → Settles how before s layout state.levels segments' levels lasts r
-  settles_last row q room segments' stored r is =
+  settles_last row q room segments' level stored none r is =
       let p = says (Last row) q in
-      rw (is, stored, long, ← next_at)
+      rw (is, stored, none, long, ← next_at)
       (standing_closes t.standing g more t.cut t.whole row p.0 p.1 p.2 room)

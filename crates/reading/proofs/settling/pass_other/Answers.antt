@@ -3,6 +3,7 @@
 use Prim.Native.Nat.{◌/◌, ◌<◌}
 use mathlib.Core.Path.{refl, ap}
 use mathlib.Core.Bool.{not}
+use native.Mathlib.Omega.{arith}
 use lib.ListN.{length}
 use Rattle.levels.specs.Widths.{segment_width}
 use Rattle.reading.proofs.reader.Settles.{room, no_room, full_other, settles_other}
@@ -23,4 +24,4 @@ put_segment-requires c = record { at_le_end = c.requires.at_le_end; n_in_bounds 
 
 pub returns : goal.returns
 returns c = λ levels lasts how before s gs rows g more t.
-    settles_other t _ refl (fits (goal.at.returns c).Else-not-segment_room) _ c.put_segment.ensures _ c.after.ensures
+    settles_other t _ refl (fits (goal.at.returns c).Else-not-segment_room) _ _ c.put_segment.ensures (omega arith) _ c.after.ensures
