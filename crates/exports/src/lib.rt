@@ -187,6 +187,7 @@ pub extern "C" fn stormhlaw_walk(
 // Where a part of the segment stands, start and length: of the element with that number, 0 being the tag, the component with the number
 // `part`, from 1; part 0 is the whole element. A part that is not there is empty, at the end of its element, or of the segment.
 #[unsafe(no_mangle)]
+#[tactic(auto, using(crate::proofs::Telling::tell_part))]
 pub extern "C" fn stormhlaw_lookup(
     segment: &[u8],
     element: u8,

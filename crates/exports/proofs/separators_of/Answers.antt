@@ -1,7 +1,0 @@
--- `separators_of` meets its contract.
--- Assumes nothing.
-use mathlib.Core.Path.{refl}
-use Rattle.exports.proofs.separators_of.Goals as goal
-
-pub returns : goal.returns
-returns c = refl
