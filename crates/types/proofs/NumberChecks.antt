@@ -15,7 +15,7 @@ use Rattle.text.proofs.Everys.{every_both}
 use Rattle.text.proofs.Tests.{and_first, and_second}
 use Rattle.types.specs.Types.{is_number, fits}
 use Rattle.types.specs.Numbers.{checked, signed, exponent_in, number_in, unfit}
-use Rattle.types.specs.Reals.{is_negative, unsigned, digits, places, is_written, exponent_text, is_exponent, is_real}
+use Rattle.types.specs.Reals.{is_negative, unsigned, digits, is_written, exponent_text, is_exponent, is_real}
 use Rattle.types.specs.internal.NumberParts.{first_digits, Digits, exponent_behind, no_exponent, exponent_of_in, number_of}
 use Rattle.types.specs.internal.Parts.{Valued}
 use Rattle.types.specs.declared.kind.Kind.TheVariants.{R}

@@ -1,7 +1,7 @@
 -- The parts of a text of type R, passed one behind the other, are those that the definitions read off the text. Digits in front of a text are
 -- passed by every definition (`in_front`); behind them stands a point, an `E`, another byte, or nothing.
 -- Assumes nothing.
-use Prim.Native.Nat.{ℕ, ◌+◌}
+use Prim.Native.Nat.{ℕ}
 use mathlib.Core.Path.{◌≡◌, refl, sym, ap, subst, ◌∙◌}
 use mathlib.Core.Bool.{Bool, true, false, cond, ◌||◌, true≢false}
 use mathlib.Core.List.{[], ◌∷◌, ◌++◌, append_assoc, append-nil, nil≢cons}
