@@ -1,26 +1,22 @@
-// The codes of a nonconformance report's levels, on standard output.
-use crate::printing;
-use std::io;
-use std::io::Write;
+// The codes of a nonconformance report's levels.
 
-// In the letters of HL03, behind a space.
-pub fn letters<O: Write>(out: &mut O, code: u64) -> io::Result<()> {
-    match code {
-        1 => printing::word(out, b" RP"),
-        2 => printing::word(out, b" I"),
-        3 => printing::word(out, b" F"),
-        4 => printing::word(out, b" PC"),
-        _ => printing::word(out, b" SN"),
-    }
+// A code as it is printed: in the letters of HL03, and in words.
+#[derive(Clone, Copy)]
+pub struct Code {
+    pub letters: &'static str,
+    pub words: &'static str,
 }
 
-// In words.
-pub fn in_words<O: Write>(out: &mut O, code: u64) -> io::Result<()> {
-    match code {
-        1 => printing::word(out, b"report"),
-        2 => printing::word(out, b"item"),
-        3 => printing::word(out, b"component"),
-        4 => printing::word(out, b"product characteristic"),
-        _ => printing::word(out, b"serial number"),
+impl Code {
+    // The code that has this number in a level's record.
+    pub fn of(number: u64) -> Code {
+        let (letters, words) = match number {
+            1 => ("RP", "report"),
+            2 => ("I", "item"),
+            3 => ("F", "component"),
+            4 => ("PC", "product characteristic"),
+            _ => ("SN", "serial number"),
+        };
+        Code { letters, words }
     }
 }

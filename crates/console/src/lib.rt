@@ -2,8 +2,10 @@
 #![tactic(auto)]
 
 pub mod codes;
+pub mod files;
 pub mod hints;
 pub mod input;
 pub mod judging;
-pub mod printing;
+pub mod program;
 pub mod refusing;
+pub mod warning;

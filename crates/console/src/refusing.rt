@@ -1,16 +1,27 @@
-// The line of a refusal, on standard output.
+// A refusal: its line on standard output, and a hint where the bytes show what was sent.
+use crate::hints;
+use gate::answer::Refusal;
 use std::io;
 use std::io::Write;
 
-pub fn refuse<O: Write>(
+// Says that the report with this name is refused so.
+pub fn refuse<O: Write, E: Write>(
     out: &mut O,
-    answer: usize,
-    segment: usize,
-    byte: usize,
-    element: usize,
+    err: &mut E,
+    report: &[u8],
+    name: &[u8],
+    refusal: Refusal,
 ) -> io::Result<()> {
+    let Refusal {
+        number,
+        segment,
+        byte,
+        element,
+    } = refusal;
     writeln!(
         out,
-        "refused {answer} segment {segment} byte {byte} element {element}"
-    )
+        "refused {number} segment {segment} byte {byte} element {element}"
+    )?;
+    hints::after_refusal(err, report, refusal, name);
+    Ok(())
 }

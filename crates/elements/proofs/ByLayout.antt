@@ -1,16 +1,15 @@
 -- The view that a layout describes: its elements, one by one, and how many there are.
 -- Assumes nothing.
-use Prim.Native.Nat.{ℕ, zero, suc, ◌+◌, ◌-◌, ◌≤◌, ◌<◌}
+use Prim.Native.Nat.{ℕ, zero, suc, ◌-◌, ◌≤◌, ◌<◌}
 use mathlib.Core.Path.{◌≡◌, refl, sym, ap, ◌∙◌}
 use mathlib.Core.Logic.{by_cases}
 use mathlib.Core.Bool.{Bool, true, false, not}
 use mathlib.Core.List.{List, [], ◌∷◌}
 use native.Mathlib.Omega.{arith}
 use native.Mathlib.Decide.{dec_lt}
-use native.Mathlib.Numerals.{add-one}
 use lib.Dec.{eqb}
 use lib.ListN.{length, take, drop, get_or}
-use borrow.Author.Tests.{le-leb, lt-leb, lt-ltb, le-ltb, ne_eqb}
+use borrow.Author.Tests.{le-leb, lt-leb, lt-ltb, ne_eqb}
 use Rattle.text.specs.Bytes.{Bytes}
 use Rattle.text.specs.View.{View, empty, present, element_of, element_count}
 use Rattle.elements.specs.internal.Layouts.{part_between, piece_in, components_by, up_to, layout_view, element_in, early_element, there_in, components_in}
@@ -19,12 +18,6 @@ use Rattle.elements.proofs.PresentPieces.{some, present_pieces, present_single}
 
 -- a part between two places
 module _ (s : Bytes) (from to : ℕ) where
-  pub part_backward : to < from → [] ≡ part_between s from to
-  part_backward l = rw (lt-leb from to l)
-
-  pub part_outside : from ≤ to → length s < to → [] ≡ part_between s from to
-  part_outside l u = rw (le-leb from to l, lt-leb to (length s) u)
-
   pub part_inside : from ≤ to → to ≤ length s → take (to - from) (drop from s) ≡ part_between s from to
   part_inside l u = rw (le-leb from to l, le-leb to (length s) u)
 
@@ -60,14 +53,6 @@ module _ (s : Bytes) (starts : List ℕ) (layout : Layout) where
   pub element_past : (k : ℕ) → layout.count < k → [] ≡ element_in s starts layout k
   unfolding element_in
   element_past k l = rw (lt-leb k layout.count l)
-
-  pub element_inner : (k : ℕ) → k < layout.count → part_between s (get_or starts k 0) (get_or starts (k + 1) 0 - 1) ≡ element_in s starts layout k
-  unfolding element_in
-  element_inner k l = rw (add-one, le-leb k layout.count (omega arith), lt-ltb k layout.count l)
-
-  pub element_last : (k : ℕ) → k ≤ layout.count → layout.count ≤ k → part_between s (get_or starts k 0) layout.end ≡ element_in s starts layout k
-  unfolding element_in
-  element_last k l u = rw (le-leb k layout.count l, le-ltb k layout.count u)
 
   -- the elements up to 31 are found as they are
   pub element_early : (k : ℕ) → k < 32 → early_element s starts layout k ≡ element_in s starts layout k

@@ -5,11 +5,10 @@ use mathlib.Core.Path.{◌≡◌, refl, sym, ap, ◌∙◌}
 use mathlib.Core.Bool.{Bool, true, false, cond, ◌&&◌, ◌||◌}
 use mathlib.Core.List.{List, [], ◌∷◌, map}
 use native.Mathlib.Omega.{arith}
-use native.Mathlib.Numerals.{add-one}
 use lib.Dec.{eqb}
 use lib.ListN.{length, drop, get_or, drop_of_length-le}
 use lib.Seq.{drop-cons}
-use borrow.Author.Tests.{eq-eqb, ne_eqb}
+use borrow.Author.Tests.{ne_eqb}
 use Rattle.text.specs.Bytes.{Bytes, every}
 use Rattle.text.specs.Separators.{printable}
 use Rattle.text.specs.Pieces.{before, pieces}
@@ -17,10 +16,8 @@ use Rattle.text.specs.View.{Piece, plain_view, empty, element_of}
 use Rattle.text.specs.declared.separators.Separators.{Separators}
 use Rattle.text.proofs.Bools.{and_assoc}
 use Rattle.text.proofs.Pieces.{pieces_some}
-use Rattle.elements.specs.Checks.{check, each, decide, first_broken}
+use Rattle.elements.specs.Checks.{check, each, decide, first_broken, Verdict, Holds, broken}
 use Rattle.elements.specs.Rules.{data_checks}
-use Rattle.elements.specs.declared.verdict.Verdict.{Verdict}
-use Rattle.elements.specs.declared.verdict.Verdict.TheVariants.{Holds, Broken}
 use Rattle.elements.proofs.FirstBroken.{each_of, each_of_lem}
 
 -- the first byte that is no separator and not good, where k element separators stand before: it breaks the test with this number
@@ -28,7 +25,7 @@ abbrev pub bad_from : (number : ℕ) (good : ℕ → Bool) (element component k 
 bad_from number good element component k [] = Holds
 bad_from number good element component k (b ∷ s) =
     cond (eqb b element) (bad_from number good element component (suc k) s)
-    (cond (eqb b component || good b) (bad_from number good element component k s) (Broken number k))
+    (cond (eqb b component || good b) (bad_from number good element component k s) (broken number k))
 
 module _ (number : ℕ) (good : ℕ → Bool) (q : Separators) where
   -- every byte of the piece is good
@@ -45,12 +42,12 @@ module _ (number : ℕ) (good : ℕ → Bool) (q : Separators) where
   tests k ps = first_broken (each_of number k good_piece (map (pieces q.component) ps))
 
   decided : (k : ℕ) (t u : Bool) (v : Verdict)
-      → decide (check number k (t && u)) (t && u) v ≡ cond t (decide (check number k u) u v) (Broken number k)
+      → decide (check number k (t && u)) (t && u) v ≡ cond t (decide (check number k u) u v) (broken number k)
   decided k true u v = refl
   decided k false u v = refl
 
   tests_before : (t : Bool) (k b : ℕ) (ps : List Bytes) → 0 < length ps
-      → tests k (before t b ps) ≡ cond t (tests (suc k) ps) (cond (eqb b q.component || good b) (tests k ps) (Broken number k))
+      → tests k (before t b ps) ≡ cond t (tests (suc k) ps) (cond (eqb b q.component || good b) (tests k ps) (broken number k))
   tests_before true k b ps l = refl
   tests_before false k b [] l = absurd (omega arith)
   tests_before false k b (p ∷ ps) l =
@@ -81,25 +78,9 @@ pub record Scanned (element component : ℕ) (s : Bytes) (i k : ℕ) : Type 0 wh
   pub so_far : bad_from 5 printable element component 0 s ≡ bad_from 5 printable element component k (drop i s)
   pub few : k ≤ i
 
-pub scanned_none : (element component : ℕ) (s : Bytes) → Scanned element component s 0 0
-scanned_none element component s = record { so_far = refl; few = omega arith }
-
 module _ {element component : ℕ} {s : Bytes} {i k : ℕ} (c : Scanned element component s i k) where
-  pub scanned_element : i < length s → get_or s i 0 ≡ element → Scanned element component s (i + 1) (k + 1)
-  scanned_element l e = record {
-    so_far = c.so_far ∙ rw (add-one i, add-one k, drop-cons s i 0 l, eq-eqb (get_or s i 0) element e);
-    few = omega (arith, c.few);
-  }
-
-  pub scanned_good : i < length s → (get_or s i 0 ≡ element → ⊥) → eqb (get_or s i 0) component || printable (get_or s i 0) ≡ true
-      → Scanned element component s (i + 1) k
-  scanned_good l n e = record {
-    so_far = c.so_far ∙ rw (add-one, drop-cons s i 0 l, ne_eqb (get_or s i 0) element n, e);
-    few = omega (arith, c.few);
-  }
-
   pub scanned_bad : i < length s → (get_or s i 0 ≡ element → ⊥) → eqb (get_or s i 0) component || printable (get_or s i 0) ≡ false
-      → Broken 5 k ≡ bad_from 5 printable element component 0 s
+      → broken 5 k ≡ bad_from 5 printable element component 0 s
   scanned_bad l n e = sym (c.so_far ∙ rw (drop-cons s i 0 l, ne_eqb (get_or s i 0) element n, e))
 
   pub scanned_all : length s ≤ i → Holds ≡ bad_from 5 printable element component 0 s

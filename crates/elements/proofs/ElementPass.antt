@@ -2,106 +2,113 @@
 -- Assumes nothing.
 use Prim.Native.Nat.{ℕ, ◌+◌, ◌≤◌, ◌<◌}
 use mathlib.Core.Path.{◌≡◌, refl, sym, ap, ap₂, ◌∙◌}
-use mathlib.Core.Logic.{◌⊎◌, inl, inr, ⊎_elim, by_cases}
-use mathlib.Core.Bool.{Bool, true, false, not, ◌&&◌, true≢false}
+use mathlib.Core.Logic.{by_cases}
+use mathlib.Core.Bool.{Bool, true, false, true≢false}
 use mathlib.Core.List.{◌++◌}
 use native.Mathlib.Omega.{arith}
 use native.Mathlib.Decide.{dec_lt}
-use lib.Dec.{eqb}
 use lib.ListN.{length}
-use borrow.Author.Tests.{eqb-true, eq-eqb, not-true}
+use Rattle.std.specs.Prelude.{Option, Some, None}
+use Rattle.std.specs.Option.{is_some}
 use Rattle.text.specs.View.{Piece, empty}
 use Rattle.rows.specs.Tags.{tag}
-use Rattle.text.proofs.Tests.{and_first, and_second}
-use Rattle.elements.specs.Checks.{each, first_broken}
+use Rattle.elements.specs.Checks.{each, first_broken, Verdict, Holds, broken}
 use Rattle.elements.specs.Data.{Shape, Simple, Composite, Rules}
 use Rattle.elements.specs.Rules.{rule_of, headed, complete_by, suits_by}
 use Rattle.elements.specs.internal.Verdicts.{element_by, rules_of, last_must, complete_at_of, suits_at_of, elements_verdict}
 use Rattle.elements.specs.declared.rules.Rule.{Rule}
-use Rattle.elements.specs.declared.verdict.Verdict.{Verdict}
-use Rattle.elements.specs.declared.verdict.Verdict.TheVariants.{Holds, Broken}
 use Rattle.elements.proofs.FirstBroken.{and_then, broken_append, each_holds, each_broken, each_upto}
 use Rattle.elements.proofs.EveryTag.{unneeded}
 
--- two tests of each element, t before u: those below k pass t, and `unfit` is the first of them that fails u, or 0
-pub record Judged (t u : ℕ → Bool) (k unfit : ℕ) : Type 0 where
+-- the element is behind none that does not suit
+abbrev pub Before : Option ℕ → ℕ → Type 0
+Before None j = Unit {0}
+Before (Some n) j = j < n
+
+-- an element below k that fails the test, if any
+abbrev pub Fails : (ℕ → Bool) → ℕ → Option ℕ → Type 0
+Fails u k None = Unit {0}
+Fails u k (Some n) = (u n ≡ false) × (1 ≤ n) × (n < k)
+
+-- two tests of each element, t before u: those below k pass t, and `unfit` is the first of them that fails u, if any
+pub record Judged (t u : ℕ → Bool) (k : ℕ) (unfit : Option ℕ) : Type 0 where
   pub start : 1 ≤ k
   pub complete : (j : ℕ) → 1 ≤ j → j < k → t j ≡ true
-  pub suited : (j : ℕ) → 1 ≤ j → j < k → (unfit ≡ 0) ⊎ (j < unfit) → u j ≡ true
-  pub found : (unfit ≡ 0 → ⊥) → (u unfit ≡ false) × (unfit < k)
-
-pub judged_none : (t u : ℕ → Bool) → Judged t u 1 0
-judged_none t u = record {
-  start = omega arith;
-  complete = λ j l m. absurd (omega arith);
-  suited = λ j l m o. absurd (omega arith);
-  found = λ n. absurd (n refl);
-}
+  pub suited : (j : ℕ) → 1 ≤ j → j < k → Before unfit j → u j ≡ true
+  pub found : Fails u k unfit
 
 -- what holds below k and at k holds below k + 1
 below_next : (P : ℕ → Type 0) (k : ℕ) → ((j : ℕ) → 1 ≤ j → j < k → P j) → P k → (j : ℕ) → 1 ≤ j → j < k + 1 → P j
 below_next P k below here j l m =
     by_cases (dec_lt j k) (λ less. below j l less) (λ not-less. let same : k ≡ j = omega arith in rw same at here)
 
-module _ {t u : ℕ → Bool} {k unfit : ℕ} (w : Judged t u k unfit) where
-  -- the first that does not suit
-  pub judged_first : t k ≡ true → eqb unfit 0 && not (u k) ≡ true → Judged t u (k + 1) k
-  judged_first c e =
-      let none : unfit ≡ 0 = eqb-true unfit 0 (and_first (eqb unfit 0) (not (u k)) e) in
-      let fails : u k ≡ false = not-true (u k) (and_second (eqb unfit 0) (not (u k)) e) in
-      record {
-        start = omega (arith, w.start);
-        complete = below_next (λ (j : ℕ). t j ≡ true) k w.complete c;
-        suited = λ j l m o. w.suited j l (⊎_elim (λ z. absurd (omega (arith, w.start))) (λ z. z) o) (inl none);
-        found = λ n. (fails, omega arith);
-      }
+-- the first that does not suit
+pub judged_first : {t u : ℕ → Bool} {k : ℕ} → Judged t u k None → t k ≡ true → u k ≡ false → Judged t u (k + 1) (Some k)
+judged_first {t} {u} {k} w c e = record {
+  start = omega (arith, w.start);
+  complete = below_next (λ (j : ℕ). t j ≡ true) k w.complete c;
+  suited = λ j l m o. w.suited j l o tt;
+  found = (e, w.start, omega arith);
+}
 
-  -- one that suits, or one behind the first that does not
-  pub judged_kept : t k ≡ true → eqb unfit 0 && not (u k) ≡ false → Judged t u (k + 1) unfit
-  judged_kept c e = record {
-    start = omega (arith, w.start);
-    complete = below_next (λ (j : ℕ). t j ≡ true) k w.complete c;
-    suited = below_next (λ (j : ℕ). (unfit ≡ 0) ⊎ (j < unfit) → u j ≡ true) k w.suited (⊎_elim suits behind);
-    found = λ n. ((w.found n).0, omega (arith, (w.found n).1));
-  }
-    where
-      by_test : (a b : Bool) → a ≡ true → a && not b ≡ false → b ≡ true
-      by_test true true p q = refl
-      by_test true false p q = absurd (true≢false q)
-      by_test false b p q = absurd (true≢false (sym p))
+-- one that suits
+pub judged_suited : {t u : ℕ → Bool} {k : ℕ} → Judged t u k None → t k ≡ true → u k ≡ true → Judged t u (k + 1) None
+judged_suited {t} {u} {k} w c e = record {
+  start = omega (arith, w.start);
+  complete = below_next (λ (j : ℕ). t j ≡ true) k w.complete c;
+  suited = below_next (λ (j : ℕ). Unit {0} → u j ≡ true) k w.suited (λ o. e);
+  found = tt;
+}
 
-      suits : unfit ≡ 0 → u k ≡ true
-      suits z = by_test (eqb unfit 0) (u k) (eq-eqb unfit 0 z) e
+-- one behind the first that does not
+pub judged_behind : {t u : ℕ → Bool} {k n : ℕ} → Judged t u k (Some n) → t k ≡ true → Judged t u (k + 1) (Some n)
+judged_behind {t} {u} {k} {n} w c = record {
+  start = omega (arith, w.start);
+  complete = below_next (λ (j : ℕ). t j ≡ true) k w.complete c;
+  suited = below_next (λ (j : ℕ). j < n → u j ≡ true) k w.suited (λ o. absurd (omega (arith, w.found.2)));
+  found = (w.found.0, w.found.1, omega (arith, w.found.2));
+}
 
-      behind : k < unfit → u k ≡ true
-      behind l = absurd (omega (arith, (w.found (λ z. omega arith)).1))
+-- as the code tests it: only where none has failed yet
+pub judged_on : {t u : ℕ → Bool} {k : ℕ} (unfit : Option ℕ) → is_some unfit ≡ false → Judged t u k unfit → t k ≡ true → u k ≡ false
+    → Judged t u (k + 1) (Some k)
+judged_on None q w c e = judged_first w c e
+judged_on (Some n) q w c e = absurd (true≢false q)
 
-  module _ (upto : ℕ) where
-    abbrev both : Verdict
-    both = first_broken (each 8 1 upto t ++ each 10 1 upto u)
+pub judged_on_suited : {t u : ℕ → Bool} {k : ℕ} (unfit : Option ℕ) → is_some unfit ≡ false → Judged t u k unfit → t k ≡ true → u k ≡ true
+    → Judged t u (k + 1) unfit
+judged_on_suited None q w c e = judged_suited w c e
+judged_on_suited (Some n) q w c e = absurd (true≢false q)
 
-    -- an element that is incomplete decides
-    pub judged_missing : k ≤ upto → t k ≡ false → Broken 8 k ≡ both
-    judged_missing l e =
-        sym
-        (broken_append (each 8 1 upto t) (each 10 1 upto u)
-        ∙ ap (λ (v : Verdict). and_then v (first_broken (each 10 1 upto u))) (each_broken 8 1 upto k t w.complete w.start (omega arith) e))
+pub judged_on_behind : {t u : ℕ → Bool} {k : ℕ} (unfit : Option ℕ) → is_some unfit ≡ true → Judged t u k unfit → t k ≡ true
+    → Judged t u (k + 1) unfit
+judged_on_behind None q w c = absurd (true≢false (sym q))
+judged_on_behind (Some n) q w c = judged_behind w c
 
-    module _ (over : upto < k) (near : k ≤ upto + 1) where
-      all_there : both ≡ first_broken (each 10 1 upto u)
-      all_there =
-          broken_append (each 8 1 upto t) (each 10 1 upto u)
-          ∙ ap (λ (v : Verdict). and_then v (first_broken (each 10 1 upto u))) (each_holds 8 1 upto t (λ j l m. w.complete j l (omega arith)))
+module _ (t u : ℕ → Bool) (upto : ℕ) where
+  abbrev both : Verdict
+  both = first_broken (each 8 1 upto t ++ each 10 1 upto u)
 
-      pub judged_unfit : (unfit ≡ 0 → ⊥) → Broken 10 unfit ≡ both
-      judged_unfit n =
-          let f = w.found n in
-          sym
-          (all_there
-          ∙ each_broken 10 1 upto unfit u (λ j l m. w.suited j l (omega (arith, f.1)) (inr m)) (omega (arith, n)) (omega (arith, f.1)) f.0)
+  -- an element that is incomplete decides
+  pub judged_missing : {k : ℕ} {unfit : Option ℕ} → Judged t u k unfit → k ≤ upto → t k ≡ false → broken 8 k ≡ both
+  judged_missing {k} w l e =
+      sym
+      (broken_append (each 8 1 upto t) (each 10 1 upto u)
+      ∙ ap (λ (v : Verdict). and_then v (first_broken (each 10 1 upto u))) (each_broken 8 1 upto k t w.complete w.start (omega arith) e))
 
-      pub judged_all : unfit ≡ 0 → Holds ≡ both
-      judged_all z = sym (all_there ∙ each_holds 10 1 upto u (λ j l m. w.suited j l (omega arith) (inl z)))
+  all_there : {k : ℕ} {unfit : Option ℕ} → Judged t u k unfit → upto < k → both ≡ first_broken (each 10 1 upto u)
+  all_there w over =
+      broken_append (each 8 1 upto t) (each 10 1 upto u)
+      ∙ ap (λ (v : Verdict). and_then v (first_broken (each 10 1 upto u))) (each_holds 8 1 upto t (λ j l m. w.complete j l (omega arith)))
+
+  pub judged_unfit : {k n : ℕ} → Judged t u k (Some n) → upto < k → k ≤ upto + 1 → broken 10 n ≡ both
+  judged_unfit {k} {n} w over near =
+      sym
+      (all_there w over
+      ∙ each_broken 10 1 upto n u (λ j l m. w.suited j l (omega (arith, w.found.2)) m) w.found.1 (omega (arith, w.found.2)) w.found.0)
+
+  pub judged_all : {k : ℕ} → Judged t u k None → upto < k → Holds ≡ both
+  judged_all w over = sym (all_there w over ∙ each_holds 10 1 upto u (λ j l m. w.suited j l (omega arith) tt))
 
 -- what the code finds of element k
 module _ (rules : Rules) (at : ℕ → Piece) (k : ℕ) (rule : Rule) (p : Piece) (e : element_by rule ≡ rule_of rules k) (f : p ≡ at k) where

@@ -5,7 +5,6 @@ use mathlib.Core.Path.{◌≡◌, refl, sym, ap, ap₂, ◌∙◌}
 use mathlib.Core.Bool.{Bool, true, false, not, cond, ◌&&◌, ◌||◌}
 use mathlib.Core.List.{List, [], ◌∷◌, map}
 use native.Mathlib.Omega.{arith}
-use native.Mathlib.Numerals.{add-one}
 use lib.Dec.{eqb, leb}
 use lib.ListN.{length, drop, get_or, drop_of_length-le, length-map, get_or-map}
 use lib.Seq.{drop-cons}
@@ -15,17 +14,15 @@ use Rattle.text.specs.Pieces.{before, pieces}
 use Rattle.text.specs.View.{View, plain_view, element_of, element_count}
 use Rattle.text.specs.declared.separators.Separators.{Separators}
 use Rattle.text.proofs.Pieces.{pieces_some}
-use Rattle.elements.specs.Checks.{Check, check, each, decide, first_broken}
+use Rattle.elements.specs.Checks.{Check, check, each, decide, first_broken, Verdict, Holds, broken}
 use Rattle.elements.specs.Rules.{ends_well_of, end_checks}
-use Rattle.elements.specs.declared.verdict.Verdict.{Verdict}
-use Rattle.elements.specs.declared.verdict.Verdict.TheVariants.{Holds, Broken}
 use Rattle.elements.proofs.PresentPieces.{some, some_length, present_pieces, filled_behind, last_pieces}
 
 -- the pass: k element separators stand before; `bare`: the element has no byte so far; `hollow`: its last component has none
 abbrev pub ends_from : (element component k : ℕ) (bare hollow : Bool) → Bytes → Verdict
-ends_from element component k bare hollow [] = cond (eqb k 0 || bare || hollow) (Broken 6 k) Holds
+ends_from element component k bare hollow [] = cond (eqb k 0 || bare || hollow) (broken 6 k) Holds
 ends_from element component k bare hollow (b ∷ s) =
-    cond (eqb b element) (cond (not (eqb k 0) && hollow && not bare) (Broken 6 k) (ends_from element component (suc k) true true s))
+    cond (eqb b element) (cond (not (eqb k 0) && hollow && not bare) (broken 6 k) (ends_from element component (suc k) true true s))
     (ends_from element component k false (eqb b component) s)
 
 -- a piece, with the pieces behind it: the tag wants one; an element ends well, or is empty and not the last
@@ -49,14 +46,14 @@ endings_from_lem c k (p ∷ ps) = refl
 module _ (q : Separators) where
   -- at the end, at an element separator, and at any other byte
   at_end : (k : ℕ) (first bare hollow : Bool) → let t = cond first false (cond (bare && true) false (not hollow)) in
-      decide (check 6 k t) t Holds ≡ cond (first || bare || hollow) (Broken 6 k) Holds
+      decide (check 6 k t) t Holds ≡ cond (first || bare || hollow) (broken 6 k) Holds
   at_end k true bare hollow = refl
   at_end k false true hollow = refl
   at_end k false false true = refl
   at_end k false false false = refl
 
   at_element : (k : ℕ) (first bare hollow : Bool) (v : Verdict) → let t = cond first true (cond (bare && true) true (not hollow)) in
-      decide (check 6 k t) t v ≡ cond (not first && hollow && not bare) (Broken 6 k) v
+      decide (check 6 k t) t v ≡ cond (not first && hollow && not bare) (broken 6 k) v
   at_element k true bare hollow v = refl
   at_element k false true true v = refl
   at_element k false true false v = refl
@@ -70,7 +67,7 @@ module _ (q : Separators) where
 
   passed : (k b : ℕ) (t bare hollow : Bool) (ps : List Bytes) → 0 < length ps
       → endings_from q.component k bare hollow (before t b ps)
-      ≡ cond t (cond (not (eqb k 0) && hollow && not bare) (Broken 6 k) (endings_from q.component (suc k) true true ps))
+      ≡ cond t (cond (not (eqb k 0) && hollow && not bare) (broken 6 k) (endings_from q.component (suc k) true true ps))
       (endings_from q.component k false (eqb b q.component) ps)
   passed k b t bare hollow [] l = absurd (omega arith)
   passed k b true bare hollow (p ∷ ps) l = at_element k (eqb k 0) bare hollow (endings_from q.component (suc k) true true (p ∷ ps))
@@ -131,26 +128,10 @@ pub record Ended (element component : ℕ) (s : Bytes) (i k : ℕ) (bare hollow 
   pub so_far : ends_from element component 0 true true s ≡ ends_from element component k bare hollow (drop i s)
   pub few : k ≤ i
 
-pub ended_none : (element component : ℕ) (s : Bytes) → Ended element component s 0 0 true true
-ended_none element component s = record { so_far = refl; few = omega arith }
-
 module _ {element component : ℕ} {s : Bytes} {i k : ℕ} {bare hollow : Bool} (c : Ended element component s i k bare hollow) where
-  pub ended_element : i < length s → get_or s i 0 ≡ element → not (eqb k 0) && hollow && not bare ≡ false
-      → Ended element component s (i + 1) (k + 1) true true
-  ended_element l e f = record {
-    so_far = c.so_far ∙ rw (add-one i, add-one k, drop-cons s i 0 l, eq-eqb (get_or s i 0) element e, f);
-    few = omega (arith, c.few);
-  }
-
-  pub ended_other : i < length s → (get_or s i 0 ≡ element → ⊥) → Ended element component s (i + 1) k false (eqb (get_or s i 0) component)
-  ended_other l n = record {
-    so_far = c.so_far ∙ rw (add-one i, drop-cons s i 0 l, ne_eqb (get_or s i 0) element n);
-    few = omega (arith, c.few);
-  }
-
   pub ended_badly : i < length s → get_or s i 0 ≡ element → not (eqb k 0) && hollow && not bare ≡ true
-      → Broken 6 k ≡ ends_from element component 0 true true s
+      → broken 6 k ≡ ends_from element component 0 true true s
   ended_badly l e f = sym (c.so_far ∙ rw (drop-cons s i 0 l, eq-eqb (get_or s i 0) element e, f))
 
-  pub ended_all : length s ≤ i → cond (eqb k 0 || bare || hollow) (Broken 6 k) Holds ≡ ends_from element component 0 true true s
+  pub ended_all : length s ≤ i → cond (eqb k 0 || bare || hollow) (broken 6 k) Holds ≡ ends_from element component 0 true true s
   ended_all l = sym (c.so_far ∙ rw (drop_of_length-le s l))

@@ -11,9 +11,17 @@ use lib.Dec.{T}
 use lib.ListN.{length, get_or}
 use Rattle.text.specs.Bytes.{every}
 use Rattle.text.proofs.Bools.{both, and_true, and_false}
-use Rattle.elements.specs.Checks.{Check, check, each, Keeps, decide, first_broken}
-use Rattle.elements.specs.declared.verdict.Verdict.{Verdict}
-use Rattle.elements.specs.declared.verdict.Verdict.TheVariants.{Holds, Broken}
+use Rattle.elements.specs.Checks.{Check, check, each, Keeps, decide, first_broken, Verdict, Holds, broken}
+use Rattle.std.specs.Prelude.{Err}
+use Rattle.elements.specs.declared.verdict.Fault.{Fault}
+
+-- two faults that are the same have the same number, and name the same element
+pub broken_same : (n e m k : ℕ) → broken n e ≡ broken m k → (n ≡ m) × (e ≡ k)
+broken_same n e m k d =
+    let first : Fault = record { number = n; element = e } in
+    let second : Fault = record { number = m; element = k } in
+    let same : first ≡ second = cc in
+    (ap (λ (f : Fault). f.number) same, ap (λ (f : Fault). f.element) same)
 
 -- every test holds exactly if none is the first that fails
 module _ (c : Check) (cs : List Check) where
@@ -51,8 +59,8 @@ pub record First (cs : List Check) (n e : ℕ) : Type 0 where
   pub number : found.number ≡ n
   pub element : found.element ≡ e
 
-first_here : (c : Check) (cs : List Check) (b : Bool) (n e : ℕ) → c.holds ≡ b → (first_broken cs ≡ Broken n e → First cs n e)
-    → decide c b (first_broken cs) ≡ Broken n e → First (c ∷ cs) n e
+first_here : (c : Check) (cs : List Check) (b : Bool) (n e : ℕ) → c.holds ≡ b → (first_broken cs ≡ broken n e → First cs n e)
+    → decide c b (first_broken cs) ≡ broken n e → First (c ∷ cs) n e
 first_here c cs true n e h later d =
     let f = later d in
     record {
@@ -66,16 +74,17 @@ first_here c cs true n e h later d =
       element = f.element;
     }
 first_here c cs false n e h later d =
-    record { ahead = []; found = c; behind = cs; split = refl; kept = tt; fails = h; number = cc; element = cc }
+    let same = broken_same c.number c.element n e d in
+    record { ahead = []; found = c; behind = cs; split = refl; kept = tt; fails = h; number = same.0; element = same.1 }
 
-pub broken_first : (cs : List Check) (n e : ℕ) → first_broken cs ≡ Broken n e → First cs n e
+pub broken_first : (cs : List Check) (n e : ℕ) → first_broken cs ≡ broken n e → First cs n e
 broken_first [] n e d = let z : ◌≡◌ {A = ℕ} 0 1 = cc in absurd (omega arith)
 broken_first (c ∷ cs) n e d = first_here c cs c.holds n e refl (broken_first cs n e) d
 
 -- one verdict after another: the first that is broken decides
 abbrev pub and_then : Verdict → Verdict → Verdict
 and_then Holds w = w
-and_then (Broken n e) w = Broken n e
+and_then (Err f) w = Err f
 
 decide_then : (c : Check) (b : Bool) (v w : Verdict) → decide c b (and_then v w) ≡ and_then (decide c b v) w
 decide_then c true v w = refl
@@ -98,12 +107,12 @@ each_holds n a (suc m) f h = rw (h a (omega arith) (omega arith)) (each_holds n 
 
 -- the least element that fails decides
 pub each_broken : (n a m k : ℕ) (f : ℕ → Bool) → ((j : ℕ) → a ≤ j → j < k → f j ≡ true) → a ≤ k → k < a + m → f k ≡ false
-    → first_broken (each n a m f) ≡ Broken n k
+    → first_broken (each n a m f) ≡ broken n k
 each_broken n a zero k f h l u e = absurd (omega arith)
 each_broken n a (suc m) k f h l u e =
     by_cases (dec_lt a k)
     (λ less. rw (h a (omega arith) less) (each_broken n (suc a) m k f (λ j p q. h j (omega arith) q) less (omega arith) e))
-    (λ not-less. let same : a ≡ k = omega arith in let fails : f a ≡ false = ap f same ∙ e in rw fails (ap (Broken n) same))
+    (λ not-less. let same : a ≡ k = omega arith in let fails : f a ≡ false = ap f same ∙ e in rw fails (ap (broken n) same))
 
 -- elements that pass at the end do not matter
 pub each_upto : (n a m t : ℕ) (f : ℕ → Bool) → m ≤ t → ((k : ℕ) → a + m ≤ k → k < a + t → f k ≡ true)
@@ -126,26 +135,26 @@ holds_each n a (suc m) f e k l u =
     truth false t = absurd t
 
 -- the one that decides fails, and is none before the first
-pub each_decides : (n a m : ℕ) (f : ℕ → Bool) (x e : ℕ) → first_broken (each n a m f) ≡ Broken x e → (a ≤ e) × (f e ≡ false)
+pub each_decides : (n a m : ℕ) (f : ℕ → Bool) (x e : ℕ) → first_broken (each n a m f) ≡ broken x e → (a ≤ e) × (f e ≡ false)
 each_decides n a zero f x e d = let z : ◌≡◌ {A = ℕ} 0 1 = cc in absurd (omega arith)
 each_decides n a (suc m) f x e d = by (f a) refl (each_decides n (suc a) m f x e) d
   where
-    by : (t : Bool) → f a ≡ t → (first_broken (each n (suc a) m f) ≡ Broken x e → (suc a ≤ e) × (f e ≡ false))
-        → decide (check n a (f a)) t (first_broken (each n (suc a) m f)) ≡ Broken x e → (a ≤ e) × (f e ≡ false)
+    by : (t : Bool) → f a ≡ t → (first_broken (each n (suc a) m f) ≡ broken x e → (suc a ≤ e) × (f e ≡ false))
+        → decide (check n a (f a)) t (first_broken (each n (suc a) m f)) ≡ broken x e → (a ≤ e) × (f e ≡ false)
     by true h later d = let i = later d in (omega (arith, i.0), i.1)
-    by false h later d = let z : a ≡ e = cc in (omega arith, rw z at h)
+    by false h later d = let z : a ≡ e = (broken_same n a x e d).1 in (omega arith, rw z at h)
 
 -- of two tests together the second decides, where the first passes so far
-pub each_under : (n a m : ℕ) (f g : ℕ → Bool) (x e : ℕ) → first_broken (each n a m g) ≡ Broken x e → ((j : ℕ) → a ≤ j → j ≤ e → f j ≡ true)
-    → first_broken (each n a m (λ (k : ℕ). f k && g k)) ≡ Broken x e
+pub each_under : (n a m : ℕ) (f g : ℕ → Bool) (x e : ℕ) → first_broken (each n a m g) ≡ broken x e → ((j : ℕ) → a ≤ j → j ≤ e → f j ≡ true)
+    → first_broken (each n a m (λ (k : ℕ). f k && g k)) ≡ broken x e
 each_under n a zero f g x e d all = d
 each_under n a (suc m) f g x e d all = by (g a) refl (each_under n (suc a) m f g x e) d
   where
     by : (t : Bool) → g a ≡ t
-        → (first_broken (each n (suc a) m g) ≡ Broken x e → ((j : ℕ) → suc a ≤ j → j ≤ e → f j ≡ true)
-        → first_broken (each n (suc a) m (λ (k : ℕ). f k && g k)) ≡ Broken x e)
-        → decide (check n a (g a)) t (first_broken (each n (suc a) m g)) ≡ Broken x e
-        → decide (check n a (f a && g a)) (f a && g a) (first_broken (each n (suc a) m (λ (k : ℕ). f k && g k))) ≡ Broken x e
+        → (first_broken (each n (suc a) m g) ≡ broken x e → ((j : ℕ) → suc a ≤ j → j ≤ e → f j ≡ true)
+        → first_broken (each n (suc a) m (λ (k : ℕ). f k && g k)) ≡ broken x e)
+        → decide (check n a (g a)) t (first_broken (each n (suc a) m g)) ≡ broken x e
+        → decide (check n a (f a && g a)) (f a && g a) (first_broken (each n (suc a) m (λ (k : ℕ). f k && g k))) ≡ broken x e
     by true h later d =
         let past = (each_decides n (suc a) m g x e d).0 in
         rw (h, all a (omega arith) (omega arith)) (later d (λ j p q. all j (omega arith) q))
@@ -160,11 +169,11 @@ each_silent n a m f g e =
 -- one after another, in any grouping
 pub then_assoc : (u v w : Verdict) → and_then (and_then u v) w ≡ and_then u (and_then v w)
 then_assoc Holds v w = refl
-then_assoc (Broken n e) v w = refl
+then_assoc (Err f) v w = refl
 
 pub first_holds : (v w : Verdict) → and_then v w ≡ Holds → v ≡ Holds
 first_holds Holds w e = refl
-first_holds (Broken n k) w e = e
+first_holds (Err f) w e = e
 
 -- the same test along a list
 abbrev pub each_of : {A : Type 0} → ℕ → ℕ → (A → Bool) → List A → List Check

@@ -6,7 +6,7 @@ use mathlib.Core.Bool.{Bool, true, false, cond, ◌||◌, true≢false}
 use mathlib.Core.List.{List, [], ◌∷◌}
 use native.Mathlib.Omega.{arith}
 use lib.Dec.{eqb, ltb}
-use lib.ListN.{length, get_or, length-append, get_or-eq_default}
+use lib.ListN.{length, get_or, length-append}
 use borrow.Author.Tests.{eqb-true, eqb-false, eq-eqb, ne_eqb, ltb-true, ltb-false, lt-ltb}
 use Rattle.rows.specs.Tags.{tag_number, tag}
 use Rattle.types.specs.declared.kind.Kind.{Kind}
@@ -21,26 +21,6 @@ use Rattle.elements.specs.declared.rules.Entry.{Entry}
 use Rattle.elements.specs.declared.rules.Extent.{Extent}
 use Rattle.elements.proofs.RuleNumbers.{rules_LIN, rule_past, agree_below}
 use Rattle.elements.proofs.EveryTag.{last_small, ruled_known}
-
--- any tag but the eight, as a match on those leaves it: it has no rules
-abbrev pub Plain : ℕ → Type 0
-Plain t =
-    (((((((Unit {0} × (t ≡ tag "ST" → ⊥)) × (t ≡ tag "N1" → ⊥)) × (t ≡ tag "DTM" → ⊥)) × (t ≡ tag "HL" → ⊥)) × (t ≡ tag "LIN" → ⊥))
-    × (t ≡ tag "NTE" → ⊥)) × (t ≡ tag "NCA" → ⊥)) × (t ≡ tag "SE" → ⊥)
-
-pub extent_plain : (t : ℕ) → Plain t → record { first = 27; last = 0; needed = 0 } ≡ extent_of t
-unfolding extent_of rules_of tag_number
-extent_plain t p =
-    rw (
-      ne_eqb (tag "ST") t (λ e. p.0.0.0.0.0.0.0.1 (sym e)),
-      ne_eqb (tag "N1") t (λ e. p.0.0.0.0.0.0.1 (sym e)),
-      ne_eqb (tag "DTM") t (λ e. p.0.0.0.0.0.1 (sym e)),
-      ne_eqb (tag "HL") t (λ e. p.0.0.0.0.1 (sym e)),
-      ne_eqb (tag "LIN") t (λ e. p.0.0.0.1 (sym e)),
-      ne_eqb (tag "NTE") t (λ e. p.0.0.1 (sym e)),
-      ne_eqb (tag "NCA") t (λ e. p.0.1 (sym e)),
-      ne_eqb (tag "SE") t (λ e. p.1 (sym e)),
-    )
 
 -- one of two tests passes, or neither does
 none_of : (a b : Bool) → a || b ≡ false → (a ≡ false) × (b ≡ false)
@@ -63,14 +43,7 @@ pub outside_renders : (t k : ℕ) (x : Extent) (r : Rule) → x ≡ extent_of t 
 unfolding extent_of
 outside_renders t k x r e o f = rw f (renders_none (rules_of t) k (rw e at o))
 
--- the table has 27 entries, and each segment's start among them
-pub table_length : length rule_table ≡ 27
-unfolding rule_table tag_number
-table_length = refl
-
-pub past_table : (place : ℕ) → 26 < place → no_entry ≡ get_or rule_table place no_entry
-past_table place l = sym (get_or-eq_default rule_table no_entry {n = place} (omega (arith, table_length)))
-
+-- each segment's start is among the table's entries, or at its end
 first_among_lem : (xs : List (ℕ × Rules)) (t : ℕ) → first_among xs t ≤ length (table_among xs)
 first_among_lem [] t = omega arith
 first_among_lem (x ∷ xs) t = by_test (eqb x.0 t) (omega (arith, length-append (tabled x) (table_among xs), first_among_lem xs t))
@@ -124,9 +97,6 @@ module _ (t k : ℕ) (x : Extent) (e : x ≡ extent_of t) (inside : eqb k 0 || l
 
   pub place_small : x.first + k ≤ 58
   place_small = omega (arith, near, last_is, last_small t, first_small t, ap (λ (x : Extent). x.first) e)
-
-  pub place_some : 1 ≤ x.first + k
-  place_some = omega (arith, some)
 
   -- its rule stands in the table
   pub table_renders : (t ≡ tag "LIN" → ⊥) → (entry : Entry) (r : Rule) → entry ≡ get_or rule_table (x.first + k - 1) no_entry → r ≡ rule_by entry

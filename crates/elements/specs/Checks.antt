@@ -1,8 +1,17 @@
 -- Rules as tests in the order of the answers: each with the answer's number and element, and the first that fails decides.
 -- Assumes nothing.
-use Rattle.std.specs.Prelude.{ℕ, zero, suc, Bool, true, false, List, [], ◌∷◌, T}
-use Rattle.elements.specs.declared.verdict.Verdict.{Verdict}
-use Rattle.elements.specs.declared.verdict.Verdict.TheVariants.{Holds, Broken}
+use Rattle.std.specs.Prelude.{ℕ, zero, suc, Bool, true, false, List, [], ◌∷◌, T, Result, Ok, Err}
+use Rattle.elements.specs.declared.verdict.Fault.{Fault}
+
+-- what a group of rules says of a segment: they hold, or the first that is broken has that number and names that element
+abbrev pub Verdict : Type 0
+Verdict = Result (Unit {0}) Fault
+
+pattern abbrev pub Holds : Verdict
+Holds = Ok tt
+
+abbrev pub broken : ℕ → ℕ → Verdict
+broken number element = Err (record { number = number; element = element })
 
 -- a test, with the answer where it fails
 pub record Check : Type 0 where
@@ -26,7 +35,7 @@ Keeps (c ∷ cs) = T c.holds × Keeps cs
 -- one test before others: it decides where it fails
 abbrev pub decide : Check → Bool → Verdict → Verdict
 decide c true later = later
-decide c false later = Broken c.number c.element
+decide c false later = broken c.number c.element
 
 -- the first test that fails, or that all hold
 abbrev pub first_broken : List Check → Verdict

@@ -1,10 +1,10 @@
 // The components of one element, and what is asked of them.
-ghost use Rattle.std.specs.Prelude.{◌≡◌, ◌≤◌, ◌<◌, length};
+ghost use Rattle.std.specs.Prelude.{◌≡◌, ◌<◌};
 ghost use Rattle.text.specs.Pieces.{pieces};
 ghost use Rattle.elements.specs.Data.{value, unit_values};
 ghost use Rattle.elements.specs.Rules.{complete_by, fits_simple, fits_each, suits_by};
 ghost use Rattle.elements.specs.internal.Layouts.{components_by};
-ghost use Rattle.elements.specs.internal.Components.{Upto, fits_unit};
+ghost use Rattle.elements.specs.internal.Components.{fits_unit};
 ghost use Rattle.elements.specs.internal.Verdicts.{element_by};
 
 use crate::rules::Rule;
@@ -12,69 +12,38 @@ use text::search;
 use types::kind::Kind;
 use types::values;
 
-// Where the component that starts at `from` ends.
-fn component_end(p: &[u8], from: usize, separator: u8) -> usize
-    requires { from ≤ length p.now }
-    ensures { Upto p.now from separator result }
-{
-    let mut i = from;
-    while i < p.len() {
-        if p[i] == separator {
-            return i;
-        }
-        i += 1;
-    }
-    i
-}
-
 // Whether component j of the units is empty or fits: ID 2/2, R 1/15 and R 1/10 in turn.
 fn fits_unit(j: usize, p: &[u8]) -> bool
     requires { j < 15 }
     ensures { result ≡ fits_unit j p.now }
 {
-    if p.len() == 0 {
+    if p.is_empty() {
         return true;
     }
-    if j % 3 == 0 {
-        return values::fits(Kind::ID, 2, 2, p);
+    match j % 3 {
+        0 => values::fits(Kind::ID, 2, 2, p),
+        1 => values::fits(Kind::R, 1, 15, p),
+        _ => values::fits(Kind::R, 1, 10, p),
     }
-    if j % 3 == 1 {
-        return values::fits(Kind::R, 1, 15, p);
-    }
-    values::fits(Kind::R, 1, 10, p)
 }
 
 // Whether each component of the units is empty or fits.
 fn fits_units(p: &[u8], separator: u8) -> bool
     ensures { result ≡ fits_each unit_values (pieces separator p.now) }
 {
-    let mut from: usize = 0;
-    let mut j: usize = 0;
-    while j < 15 {
-        let to = component_end(p, from, separator);
-        if !fits_unit(j, &p[from..to]) {
-            return false;
-        }
-        if to == p.len() {
-            return true;
-        }
-        from = to + 1;
-        j += 1;
-    }
-    false
+    p.split(|b| *b == separator)
+        .enumerate()
+        .all(|(j, unit)| j < 15 && fits_unit(j, unit))
 }
 
 // Whether nothing mandatory is missing of an element with that rule.
 pub(crate) fn is_complete(rule: Rule, single: bool, separator: u8, p: &[u8]) -> bool
     ensures { result ≡ complete_by (element_by rule) (components_by single separator p.now) }
 {
-    if p.len() == 0 {
+    if p.is_empty() {
         return !rule.must;
     }
-    if !rule.composite {
-        return true;
-    }
-    if single {
+    if single || !rule.composite {
         return true;
     }
     p[0] != separator
@@ -108,7 +77,7 @@ fn suits_value(rule: Rule, single: bool, separator: u8, p: &[u8]) -> bool
 pub(crate) fn is_suited(rule: Rule, single: bool, separator: u8, p: &[u8]) -> bool
     ensures { result ≡ suits_by (element_by rule) (components_by single separator p.now) }
 {
-    if p.len() == 0 {
+    if p.is_empty() {
         return true;
     }
     if rule.composite {

@@ -3,67 +3,46 @@ ghost use Rattle.std.specs.Prelude.{◌≡◌, ◌<◌, length};
 ghost use Rattle.elements.specs.internal.Layouts.{components_in};
 ghost use Rattle.elements.specs.internal.Verdicts.{rules_of, elements_verdict, Reached};
 
-use crate::layout::Layout;
-use crate::verdict::Verdict;
-use crate::{components, layout, rules};
+use crate::layout::Parts;
+use crate::verdict::{Fault, Verdict};
+use crate::{components, rules};
 
 // Answers 8 and 10 of the elements up to `upto`: the first that is incomplete, or else the first that does not suit.
-fn elements_verdict(
-    s: &[u8],
-    starts: &[usize; 33],
-    layout: Layout,
-    component: u8,
-    tag: u8,
-    upto: usize,
-) -> Verdict
+fn elements_verdict(parts: Parts, component: u8, tag: u8, upto: usize) -> Verdict
     requires { upto < 32 }
-    ensures { result ≡ elements_verdict (rules_of tag) (components_in s.now starts.now layout component) upto }
+    ensures { result ≡ elements_verdict (rules_of tag) (components_in parts.entry.bytes.now parts.entry.starts.now parts.entry.layout component) upto }
 {
-    let mut unfit: usize = 0;
-    let mut k: usize = 1;
-    while k <= upto {
+    let single = parts.layout.single;
+    let mut unfit = None;
+    for k in 1..upto + 1 {
         let rule = rules::rule_of(tag, k);
-        let p = layout::element(s, starts, layout, k);
-        if !components::is_complete(rule, layout.single, component, p) {
-            return Verdict::Broken(8, k);
+        let p = parts.element(k);
+        if !components::is_complete(rule, single, component, p) {
+            return Err(Fault::missing(k));
         }
-        let suited = components::is_suited(rule, layout.single, component, p);
-        if (unfit == 0) & !suited {
-            unfit = k;
+        if unfit.is_none() && !components::is_suited(rule, single, component, p) {
+            unfit = Some(k);
         }
-        k += 1;
     }
-    if unfit != 0 {
-        return Verdict::Broken(10, unfit);
+    match unfit {
+        None => Ok(()),
+        Some(k) => Err(Fault::unfit(k)),
     }
-    Verdict::Holds
 }
 
 // The last element to look at: of those with a rule the last that is there or has to be.
 fn reach(count: usize, needed: usize, last: usize) -> usize
     ensures { Reached count needed last result }
 {
-    if last <= count {
-        return last;
-    }
-    if count < needed {
-        return needed;
-    }
-    count
+    count.max(needed).min(last)
 }
 
 // Answers 8 and 10 of a segment with that tag.
-pub fn fitting_verdict(
-    s: &[u8],
-    starts: &[usize; 33],
-    layout: Layout,
-    component: u8,
-    tag: u8,
-) -> Verdict
+pub fn fitting_verdict(parts: Parts, component: u8, tag: u8) -> Verdict
     ensures { result ≡ elements_verdict (rules_of tag)
-        (components_in s.now starts.now layout component) (length (rules_of tag).elements) }
+        (components_in parts.entry.bytes.now parts.entry.starts.now parts.entry.layout component) (length (rules_of tag).elements) }
 {
     let extent = rules::extent_of(tag);
-    let upto = reach(layout.count, extent.needed, extent.last);
-    elements_verdict(s, starts, layout, component, tag, upto)
+    let upto = reach(parts.layout.count, extent.needed, extent.last);
+    elements_verdict(parts, component, tag, upto)
 }

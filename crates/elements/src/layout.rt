@@ -12,41 +12,38 @@ pub struct Layout {
     pub ended: bool,
 }
 
+// A segment by its layout: the bytes it stands in, where its tag and its first elements start, and the layout.
+#[derive(Clone, Copy, Drop)]
+pub struct Parts<'a> {
+    pub bytes: &'a [u8],
+    pub starts: &'a [usize; 33],
+    pub layout: Layout,
+}
+
 // The bytes from one place up to another; none where there are no such bytes.
 fn part_between<'a>(s: &'a [u8], from: usize, to: usize) -> &'a [u8]
     ensures { result.now ≡ part_between s.now from to }
 {
-    if to < from {
-        return &s[0..0];
-    }
-    if s.len() < to {
-        return &s[0..0];
-    }
-    &s[from..to]
+    s.get(from..to).unwrap_or(&[])
 }
 
-// The number before; 0 before 0.
-fn before(n: usize) -> usize
-    ensures { result ≡ n - 1 }
-{
-    if n == 0 {
-        return 0;
+impl<'a> Parts<'a> {
+    // The bytes of element k, the tag being element 0; none past the last, and none past element 31.
+    #[tactic(auto, unfolding(crate::specs::internal::Layouts::element_in))]
+    pub fn element(self, k: usize) -> &'a [u8]
+        ensures { result.now ≡ early_element self.entry.bytes.now self.entry.starts.now self.entry.layout k }
+    {
+        let Parts {
+            bytes,
+            starts,
+            layout,
+        } = self;
+        if (32 <= k) | (layout.count < k) {
+            return &[];
+        }
+        if k < layout.count {
+            return part_between(bytes, starts[k], starts[k + 1].saturating_sub(1));
+        }
+        part_between(bytes, starts[k], layout.end)
     }
-    n - 1
-}
-
-// The bytes of element k, the tag being element 0; none past the last, and none past element 31.
-pub fn element<'a>(s: &'a [u8], starts: &[usize; 33], layout: Layout, k: usize) -> &'a [u8]
-    ensures { result.now ≡ early_element s.now starts.now layout k }
-{
-    if 32 <= k {
-        return &s[0..0];
-    }
-    if layout.count < k {
-        return &s[0..0];
-    }
-    if k < layout.count {
-        return part_between(s, starts[k], before(starts[k + 1]));
-    }
-    part_between(s, starts[k], layout.end)
 }

@@ -62,27 +62,28 @@ const RULES: [Entry; 27] = [
     Entry(true, false, Kind::AN, 4, 9), // SE02
 ];
 
+// An element that nothing is asked of.
+const FREE: Entry = Entry(false, false, Kind::AN, 0, 0);
+
 // The entry at a place of the table; past its end, one that asks for nothing.
 fn entry_at(place: usize) -> Entry
     ensures { result ≡ get_or rule_table place no_entry }
 {
-    if 26 < place {
-        return Entry(false, false, Kind::AN, 0, 0);
-    }
-    RULES[place]
+    RULES.get(place).copied().unwrap_or(FREE)
 }
 
-// The rule with these fields.
-fn rule_by(entry: Entry) -> Rule
-    ensures { result ≡ rule_by entry }
-{
-    let kind = entry.2;
-    Rule {
-        must: entry.0,
-        composite: entry.1,
-        kind,
-        least: entry.3 as usize,
-        most: entry.4 as usize,
+impl From<Entry> for Rule {
+    ghost from_gives = { λ entry rule. rule ≡ rule_by entry };
+
+    fn from(entry: Entry) -> Rule {
+        let Entry(must, composite, kind, least, most) = entry;
+        Rule {
+            must,
+            composite,
+            kind,
+            least: usize::from(least),
+            most: usize::from(most),
+        }
     }
 }
 
@@ -90,7 +91,7 @@ fn rule_by(entry: Entry) -> Rule
 fn simple(must: bool, kind: Kind, least: u8, most: u8) -> Rule
     ensures { result ≡ rule_by (must, false, kind, least, most) }
 {
-    rule_by(Entry(must, false, kind, least, most))
+    Rule::from(Entry(must, false, kind, least, most))
 }
 
 // The rule of element k of LIN: a number, then fifteen pairs of a qualifier and a value, the first of them mandatory.
@@ -109,10 +110,22 @@ fn item_rule(k: usize) -> Rule
     simple(k == 3, Kind::AN, 1, 48)
 }
 
-// The rules from `first` on.
-fn stretch(first: usize, last: usize, needed: usize) -> Extent
-    ensures { result ≡ record { first = first; last = last; needed = needed } }
+// The rules of a segment with that tag; a plain segment has none.
+#[tactic(auto, unfolding(crate::specs::internal::Table::extent_of, crate::specs::internal::Verdicts::rules_of, rows::specs::Tags::tag_number))]
+pub(crate) fn extent_of(tag: u8) -> Extent
+    ensures { result ≡ extent_of tag }
 {
+    let (first, last, needed) = match tag {
+        tags::ST => (0, 2, 2),
+        tags::N1 => (2, 6, 1),
+        tags::DTM => (8, 6, 1),
+        tags::HL => (14, 4, 3),
+        tags::LIN => (18, 31, 3),
+        tags::NTE => (18, 2, 2),
+        tags::NCA => (20, 5, 0),
+        tags::SE => (25, 2, 2),
+        _ => (27, 0, 0),
+    };
     Extent {
         first,
         last,
@@ -120,45 +133,19 @@ fn stretch(first: usize, last: usize, needed: usize) -> Extent
     }
 }
 
-// The rules of a segment with that tag; a plain segment has none.
-pub(crate) fn extent_of(tag: u8) -> Extent
-    ensures { result ≡ extent_of tag }
+// The last element of a segment with that tag that has a rule; a plain segment has none.
+#[tactic(auto, unfolding(crate::specs::internal::Table::extent_of))]
+pub fn last_ruled(tag: u8) -> usize
+    ensures { result ≡ length (rules_of tag).elements }
 {
-    match tag {
-        tags::ST => stretch(0, 2, 2),
-        tags::N1 => stretch(2, 6, 1),
-        tags::DTM => stretch(8, 6, 1),
-        tags::HL => stretch(14, 4, 3),
-        tags::LIN => stretch(18, 31, 3),
-        tags::NTE => stretch(18, 2, 2),
-        tags::NCA => stretch(20, 5, 0),
-        tags::SE => stretch(25, 2, 2),
-        _ => stretch(27, 0, 0),
-    }
+    extent_of(tag).last
 }
 
 // Whether a segment with that tag is plain: no element of it has a rule.
 pub fn is_plain(tag: u8) -> bool
     ensures { result ≡ eqb (length (rules_of tag).elements) 0 }
 {
-    match tag {
-        tags::ST => false,
-        tags::N1 => false,
-        tags::DTM => false,
-        tags::HL => false,
-        tags::LIN => false,
-        tags::NTE => false,
-        tags::NCA => false,
-        tags::SE => false,
-        _ => true,
-    }
-}
-
-// The last element of a segment with that tag that has a rule; a plain segment has none.
-pub fn last_ruled(tag: u8) -> usize
-    ensures { result ≡ length (rules_of tag).elements }
-{
-    extent_of(tag).last
+    last_ruled(tag) == 0
 }
 
 // The rule of element k of a segment with that tag; one that asks for nothing where there is none.
@@ -172,5 +159,5 @@ pub(crate) fn rule_of(tag: u8, k: usize) -> Rule
     if (k == 0) | (extent.last < k) {
         return simple(false, Kind::AN, 0, 0);
     }
-    rule_by(entry_at(extent.first + k - 1))
+    Rule::from(entry_at(extent.first + k - 1))
 }

@@ -4,45 +4,48 @@ ghost use Rattle.text.specs.View.{plain_view};
 ghost use Rattle.elements.specs.Checks.{first_broken};
 ghost use Rattle.elements.specs.Rules.{data_checks, end_checks};
 
-use crate::verdict::Verdict;
+use crate::verdict::{Fault, Verdict};
 use text::separators::Separators;
 
 // Answer 5: the first element with a byte that is neither data nor a separator; the tag is 0.
 pub fn byte_verdict(segment: &[u8], separators: Separators) -> Verdict
     ensures { result ≡ first_broken (data_checks (plain_view separators segment.now)) }
 {
-    let element = separators.element;
-    let component = separators.component;
+    let Separators {
+        element,
+        component,
+        ..
+    } = separators;
     let mut k: usize = 0;
-    let mut i = 0;
-    while i < segment.len() {
-        let b = segment[i];
+    for b in segment {
+        let b = *b;
         if b == element {
             k += 1;
         } else if !((b == component) | ((32 <= b) & (b <= 126))) {
-            return Verdict::Broken(5, k);
+            return Err(Fault::byte(k));
         }
-        i += 1;
     }
-    Verdict::Holds
+    Ok(())
 }
 
 // Answer 6: no element, or the first element that ends with an empty component, or an empty last element.
 pub fn end_verdict(segment: &[u8], separators: Separators) -> Verdict
     ensures { result ≡ first_broken (end_checks (plain_view separators segment.now)) }
 {
-    let element = separators.element;
-    let component = separators.component;
+    let Separators {
+        element,
+        component,
+        ..
+    } = separators;
     let mut k: usize = 0;
     // The element has no byte so far; its last component has none.
     let mut bare = true;
     let mut hollow = true;
-    let mut i = 0;
-    while i < segment.len() {
-        let b = segment[i];
+    for b in segment {
+        let b = *b;
         if b == element {
             if (k != 0) & hollow & !bare {
-                return Verdict::Broken(6, k);
+                return Err(Fault::ending(k));
             }
             k += 1;
             bare = true;
@@ -51,10 +54,9 @@ pub fn end_verdict(segment: &[u8], separators: Separators) -> Verdict
             bare = false;
             hollow = b == component;
         }
-        i += 1;
     }
     if (k == 0) | bare | hollow {
-        return Verdict::Broken(6, k);
+        return Err(Fault::ending(k));
     }
-    Verdict::Holds
+    Ok(())
 }

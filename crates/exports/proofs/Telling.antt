@@ -12,10 +12,9 @@ use Rattle.text.specs.Lookup.{part_span}
 use Rattle.text.specs.declared.separators.Separators.{Separators}
 use Rattle.text.proofs.Lookups.{terminator_aside}
 use Rattle.rows.specs.declared.profile.ProfileName.{ProfileName}
-use Rattle.gate.specs.Answers.{numbers_of}
+use Rattle.gate.specs.Answers.{Answer, numbers_of}
 use Rattle.gate.specs.Records.{Tables}
 use Rattle.gate.specs.Reads.{Reads}
-use Rattle.gate.specs.declared.answer.Answer.{Answer}
 use Rattle.gate.specs.declared.how.How.{How}
 use Rattle.rewriting.specs.Rewrites.{Rewrites}
 use Rattle.exports.specs.Promises.{separators_of, Told, ToldAgain, bit_of}

@@ -1,6 +1,7 @@
 -- The promises of the functions that other languages call: what each writes into the numbers that the caller lends.
 -- Assumes nothing.
-use Rattle.std.specs.Prelude.{ℕ, ◌/◌, ◌%◌, ◌≡◌, Bool, cond, List, [], ◌∷◌, eqb, ℤ, pos}
+use Rattle.std.specs.Prelude.{ℕ, ◌/◌, ◌%◌, ◌≡◌, Bool, cond, List, [], ◌∷◌, eqb, ℤ, pos, Option, Some, None, is_some, Ok, Err}
+use Rattle.std.specs.Option.{unwrap_or}
 use Rattle.text.specs.Bytes.{Bytes}
 use Rattle.text.specs.Lookup.{part_span}
 use Rattle.text.specs.declared.lines.LineEnds.{LineEnds}
@@ -10,15 +11,12 @@ use Rattle.text.specs.declared.separators.Separators.{Separators}
 use Rattle.rows.specs.declared.profile.ProfileName.{ProfileName}
 use Rattle.rows.specs.declared.profile.ProfileName.TheVariants.{Report, Reply}
 use Rattle.types.specs.declared.numbers.Number.{Number}
-use Rattle.gate.specs.Answers.{numbers_of}
+use Rattle.gate.specs.Answers.{Answer, numbers_of}
 use Rattle.gate.specs.Records.{Tables}
 use Rattle.gate.specs.Reads.{Reads}
-use Rattle.gate.specs.declared.answer.Answer.{Answer}
 use Rattle.gate.specs.declared.how.How.{How}
 use Rattle.rewriting.specs.Rewrites.{Rewrites}
-use Rattle.outline.specs.Walks.{Walks}
-use Rattle.outline.specs.declared.answer.Walked.{Walked}
-use Rattle.outline.specs.declared.answer.Walked.TheVariants.{Listed, Refused}
+use Rattle.outline.specs.Walks.{Walked, Walks}
 
 -- three bytes as separators
 abbrev pub separators_of : ℕ → ℕ → ℕ → Separators
@@ -55,8 +53,8 @@ pub record ToldAgain (profile : ProfileName) (old new : Separators) (s : Bytes) 
 
 -- the two numbers of a walk's answer: 0 with the count of levels, or the refusal with the level
 abbrev pub walk_numbers : Walked → List ℕ
-walk_numbers (Listed levels) = 0 ∷ levels ∷ []
-walk_numbers (Refused number level) = number ∷ level ∷ []
+walk_numbers (Ok levels) = 0 ∷ levels ∷ []
+walk_numbers (Err u) = u.number ∷ u.level ∷ []
 
 -- a walk, told by the two numbers of its answer
 pub record ToldWalk (levels : List ℕ) (count : ℕ) (before after : List ℕ) (two : List ℕ) : Type 0 where
@@ -77,6 +75,8 @@ ToldPart element component segment number part two =
 abbrev pub bit_of : Bool → ℤ
 bit_of told = cond told (pos 1) (pos 0)
 
--- the five numbers of a number check: fit or unfit, the value, how many digits stand behind the point, the exponent, and whether one is written
-abbrev pub number_numbers : Number → List ℤ
-number_numbers n = bit_of n.fit ∷ n.value ∷ pos n.places ∷ n.exponent ∷ bit_of n.written ∷ []
+-- the five numbers of a number check: fit or unfit, the value, how many digits stand behind the point, the exponent, 0 where none is written, and
+-- whether one is written
+abbrev pub number_numbers : Option Number → List ℤ
+number_numbers None = pos 0 ∷ pos 0 ∷ pos 0 ∷ pos 0 ∷ pos 0 ∷ []
+number_numbers (Some n) = pos 1 ∷ n.value ∷ pos n.places ∷ unwrap_or n.exponent (pos 0) ∷ bit_of (is_some n.exponent) ∷ []

@@ -5,7 +5,7 @@
 ghost use Rattle.std.specs.Prelude.{◌≡◌};
 ghost use Rattle.types.specs.Numbers.{checked};
 ghost use Rattle.gate.specs.Answers.{numbers_of};
-ghost use Rattle.exports.specs.Promises.{separators_of, lines_of, profile_in, how_of, tables_of, Told, ToldAgain, walk_numbers, ToldWalk, span_numbers, ToldPart, bit_of, number_numbers};
+ghost use Rattle.exports.specs.Promises.{separators_of, lines_of, profile_in, how_of, tables_of, Told, ToldAgain, walk_numbers, ToldWalk, span_numbers, ToldPart, number_numbers};
 
 use gate::answer::Answer;
 use gate::how::How;
@@ -68,17 +68,18 @@ fn four(answer: Answer) -> [u64; 4]
     ensures { result ≡ numbers_of answer }
 {
     match answer {
-        Answer::Accepted {
-            segments,
-            levels,
-            bytes,
-        } => [0, segments as u64, levels as u64, bytes as u64],
-        Answer::Refused {
-            number,
-            segment,
-            byte,
-            element,
-        } => [number as u64, segment as u64, byte as u64, element as u64],
+        Ok(accepted) => [
+            0,
+            accepted.segments as u64,
+            accepted.levels as u64,
+            accepted.bytes as u64,
+        ],
+        Err(refusal) => [
+            refusal.number as u64,
+            refusal.segment as u64,
+            refusal.byte as u64,
+            refusal.element as u64,
+        ],
     }
 }
 
@@ -87,8 +88,8 @@ fn pair(walked: Walked) -> [u64; 2]
     ensures { result ≡ walk_numbers walked }
 {
     match walked {
-        Walked::Listed { levels } => [0, levels as u64],
-        Walked::Refused { number, level } => [number as u64, level as u64],
+        Ok(levels) => [0, levels as u64],
+        Err(unlisted) => [unlisted.number as u64, unlisted.level as u64],
     }
 }
 
@@ -99,32 +100,27 @@ fn two(span: Span) -> [u64; 2]
     [span.start as u64, span.len as u64]
 }
 
-// 1 for yes and 0 for no.
-fn bit(yes: bool) -> i64
-    ensures { result ≡ bit_of yes }
-{
-    if yes { 1 } else { 0 }
-}
-
-// Fit or unfit, value, places, exponent, and whether one is written.
-fn five(number: Number) -> [i64; 5]
+// 1 for a number, its value, places and exponent, and whether an exponent is written; five zeros for none.
+fn five(number: Option<Number>) -> [i64; 5]
     ensures { result ≡ number_numbers number }
 {
-    let value = number.value;
-    let places = number.places as i64;
+    let Some(number) = number else {
+        return [0; 5];
+    };
     let exponent = number.exponent;
     [
-        bit(number.fit),
-        value,
-        places,
-        exponent,
-        bit(number.written),
+        1,
+        number.value,
+        i64::from(number.places),
+        exponent.unwrap_or(0),
+        i64::from(exponent.is_some()),
     ]
 }
 
 // Reads one transaction from the start of the input, as `reading::read` does, in the way that the sum of flags `how` names: both tables, and
 // the four numbers of the answer.
 #[unsafe(no_mangle)]
+#[tactic(auto, using(crate::proofs::Telling::tell))]
 pub extern "C" fn stormhlaw_read(
     input: &[u8],
     element: u8,

@@ -7,7 +7,6 @@ use mathlib.Core.Logic.{by_cases}
 use mathlib.Core.List.{List, [], ◌∷◌}
 use native.Mathlib.Omega.{arith}
 use native.Mathlib.Decide.{dec_lt}
-use lib.Dec.{eqb}
 use lib.ListN.{length}
 use borrow.Author.Tests.{eq-eqb, ne_eqb}
 use Rattle.text.specs.Bytes.{Bytes, bytes, same}
@@ -15,29 +14,30 @@ use Rattle.text.proofs.Sames.{true_same}
 use Rattle.levels.specs.Levels.{Level, level_at}
 use Rattle.levels.specs.Rules.{filled_from, filled}
 use Rattle.levels.specs.internal.Answers.{as_parent}
+use Rattle.finding.specs.declared.notes.Asks.TheVariants.{Nothing, Shut, Owes}
 use Rattle.finding.specs.internal.Entries.{level_entry, deepest}
-use Rattle.finding.specs.internal.Notes.{code_in, asks_in}
+use Rattle.finding.specs.internal.Notes.{code_in, asks_in, is_shut, is_owing}
 use Rattle.finding.specs.internal.Answers.{parent_in, none_owes}
 use Rattle.finding.specs.internal.TablesHold.{has_child, HeldAll, TablesHold}
 
 -- a level is shut exactly if its mark is 0
-shut_by : (zero one : Bool) → eqb (cond zero 1 (cond one 2 0)) 1 ≡ zero
+shut_by : (zero one : Bool) → is_shut (cond zero Shut (cond one Owes Nothing)) ≡ zero
 shut_by true one = refl
 shut_by false true = refl
 shut_by false false = refl
 
 -- it owes no child exactly if its mark is not 1 or it has one
 owes_by : (mark : Bytes) (child : Bool)
-    → not (eqb (cond (same mark (bytes "0")) 1 (cond (same mark (bytes "1") && not child) 2 0)) 2) ≡ not (same mark (bytes "1")) || child
+    → not (is_owing (cond (same mark (bytes "0")) Shut (cond (same mark (bytes "1") && not child) Owes Nothing))) ≡ not (same mark (bytes "1")) || child
 owes_by mark child = by_mark (same mark (bytes "0")) refl
   where
-    by_one : (one had : Bool) → not (eqb (cond (one && not had) 2 0) 2) ≡ not one || had
+    by_one : (one had : Bool) → not (is_owing (cond (one && not had) Owes Nothing)) ≡ not one || had
     by_one true true = refl
     by_one true false = refl
     by_one false had = refl
 
     by_mark : (zero : Bool) → same mark (bytes "0") ≡ zero
-        → not (eqb (cond zero 1 (cond (same mark (bytes "1") && not child) 2 0)) 2) ≡ not (same mark (bytes "1")) || child
+        → not (is_owing (cond zero Shut (cond (same mark (bytes "1") && not child) Owes Nothing))) ≡ not (same mark (bytes "1")) || child
     by_mark true e = rw (true_same mark (bytes "0") e)
     by_mark false e = by_one (same mark (bytes "1")) child
 
@@ -53,7 +53,7 @@ module _ (s : Bytes) (separator : ℕ) (segments levels : List ℕ) (m : ℕ) (a
       let e : n ≡ suc (length ls) = omega arith in
       let h = held.0 in
       let code : code_in (level_entry levels n 3) ≡ l.code = rw e h.code_is in
-      let shut : eqb (asks_in (level_entry levels n 3)) 1 ≡ same l.mark (bytes "0") =
+      let shut : is_shut (asks_in (level_entry levels n 3)) ≡ same l.mark (bytes "0") =
       rw (e, h.asks_is) (shut_by (same l.mark (bytes "0")) (same l.mark (bytes "1") && not (has_child (suc (length ls)) all))) in
       let below : min deepest (level_entry levels n 2) + 1 ≡ suc l.depth = rw e (omega (arith, h.depth_is)) in
       rw (eq-eqb n (suc (length ls)) e) (λ i. record { number = n; code = code i; shut = shut i; below = below i }))

@@ -1,6 +1,5 @@
 pub mod TableEntries
 pub mod FirstPiece
-pub mod PlaceLaws
 pub mod PlainTable
 pub mod NoteLaws
 pub mod LevelSearch

@@ -1,18 +1,17 @@
 -- A level table with the codes alone in its first records: its length, one record more, and what a child that is met changes.
 -- Assumes nothing.
-use Prim.Native.Nat.{ℕ, zero, suc, ◌+◌, ◌-◌, ◌*◌, ◌/◌, ◌≤◌, ◌<◌}
+use Prim.Native.Nat.{ℕ, zero, suc, ◌+◌, ◌-◌, ◌*◌, ◌/◌, ◌%◌, ◌≤◌, ◌<◌}
 use mathlib.Core.Path.{◌≡◌, refl, ap}
 use mathlib.Core.Bool.{Bool, true, false, cond}
 use mathlib.Core.List.{List, [], ◌∷◌}
 use native.Mathlib.Omega.{arith}
-use lib.Dec.{T, eqb, leb, leb→le}
+use lib.Dec.{T, leb, leb→le}
 use lib.ListN.{length, get_or, set, length-set}
-use borrow.Author.Tests.{eqb-true}
 use Rattle.text.specs.Bytes.{between}
 use Rattle.text.proofs.Bools.{first_of, second_of}
 use Rattle.levels.specs.Widths.{level_width}
 use Rattle.finding.specs.internal.Entries.{level_entry, stored_at}
-use Rattle.finding.specs.internal.Notes.{code_in, asks_in, answered, child_met, plain}
+use Rattle.finding.specs.internal.Notes.{code_in, asks_numbered, asks_in, is_owing, answered, child_met, plain}
 
 -- the table is as long
 pub plain_long : (n : ℕ) (t : List ℕ) → length (plain n t) ≡ length t
@@ -65,12 +64,22 @@ same_codes (suc n) (suc k) (opens w x y z t) note l h e =
     rw (next_note k)
     (ap (λ (r : List ℕ). w ∷ x ∷ y ∷ code_in z ∷ r) (same_codes n k (opened t (omega arith)) note (omega arith) (omega arith) (rw (next_note k) at e)))
 
+-- a note that owes a child has the number 2 for it
+owing_numbered : (n : ℕ) → is_owing (asks_numbered n) ≡ true → n ≡ 2
+owing_numbered zero e = cc
+owing_numbered (suc zero) e = cc
+owing_numbered (suc (suc zero)) e = refl
+owing_numbered (suc (suc (suc n))) e = cc
+
+pub owing_two : (note : ℕ) → is_owing (asks_in note) ≡ true → note / 8 % 4 ≡ 2
+owing_two note e = owing_numbered (note / 8 % 4) e
+
 -- an answered note has the same code
 pub answered_code : (note : ℕ) → code_in (answered note) ≡ code_in note
-answered_code note = by_value (eqb (asks_in note) 2) refl
+answered_code note = by_value (is_owing (asks_in note)) refl
   where
-    by_value : (b : Bool) → eqb (asks_in note) 2 ≡ b → code_in (answered note) ≡ code_in note
-    by_value true e = rw e (omega (arith, eqb-true (asks_in note) 2 e))
+    by_value : (b : Bool) → is_owing (asks_in note) ≡ b → code_in (answered note) ≡ code_in note
+    by_value true e = rw e (omega (arith, owing_two note e))
     by_value false e = rw e
 
 -- a child that is met leaves the length and the codes

@@ -17,13 +17,15 @@ use Rattle.text.proofs.Bools.{and_false, and_true}
 use Rattle.text.proofs.Pieces.{Clean, joined_pieces, pieces_clean, pieces_cut, first_piece}
 use Rattle.levels.specs.Widths.{segment_width, level_width}
 use Rattle.levels.specs.Levels.{Level}
+use Rattle.finding.specs.declared.notes.Asks.{Asks}
+use Rattle.finding.specs.declared.notes.Asks.TheVariants.{Nothing, Shut, Owes}
 use Rattle.finding.specs.internal.Entries.{level_entry, start_of, stored_at, deepest}
 use Rattle.finding.specs.internal.Lists.{lists, place_of, last_in}
-use Rattle.finding.specs.internal.Notes.{note_of, code_in, asks_in, link_in, asks_of, answered, child_met}
+use Rattle.finding.specs.internal.Notes.{asks_number, note_with, code_in, asks_numbered, asks_in, is_owing, link_in, asks_of, answered, child_met}
 use Rattle.finding.specs.internal.Answers.{id_at}
 use Rattle.finding.specs.internal.TablesHold.{has_child, still_asks, Held, HeldAll, TablesHold, HlBytes}
 use Rattle.finding.proofs.TableEntries.{SameRecords, same_entry, stored_same, stored_entry}
-use Rattle.finding.proofs.PlainTable.{answered_code, met_long}
+use Rattle.finding.proofs.PlainTable.{owing_two, answered_code, met_long}
 use Rattle.finding.proofs.ListSearch.{place_below, last_within}
 
 -- the second piece stands behind the first, which has two bytes, up to the next separator, whatever follows the pieces
@@ -81,26 +83,46 @@ child_met_lem levels parent room = by_cases (dec_lt 0 parent) some none
 
 -- a note once a child was met: the link stays, as the code does, and a child is no longer asked for
 answered_link : (note : ℕ) → link_in (answered note) ≡ link_in note
-answered_link note = by_value (eqb (asks_in note) 2) refl
+answered_link note = by_value (is_owing (asks_in note)) refl
   where
-    by_value : (b : Bool) → eqb (asks_in note) 2 ≡ b → link_in (cond b (note - 16) note) ≡ link_in note
-    by_value true e = omega (arith, eqb-true (asks_in note) 2 e)
+    by_value : (b : Bool) → is_owing (asks_in note) ≡ b → link_in (cond b (note - 16) note) ≡ link_in note
+    by_value true e = omega (arith, owing_two note e)
     by_value false e = refl
 
-answered_asks : (note : ℕ) (shut owes : Bool) → asks_in note ≡ cond shut 1 (cond owes 2 0) → asks_in (answered note) ≡ cond shut 1 0
-answered_asks note true owes e = rw e e
-answered_asks note false true e = rw e (omega (arith, e))
-answered_asks note false false e = rw e e
+met_asks : (note : ℕ) (asks : Asks) → asks_in note ≡ asks → asks_in (answered note) ≡ cond (is_owing asks) Nothing asks
+met_asks note Nothing e = rw e e
+met_asks note Shut e = rw e e
+met_asks note Owes e =
+    let two : note / 8 % 4 ≡ 2 = owing_two note (ap is_owing e) in
+    let none : (note - 16) / 8 % 4 ≡ 0 = omega arith in
+    rw (e, none)
+
+answered_asks : (note : ℕ) (shut owes : Bool) → asks_in note ≡ cond shut Shut (cond owes Owes Nothing) → asks_in (answered note) ≡ cond shut Shut Nothing
+answered_asks note true owes e = met_asks note Shut e
+answered_asks note false true e = met_asks note Owes e
+answered_asks note false false e = met_asks note Nothing e
 
 -- what is noted is read back
-pub noted_code : (code asks before : ℕ) → code < 8 → code_in (note_of code asks before) ≡ code
-noted_code code asks before h = omega arith
+few_asks : (asks : Asks) → asks_number asks < 4
+few_asks Nothing = omega arith
+few_asks Shut = omega arith
+few_asks Owes = omega arith
 
-noted_asks : (code asks before : ℕ) → asks < 4 → asks_in (note_of code asks before) ≡ asks
-noted_asks code asks before h = omega arith
+asks_back : (asks : Asks) → asks_numbered (asks_number asks) ≡ asks
+asks_back Nothing = refl
+asks_back Shut = refl
+asks_back Owes = refl
 
-noted_link : (code asks before : ℕ) → before < 4294967296 → link_in (note_of code asks before) ≡ before
-noted_link code asks before h = omega arith
+pub noted_code : (code : ℕ) (asks : Asks) (before : ℕ) → code < 8 → code_in (note_with code asks before) ≡ code
+noted_code code asks before h = omega (arith, few_asks asks)
+
+noted_asks : (code : ℕ) (asks : Asks) (before : ℕ) → asks_in (note_with code asks before) ≡ asks
+noted_asks code asks before =
+    let number : note_with code asks before / 8 % 4 ≡ asks_number asks = omega (arith, few_asks asks) in
+    ap asks_numbered number ∙ asks_back asks
+
+noted_link : (code : ℕ) (asks : Asks) (before : ℕ) → before < 4294967296 → link_in (note_with code asks before) ≡ before
+noted_link code asks before h = omega (arith, few_asks asks)
 
 module _ (s : Bytes) (separator : ℕ) (segments levels : List ℕ) (m : ℕ) (all : List Level) where
   -- a level that is not there yet has no child
@@ -161,7 +183,7 @@ module _ (s : Bytes) (separator : ℕ) {segments segments' : List ℕ} (levels :
     asks_then k low high mark e = ap asks_in (note_then k low high) ∙ by_value (eqb new.parent k)
       where
         by_value : (b : Bool) → asks_in (cond b (answered (level_entry levels k 3)) (level_entry levels k 3))
-            ≡ cond (same mark (bytes "0")) 1 (cond (same mark (bytes "1") && not (b || has_child k all)) 2 0)
+            ≡ cond (same mark (bytes "0")) Shut (cond (same mark (bytes "1") && not (b || has_child k all)) Owes Nothing)
         by_value true = rw (and_false (same mark (bytes "1"))) (answered_asks (level_entry levels k 3) (same mark (bytes "0")) (same mark (bytes "1") && not (has_child k all)) e)
         by_value false = e
 
@@ -210,7 +232,7 @@ module _ {s : Bytes} {separator : ℕ} {segments levels lasts : List ℕ} {m : �
 
     -- its record, with its note
     abbrev pub numbers : List ℕ
-    numbers = suc m ∷ l.parent ∷ l.depth ∷ note_of l.code (asks_of l.mark) (get_or lasts place 0) ∷ []
+    numbers = suc m ∷ l.parent ∷ l.depth ∷ note_with l.code (asks_of l.mark) (get_or lasts place 0) ∷ []
 
     abbrev levels_then : List ℕ
     levels_then = stored_at level_width (child_met levels l.parent) (length ls) numbers
@@ -236,14 +258,6 @@ module _ {s : Bytes} {separator : ℕ} {segments levels lasts : List ℕ} {m : �
     last_one : get_or lasts place 0 ≡ last_in (place_of l.id) ls
     last_one = rw own_place (t.known (place_of l.id) (place_below l.id))
 
-    asks_few : asks_of l.mark < 4
-    asks_few = by_value (same l.mark (bytes "0")) (same l.mark (bytes "1"))
-      where
-        by_value : (zero one : Bool) → cond zero 1 (cond one 2 0) < 4
-        by_value true one = omega arith
-        by_value false true = omega arith
-        by_value false false = omega arith
-
     -- it has no child yet
     asks_own : asks_of l.mark ≡ still_asks (l ∷ ls) (suc (length ls)) l.mark
     asks_own =
@@ -259,7 +273,7 @@ module _ {s : Bytes} {separator : ℕ} {segments levels lasts : List ℕ} {m : �
           segment_is = entry_then 0 (omega arith) ∙ sym number;
           depth_is = ap (min deepest) (entry_then 2 (omega arith)) ∙ omega arith;
           code_is = ap code_in (entry_then 3 (omega arith)) ∙ noted_code l.code (asks_of l.mark) (get_or lasts place 0) coded;
-          asks_is = ap asks_in (entry_then 3 (omega arith)) ∙ noted_asks l.code (asks_of l.mark) (get_or lasts place 0) asks_few ∙ asks_own;
+          asks_is = ap asks_in (entry_then 3 (omega arith)) ∙ noted_asks l.code (asks_of l.mark) (get_or lasts place 0) ∙ asks_own;
           link_is = ap link_in (entry_then 3 (omega arith)) ∙ noted_link l.code (asks_of l.mark) (get_or lasts place 0) link ∙ last_one;
         }
 

@@ -10,7 +10,6 @@ use native.Mathlib.Nat.{mul-le-mul_right, div-mul-le_self}
 use lib.ListN.{length, take, drop, get_or, length-append, length-take, length-drop, get_or-append}
 use lib.Seq.{get_or-take, get_or-append-add, take_at}
 use borrow.Author.Tests.{le-leb, lt-leb}
-use Rattle.text.proofs.Bools.{and_false}
 use Rattle.finding.specs.internal.Entries.{entry_of, stored_at}
 
 -- a record of the first `many` ends among their numbers
@@ -24,16 +23,9 @@ module _ (width : ℕ) (table : List ℕ) (n k : ℕ) where
   pub entry_none : n < 1 → 0 ≡ entry_of width table n k
   entry_none h = rw (lt-leb 1 n h)
 
-  -- nor one past the last
-  pub entry_past : length table / width < n → 0 ≡ entry_of width table n k
-  entry_past h = simp (lt-leb n (length table / width) h, and_false)
-
   -- the others are there
   pub entry_there : 1 ≤ n → n ≤ length table / width → get_or table ((n - 1) * width + k) 0 ≡ entry_of width table n k
   entry_there low high = rw (le-leb 1 n low, le-leb n (length table / width) high)
-
-  pub entry_inside : 1 ≤ n → n ≤ length table / width → k < width → (n - 1) * width + k < length table
-  entry_inside low high h = omega (arith, inside_many width n (length table / width) k low high h, div-mul-le_self (length table) width)
 
 -- the first n records of a table are the same before and after
 pub record SameRecords (width : ℕ) (before after : List ℕ) (n : ℕ) : Type 0 where

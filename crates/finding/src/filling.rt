@@ -3,18 +3,13 @@ ghost use Rattle.std.specs.Prelude.{◌≡◌};
 ghost use Rattle.finding.specs.internal.Entries.{count_in};
 ghost use Rattle.finding.specs.internal.Answers.{none_owes};
 
+use crate::notes::Asks;
 use crate::{notes, tables};
 
 // Whether no level owes a child.
 pub fn all_filled(levels: &[u64], count: usize) -> bool
     ensures { result ≡ none_owes levels.now (count_in levels.now count) }
 {
-    let mut left = tables::level_count(levels, count);
-    while 0 < left {
-        if tables::level_note(levels, left) / 8 % 4 == notes::OWES {
-            return false;
-        }
-        left -= 1;
-    }
-    true
+    let total = tables::level_count(levels, count);
+    (1..total + 1).all(|n| !matches!(notes::asks_in(tables::level_note(levels, n)), Asks::Owes))
 }

@@ -2,6 +2,7 @@
 #![tactic(auto)]
 
 pub mod filling;
+pub mod known;
 pub mod lists;
 pub mod notes;
 pub mod parents;

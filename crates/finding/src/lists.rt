@@ -7,30 +7,22 @@ ghost use Rattle.finding.specs.internal.Lists.{lists, place_of};
 pub const LISTS: usize = 512;
 
 // The list that an HL01 belongs to. Names that count fall evenly.
+#[tactic(auto, unfolding(crate::specs::internal::Lists::place_of))]
 pub fn place_of(id: &[u8]) -> usize
     ensures { result ≡ place_of id.now }
 {
     let mut place: usize = 0;
-    let mut i: usize = 0;
-    while i < id.len() {
-        place = (place * 37 + (id[i] as usize)) % LISTS;
-        i += 1;
+    for b in id {
+        place = (place * 37 + *b as usize) % LISTS;
     }
     place
-}
-
-// The number, as wide as a count.
-fn wide(n: u32) -> usize
-    ensures { result ≡ n }
-{
-    n as usize
 }
 
 // The last level of a list; 0 for none.
 pub fn last_in(lasts: &[u32; LISTS], place: usize) -> usize
     ensures { result ≡ get_or lasts.now (place % lists) 0 }
 {
-    wide(lasts[place % LISTS])
+    lasts[place % LISTS] as usize
 }
 
 // Makes level n the last of a list.

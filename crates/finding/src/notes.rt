@@ -1,30 +1,29 @@
 // Notes: what the fourth number of a level's record holds while a report is read. It is the code, and above it what the level's mark
 // still asks and the level before it in its list. Before the answer is given, only the code is left.
 ghost use Rattle.std.specs.Prelude.{◌≡◌};
-ghost use Rattle.finding.specs.internal.Notes.{note_of, asks_of, answered, child_met, cleared};
+ghost use Rattle.finding.specs.internal.Notes.{note_of, asks_of, code_in, asks_in, link_in, answered, child_met, cleared};
 
 use crate::tables;
 use levels::widths::LEVEL_WIDTH;
 
-// What a mark of one byte asks: that no level hangs under this one, or that one does.
-pub(crate) const SHUT: usize = 1;
-
-pub(crate) const OWES: usize = 2;
+// What a mark asks of the levels to come: nothing, that none hangs under its own, or that one does.
+#[derive(Clone, Copy, Drop)]
+pub enum Asks {
+    Nothing,
+    Shut,
+    Owes,
+}
 
 // What a mark asks of the levels to come.
-pub fn asks_of(mark: &[u8]) -> usize
+#[tactic(auto, using(crate::proofs::NoteLaws::long_mark_asks))]
+pub fn asks_of(mark: &[u8]) -> Asks
     ensures { result ≡ asks_of mark.now }
 {
-    if mark.len() != 1 {
-        return 0;
+    match mark {
+        b"0" => Asks::Shut,
+        b"1" => Asks::Owes,
+        _ => Asks::Nothing,
     }
-    if mark[0] == b'0' {
-        return SHUT;
-    }
-    if mark[0] == b'1' {
-        return OWES;
-    }
-    0
 }
 
 // The note of a level with that code, mark and level before it in its list.
@@ -34,14 +33,38 @@ pub fn note(code: usize, asks: usize, before: usize) -> usize
     code % 8 + asks % 4 * 8 + before % 4294967296 * 32
 }
 
+// The code that a note has.
+pub(crate) fn code_in(note: usize) -> usize
+    ensures { result ≡ code_in note }
+{
+    note % 8
+}
+
+// What the mark of a level with that note still asks.
+pub(crate) fn asks_in(note: usize) -> Asks
+    ensures { result ≡ asks_in note }
+{
+    match note / 8 % 4 {
+        1 => Asks::Shut,
+        2 => Asks::Owes,
+        _ => Asks::Nothing,
+    }
+}
+
+// The level before it in its list that a note has.
+pub(crate) fn link_in(note: usize) -> usize
+    ensures { result ≡ link_in note }
+{
+    note / 32
+}
+
 // A note once a child was met: none is owed any more.
 fn answer(note: usize) -> usize
     ensures { result ≡ answered note }
 {
-    if note / 8 % 4 == OWES {
-        note - 16
-    } else {
-        note
+    match asks_in(note) {
+        Asks::Owes => note - 16,
+        _ => note,
     }
 }
 
@@ -49,25 +72,19 @@ fn answer(note: usize) -> usize
 pub fn meet_child(levels: &mut [u64], parent: usize)
     ensures { levels.new ≡ child_met levels.old parent }
 {
-    if parent < 1 {
-        return;
+    if tables::has_record(levels, LEVEL_WIDTH, parent) {
+        let at = (parent - 1) * LEVEL_WIDTH + 3;
+        levels[at] = answer(levels[at] as usize) as u64;
     }
-    if levels.len() / LEVEL_WIDTH < parent {
-        return;
-    }
-    let at = (parent - 1) * LEVEL_WIDTH + 3;
-    levels[at] = answer(levels[at] as usize) as u64;
 }
 
 // Leaves the codes alone in the first `count` records.
+#[tactic(auto, using(crate::proofs::NoteLaws::cleared_more))]
 pub fn clear(levels: &mut [u64], count: usize)
     ensures { levels.new ≡ cleared count levels.old }
 {
-    let total = tables::level_count(levels, count);
-    let mut k: usize = 0;
-    while k < total {
-        let at = k * LEVEL_WIDTH + 3;
-        levels[at] = levels[at] % 8;
-        k += 1;
+    // By places: the fourth number of each record is written, and no other.
+    for k in 0..tables::level_count(levels, count) {
+        levels[k * LEVEL_WIDTH + 3] %= 8;
     }
 }

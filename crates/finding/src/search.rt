@@ -1,80 +1,59 @@
 // Finding the level that has an HL01.
-ghost use Rattle.std.specs.Prelude.{◌≡◌, ◌+◌, ◌-◌, ◌≤◌, min, length, drop};
+ghost use Rattle.std.specs.Prelude.{◌≡◌, ◌+◌, ◌-◌, min, drop, slice_get};
 ghost use Rattle.finding.specs.internal.Entries.{start_of, level_entry};
 ghost use Rattle.finding.specs.internal.Notes.{link_in};
-ghost use Rattle.finding.specs.internal.Answers.{sought};
-ghost use Rattle.finding.specs.internal.PieceEnds.{MayEnd};
+ghost use Rattle.finding.specs.internal.PieceEnds.{ends_by};
+ghost use Rattle.finding.specs.internal.Answers.{calls, sought};
 
-use crate::lists::LISTS;
-use crate::{lists, tables};
+use crate::known::Known;
+use crate::{lists, notes, tables};
 
-// Where the HL01 of level n begins: behind `HL` and a separator, or where the bytes end.
-pub(crate) fn id_start(s: &[u8], segments: &[u64], levels: &[u64], n: usize) -> usize
-    ensures { result ≡ min (start_of segments.now (level_entry levels.now n 0) + 3) (length s.now) }
+// The bytes from the HL01 of level n on: behind `HL` and a separator.
+fn from_id<'a>(known: Known<'a>, n: usize) -> &'a [u8]
+    ensures { result.now ≡ drop (start_of known.entry.segments.now (level_entry known.entry.levels.now n 0) + 3) known.entry.bytes.now }
 {
-    let start = tables::segment_start(segments, tables::level_segment(levels, n));
-    if s.len() < 3 {
-        return s.len();
-    }
-    if s.len() - 3 < start {
-        return s.len();
-    }
-    start + 3
+    let start = tables::segment_start(known.segments, tables::level_segment(known.levels, n));
+    let from = start.saturating_add(3).min(known.bytes.len());
+    &known.bytes[from..]
 }
 
-// Whether a piece of that length may end here: the bytes end, or a separator follows.
-pub(crate) fn may_end(s: &[u8], separator: u8, from: usize, len: usize) -> bool
-    requires { from ≤ length s.now }
-    ensures { MayEnd separator (drop from s.now) len result }
+// Whether a piece may end before the rest: the bytes end, or a separator follows.
+fn may_end(rest: &[u8], separator: u8) -> bool
+    ensures { result ≡ ends_by separator (slice_get rest.now 0) }
 {
-    let room = s.len() - from;
-    if room < len {
+    rest.first().is_none_or(|next| *next == separator)
+}
+
+// Whether level n has the HL01: its segment has it there, and it ends there. The lengths are compared first.
+#[tactic(auto, using(crate::proofs::FirstPiece::starts_short, crate::proofs::FirstPiece::starts_other_end, crate::proofs::FirstPiece::starts_ended))]
+fn calls(known: Known, n: usize, id: &[u8]) -> bool
+    ensures { result ≡ calls known.entry.bytes.now known.entry.separator known.entry.segments.now known.entry.levels.now n id.now }
+{
+    let Some((name, rest)) = from_id(known, n).split_at_checked(id.len()) else {
         return false;
-    }
-    if room == len {
-        return true;
-    }
-    s[from + len] == separator
+    };
+    may_end(rest, known.separator) && name == id
 }
 
 // The level before level n in its list, which has a lesser number; 0 where there is none.
 fn before(levels: &[u64], n: usize) -> usize
     ensures { result ≡ min (link_in (level_entry levels.now n 3)) (n - 1) }
 {
-    if n < 1 {
-        return 0;
-    }
-    tables::lesser(tables::level_note(levels, n) / 32, n - 1)
+    notes::link_in(tables::level_note(levels, n)).min(n.saturating_sub(1))
 }
 
-// The number of the level that has the HL01, of the list that it belongs to; 0 where none has. The lengths are compared first.
-pub fn find(
-    s: &[u8],
-    separator: u8,
-    segments: &[u64],
-    levels: &[u64],
-    lasts: &[u32; LISTS],
-    place: usize,
-    id: &[u8],
-) -> usize
-    ensures { result ≡ sought s.now separator segments.now levels.now lasts.now place id.now }
+// The number of the level that has the HL01, of the list that it belongs to; none where none has.
+#[tactic(auto, using(crate::proofs::LevelSearch::sought_starts, crate::proofs::LevelSearch::sought_hit, crate::proofs::LevelSearch::sought_miss))]
+pub fn find(known: Known, place: usize, id: &[u8]) -> Option<usize>
+    ensures { result ≡ sought known.entry.bytes.now known.entry.separator known.entry.segments.now known.entry.levels.now known.entry.lasts.now place id.now }
 {
-    let mut left = lists::last_in(lasts, place);
-    'levels: while 0 < left {
-        let n = left;
-        left = before(levels, n);
-        let from = id_start(s, segments, levels, n);
-        if !may_end(s, separator, from, id.len()) {
-            continue 'levels;
+    let mut left = lists::last_in(known.lasts, place);
+    // A `while`: what comes next is told by the level itself, which names the one before it in its list.
+    while 0 < left {
+        if calls(known, left, id) {
+            return Some(left);
         }
-        let mut i: usize = 0;
-        while i < id.len() {
-            if s[from + i] != id[i] {
-                continue 'levels;
-            }
-            i += 1;
-        }
-        return n;
+        left = before(known.levels, left);
     }
-    0
+    None
 }

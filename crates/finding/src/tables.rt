@@ -1,5 +1,6 @@
 // Reading the two tables. A record that a table lacks reads as zeros.
-ghost use Rattle.std.specs.Prelude.{◌≡◌, ◌<◌, min};
+ghost use Rattle.std.specs.Prelude.{◌≡◌, ◌/◌, ◌<◌, min, length};
+ghost use Rattle.text.specs.Bytes.{between};
 ghost use Rattle.finding.specs.internal.Entries.{entry_of, start_of, level_entry, deepest, count_in};
 
 use levels::widths::{LEVEL_WIDTH, SEGMENT_WIDTH};
@@ -7,11 +8,12 @@ use levels::widths::{LEVEL_WIDTH, SEGMENT_WIDTH};
 // No level lies deeper.
 pub(crate) const DEEPEST: usize = 4;
 
-// The lesser of the two.
-pub(crate) fn lesser(a: usize, b: usize) -> usize
-    ensures { result ≡ min a b }
+// Whether a table whose records have `width` numbers has record n.
+pub(crate) fn has_record(table: &[u64], width: usize, n: usize) -> bool
+    requires { 0 < width }
+    ensures { result ≡ between 1 (length table.now / width) n }
 {
-    if a < b { a } else { b }
+    (1 <= n) & (n <= table.len() / width)
 }
 
 // Number k of record n of a table whose records have `width` numbers.
@@ -19,13 +21,11 @@ fn entry(table: &[u64], width: usize, n: usize, k: usize) -> usize
     requires { k < width }
     ensures { result ≡ entry_of width table.now n k }
 {
-    if n < 1 {
-        return 0;
+    if has_record(table, width, n) {
+        table[(n - 1) * width + k] as usize
+    } else {
+        0
     }
-    if table.len() / width < n {
-        return 0;
-    }
-    table[(n - 1) * width + k] as usize
 }
 
 // Where segment n starts.
@@ -39,7 +39,7 @@ pub(crate) fn segment_start(segments: &[u64], n: usize) -> usize
 pub(crate) fn level_count(levels: &[u64], count: usize) -> usize
     ensures { result ≡ count_in levels.now count }
 {
-    lesser(count, levels.len() / LEVEL_WIDTH)
+    count.min(levels.len() / LEVEL_WIDTH)
 }
 
 // The number of level n's segment.
@@ -53,7 +53,7 @@ pub(crate) fn level_segment(levels: &[u64], n: usize) -> usize
 pub(crate) fn level_depth(levels: &[u64], n: usize) -> usize
     ensures { result ≡ min deepest (level_entry levels.now n 2) }
 {
-    lesser(DEEPEST, entry(levels, LEVEL_WIDTH, n, 2))
+    DEEPEST.min(entry(levels, LEVEL_WIDTH, n, 2))
 }
 
 // The note of level n.

@@ -1,21 +1,33 @@
 -- The answers, as document 01 numbers them.
 -- Assumes nothing.
-use Rattle.std.specs.Prelude.{ℕ, ◌≤◌, ◌≡◌, ◌⊎◌, List, [], ◌∷◌}
+use Rattle.std.specs.Prelude.{ℕ, ◌≤◌, ◌≡◌, ◌⊎◌, List, [], ◌∷◌, Result, Ok, Err}
 use Rattle.rows.specs.declared.profile.ProfileName.{ProfileName}
 use Rattle.rows.specs.declared.profile.ProfileName.TheVariants.{Reply}
-use Rattle.gate.specs.declared.answer.Answer.{Answer}
-use Rattle.gate.specs.declared.answer.Answer.TheVariants.{Accepted, Refused}
+use Rattle.gate.specs.declared.answer.Accepted.{Accepted}
+use Rattle.gate.specs.declared.answer.Refusal.{Refusal}
+
+-- an acceptance or a refusal
+abbrev pub Answer : Type 0
+Answer = Result Accepted Refusal
+
+-- the acceptance with these counts
+abbrev pub accepted : ℕ → ℕ → ℕ → Answer
+accepted segments levels bytes = Ok (record { segments = segments; levels = levels; bytes = bytes })
+
+-- the refusal with this number, at this place
+abbrev pub refused : ℕ → ℕ → ℕ → ℕ → Answer
+refused number segment byte element = Err (record { number = number; segment = segment; byte = byte; element = element })
 
 -- the four numbers of an answer: 0 with segments, levels and bytes; or the refusal with the segment, the byte where it starts, and the
 -- element
 abbrev pub numbers_of : Answer → List ℕ
-numbers_of (Accepted segments levels bytes) = 0 ∷ segments ∷ levels ∷ bytes ∷ []
-numbers_of (Refused number segment byte element) = number ∷ segment ∷ byte ∷ element ∷ []
+numbers_of (Ok a) = 0 ∷ a.segments ∷ a.levels ∷ a.bytes ∷ []
+numbers_of (Err r) = r.number ∷ r.segment ∷ r.byte ∷ r.element ∷ []
 
 -- an acceptance
 abbrev pub IsAccepted : Answer → Type 0
-IsAccepted (Accepted segments levels bytes) = Unit {0}
-IsAccepted (Refused number segment byte element) = ⊥
+IsAccepted (Ok a) = Unit {0}
+IsAccepted (Err r) = ⊥
 
 -- the answers that blame a segment for a broken rule: 4 to 16, and 24
 pub record Fault (number : ℕ) : Type 0 where
@@ -29,5 +41,5 @@ pub record RowNotInProfile (profile : ProfileName) (number : ℕ) : Type 0 where
 
 -- the list of a reading's answers: acceptance, and refusals 1 to 17, of a reply 24 too
 abbrev pub Listed : ProfileName → Answer → Type 0
-Listed profile (Accepted segments levels bytes) = Unit {0}
-Listed profile (Refused number segment byte element) = (1 ≤ number) × ((number ≤ 17) ⊎ RowNotInProfile profile number)
+Listed profile (Ok a) = Unit {0}
+Listed profile (Err r) = (1 ≤ r.number) × ((r.number ≤ 17) ⊎ RowNotInProfile profile r.number)

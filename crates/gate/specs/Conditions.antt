@@ -10,12 +10,10 @@ use Rattle.levels.specs.Widths.{segment_width}
 use Rattle.levels.specs.Levels.{level_at}
 use Rattle.gate.specs.Profile.{Profile, profile_of}
 use Rattle.gate.specs.Segments.{is_hl, is_se, seen, onto, levels_in}
-use Rattle.gate.specs.Answers.{IsAccepted, Fault, Listed}
+use Rattle.gate.specs.Answers.{Answer, accepted, refused, IsAccepted, Fault, Listed}
 use Rattle.gate.specs.Meets.{hls, hl_at, Under, Meets}
 use Rattle.gate.specs.Records.{Tables, Room, recorded}
 use Rattle.gate.specs.Reads.{limit, cut_by, skip_by, Reads}
-use Rattle.gate.specs.declared.answer.Answer.{Answer}
-use Rattle.gate.specs.declared.answer.Answer.TheVariants.{Accepted, Refused}
 use Rattle.gate.specs.declared.how.How.{How}
 
 -- Condition 1
@@ -56,7 +54,7 @@ used_by (g ∷ (h ∷ gs)) = used_by (h ∷ gs)
 
 -- the answer accepts these segments, and the tables show their rows and levels
 pub record Shows (how : How) (before : Tables) (gs : List Placed) (rows : List ℕ) (r : Answer) (after : Tables) : Type 0 where
-  pub answer : r ≡ Accepted (length gs) (length (levels_in (profile_of how) (onto [] (seen how gs)))) (used_by gs)
+  pub answer : r ≡ accepted (length gs) (length (levels_in (profile_of how) (onto [] (seen how gs)))) (used_by gs)
   pub tables : after ≡ recorded (profile_of how) how before gs rows
 
 -- with fit separators and a length within the limit,
@@ -137,13 +135,13 @@ pub record Condition3 : Type 0 where
   -- when segment k is refused for a fault, the same refusal stands whatever bytes follow that segment within the length limit and with any larger
   -- tables,
   pub refusal_final : (how : How) (s : Bytes) (before : Tables) (number k byte element : ℕ) (after : Tables) → Fault number
-      → Reads how s before (Refused number k byte element) after → Final how before (up_to_segment how s byte) (Refused number k byte element)
+      → Reads how s before (refused number k byte element) after → Final how before (up_to_segment how s byte) (refused number k byte element)
   -- the input being one of those that begin so;
   pub refusal_begins : (how : How) (s : Bytes) (before : Tables) (number k byte element : ℕ) (after : Tables) → Fault number
-      → Reads how s before (Refused number k byte element) after → BeginsWith (up_to_segment how s byte) s
+      → Reads how s before (refused number k byte element) after → BeginsWith (up_to_segment how s byte) s
   -- and the segments before k can be continued to a transaction that meets every rule, with length and room set aside;
   pub refusal_not_early : (how : How) (s : Bytes) (before : Tables) (number k byte element : ℕ) (after : Tables) → Fault number
-      → Reads how s before (Refused number k byte element) after → Continues how s k byte
+      → Reads how s before (refused number k byte element) after → Continues how s k byte
   -- an acceptance likewise stands under more bytes, within the length limit, and more room
   pub acceptance_final : (how : How) (s : Bytes) (before : Tables) (segments levels bytes : ℕ) (after : Tables)
-      → Reads how s before (Accepted segments levels bytes) after → Final how before (take bytes s) (Accepted segments levels bytes)
+      → Reads how s before (accepted segments levels bytes) after → Final how before (take bytes s) (accepted segments levels bytes)

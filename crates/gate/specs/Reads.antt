@@ -1,6 +1,6 @@
 -- The promise of reading: which answer, and what the tables hold afterwards, for every input, every separators and every table.
 -- Assumes nothing.
-use Rattle.std.specs.Prelude.{ℕ, ◌+◌, ◌≡◌, ◌⊎◌, Bool, true, false, not, List, [], ◌∷◌, ◌++◌, map, T, leb, length}
+use Rattle.std.specs.Prelude.{ℕ, ◌+◌, ◌≡◌, ◌⊎◌, Bool, true, false, not, List, [], ◌∷◌, ◌++◌, map, T, leb, length, Ok, Err}
 use Rattle.text.specs.Bytes.{Bytes}
 use Rattle.text.specs.Separators.{fit_separators}
 use Rattle.text.specs.View.{View, view_of}
@@ -10,11 +10,9 @@ use Rattle.rows.specs.RowList.{tag_of}
 use Rattle.rows.specs.RowSets.{Within}
 use Rattle.gate.specs.Profile.{Profile, profile_of}
 use Rattle.gate.specs.Segments.{tag_in_of, is_se, seen, onto, levels_in}
-use Rattle.gate.specs.Answers.{numbers_of}
+use Rattle.gate.specs.Answers.{Answer, numbers_of}
 use Rattle.gate.specs.Rules.{Rule, rules, Sound, FirstBroken, Kept, From}
 use Rattle.gate.specs.Records.{Tables, Room, recorded}
-use Rattle.gate.specs.declared.answer.Answer.{Answer}
-use Rattle.gate.specs.declared.answer.Answer.TheVariants.{Accepted, Refused}
 use Rattle.gate.specs.declared.how.How.{How}
 
 -- the longest input
@@ -103,8 +101,8 @@ module _ (profile : Profile) (how : How) (t : Tables) (gs : List Placed) (rows :
     pub place : four ≡ number ∷ (length gs + 1) ∷ end ∷ element ∷ []
 
   abbrev pub Ends : Answer → List Placed → List ℕ → Type 0
-  Ends (Accepted segments levels bytes) kept numbers = Accepts (numbers_of (Accepted segments levels bytes)) kept numbers
-  Ends (Refused number segment byte element) kept numbers = Refuses (numbers_of (Refused number segment byte element)) kept numbers
+  Ends (Ok a) kept numbers = Accepts (numbers_of (Ok a)) kept numbers
+  Ends (Err r) kept numbers = Refuses (numbers_of (Err r)) kept numbers
 
 -- a reading of the bytes: what was passed, and how it ends
 pub record Run (profile : Profile) (how : How) (t : Tables) (s : Bytes) (r : Answer) (kept : List Placed) (numbers : List ℕ) : Type 0 where

@@ -1,17 +1,21 @@
 // What a reading answers.
-#[derive(Clone, Copy, Drop)]
-pub enum Answer {
-    // Answer 0: how many segments and levels there are, and how many bytes the transaction takes.
-    Accepted {
-        segments: usize,
-        levels: usize,
-        bytes: usize,
-    },
-    // Any other answer: its number, the segment, the byte where that segment starts, and the element.
-    Refused {
-        number: usize,
-        segment: usize,
-        byte: usize,
-        element: usize,
-    },
+
+// Answer 0: how many segments and levels there are, and how many bytes the transaction takes.
+#[derive(Clone, Copy, Debug, Drop, PartialEq, Eq)]
+pub struct Accepted {
+    pub segments: usize,
+    pub levels: usize,
+    pub bytes: usize,
 }
+
+// Any other answer: its number, the segment, the byte where that segment starts, and the element.
+#[derive(Clone, Copy, Debug, Drop, PartialEq, Eq)]
+pub struct Refusal {
+    pub number: usize,
+    pub segment: usize,
+    pub byte: usize,
+    pub element: usize,
+}
+
+// The acceptance or the refusal.
+pub type Answer = Result<Accepted, Refusal>;

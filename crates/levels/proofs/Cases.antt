@@ -1,16 +1,17 @@
 -- The permitted pairs among all 25, and the answers for an HL of each kind, computed from the definitions.
 -- Assumes nothing.
+use Rattle.std.specs.Prelude.{ℕ, Result, Ok}
 use Prim.Native.String.{String}
 use mathlib.Core.Path.{◌≡◌, refl}
 use mathlib.Core.Bool.{Bool, true, false}
 use mathlib.Core.List.{List, [], ◌∷◌, map}
 use Rattle.text.specs.Bytes.{bytes}
+use Rattle.elements.specs.declared.verdict.Fault.{Fault}
 use Rattle.levels.specs.Profile.{nonconformance, code, code_of, may_stand_alone, may_be_marked, may_hang}
 use Rattle.levels.specs.Levels.{Claim, Level, levels_of}
 use Rattle.levels.specs.Rules.{filled}
-use Rattle.levels.specs.internal.Answers.{judged}
-use Rattle.levels.specs.declared.judging.Judged.{Judged}
-use Rattle.levels.specs.declared.judging.Judged.TheVariants.{Entitled, Refused}
+use Rattle.levels.specs.internal.Answers.{breaks, judged}
+use Rattle.levels.specs.declared.judging.Entitled.{Entitled}
 
 -- the five codes of a report
 abbrev five : List String
@@ -54,8 +55,11 @@ abbrev after_report : List Level
 after_report = levels_of nonconformance ((3, says "1" "" "RP" "1") ∷ [])
 
 -- the answers for HLs that come next
-abbrev answers : List Claim → List Judged
+abbrev answers : List Claim → List (Result Entitled Fault)
 answers cs = map (judged nonconformance after_report) cs
+
+abbrev makes : ℕ → ℕ → ℕ → Result Entitled Fault
+makes parent depth code = Ok (record { parent = parent; depth = depth; code = code })
 
 -- an item under the report; then each answer in its order, with its element
 pub answers_after_report : answers (
@@ -69,21 +73,21 @@ pub answers_after_report : answers (
     ∷ says "2" "1" "I" "2"
     ∷ says "2" "" "I" "1"
     ∷ [])
-    ≡ Entitled 1 2 2
-    ∷ Refused 12 1
-    ∷ Refused 13 2
-    ∷ Refused 13 2
-    ∷ Refused 14 3
-    ∷ Refused 14 3
-    ∷ Refused 14 2
-    ∷ Refused 15 4
-    ∷ Entitled 0 1 2
+    ≡ makes 1 2 2
+    ∷ breaks 12 1
+    ∷ breaks 13 2
+    ∷ breaks 13 2
+    ∷ breaks 14 3
+    ∷ breaks 14 3
+    ∷ breaks 14 2
+    ∷ breaks 15 4
+    ∷ makes 0 1 2
     ∷ []
 unfolding code_of may_stand_alone may_be_marked may_hang judged
 answers_after_report = refl
 
 -- a child of a parent marked 0 is refused at the child
-pub answer_under_shut : judged nonconformance (levels_of nonconformance ((3, says "1" "" "RP" "0") ∷ [])) (says "2" "1" "I" "") ≡ Refused 15 2
+pub answer_under_shut : judged nonconformance (levels_of nonconformance ((3, says "1" "" "RP" "0") ∷ [])) (says "2" "1" "I" "") ≡ breaks 15 2
 unfolding code_of may_stand_alone may_be_marked may_hang judged
 answer_under_shut = refl
 

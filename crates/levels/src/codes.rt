@@ -1,127 +1,127 @@
 // The codes of levels, which of them a profile knows, and what each may do.
-ghost use Rattle.std.specs.Prelude.{◌≡◌, [], ◌∷◌, leb};
+ghost use Rattle.std.specs.Prelude.{◌≡◌};
 ghost use Rattle.text.specs.Bytes.{among};
 ghost use Rattle.levels.specs.Profile.{six_codes, code_among, nonconformance, level_profile, code_of, may_stand_alone, may_be_marked, may_hang};
+ghost use Rattle.levels.specs.internal.Codes.{number, number_or_0, numbered};
 
 use rows::profile::ProfileName;
 
-// The numbers of the codes RP, I, F, PC, SN and RB.
-const REPORT: usize = 1;
+// The codes RP, I, F, PC, SN and RB, with their numbers.
+#[derive(Clone, Copy, Drop)]
+pub(crate) enum Code {
+    Report = 1,
+    Item = 2,
+    Component = 3,
+    Characteristic = 4,
+    Serial = 5,
+    Response = 6,
+}
 
-const ITEM: usize = 2;
-
-const COMPONENT: usize = 3;
-
-const CHARACTERISTIC: usize = 4;
-
-const SERIAL: usize = 5;
-
-const RESPONSE: usize = 6;
-
-// The number of a code of one letter; 0 where there is none.
-fn one_letter(a: u8) -> usize
-    ensures { result ≡ code_among six_codes (a ∷ []) }
-{
-    match a {
-        b'I' => ITEM,
-        b'F' => COMPONENT,
-        _ => 0,
+impl Code {
+    pub(crate) fn number(self) -> usize
+        ensures { result ≡ number self }
+    {
+        self as usize
     }
 }
 
-// The number of a code of two letters; 0 where there is none.
-fn two_letters(a: u8, b: u8) -> usize
-    ensures { result ≡ code_among six_codes (a ∷ b ∷ []) }
+// The code that the bytes are, of any profile.
+fn code_in(text: &[u8]) -> Option<Code>
+    ensures { number_or_0 result ≡ code_among six_codes text.now }
 {
-    if (a == b'R') & (b == b'P') {
-        return REPORT;
-    }
-    if (a == b'P') & (b == b'C') {
-        return CHARACTERISTIC;
-    }
-    if (a == b'S') & (b == b'N') {
-        return SERIAL;
-    }
-    if (a == b'R') & (b == b'B') {
-        return RESPONSE;
-    }
-    0
-}
-
-// The number of a code of any profile; 0 where there is none.
-fn number_of(code: &[u8]) -> usize
-    ensures { result ≡ code_among six_codes code.now }
-{
-    match code.len() {
-        1 => one_letter(code[0]),
-        2 => two_letters(code[0], code[1]),
-        _ => 0,
+    match text {
+        b"RP" => Some(Code::Report),
+        b"I" => Some(Code::Item),
+        b"F" => Some(Code::Component),
+        b"PC" => Some(Code::Characteristic),
+        b"SN" => Some(Code::Serial),
+        b"RB" => Some(Code::Response),
+        _ => None,
     }
 }
 
 // Whether the profile knows the code.
-fn knows(profile: ProfileName, code: usize) -> bool
-    ensures { result ≡ among (level_profile profile).codes code }
+fn knows(profile: ProfileName, code: Code) -> bool
+    ensures { result ≡ among (level_profile profile).codes (number code) }
 {
     match profile {
-        ProfileName::Report => (REPORT <= code) & (code <= SERIAL),
-        ProfileName::Reply => (code == ITEM) | (code == RESPONSE) | (code == REPORT),
+        ProfileName::Report => !matches!(code, Code::Response),
+        ProfileName::Reply => matches!(code, Code::Item | Code::Response | Code::Report),
     }
+}
+
+// The code that the bytes are, if the profile knows it.
+#[tactic(auto, unfolding(crate::specs::Profile::code_of))]
+pub(crate) fn known(profile: ProfileName, text: &[u8]) -> Option<Code>
+    ensures { number_or_0 result ≡ code_of (level_profile profile) text.now }
+{
+    code_in(text).filter(|code| knows(profile, *code))
 }
 
 // The number of the code; 0 where the profile does not know it.
 pub fn code_number(profile: ProfileName, code: &[u8]) -> usize
     ensures { result ≡ code_of (level_profile profile) code.now }
 {
-    let number = number_of(code);
-    if knows(profile, number) { number } else { 0 }
-}
-
-// Whether the number is a code's.
-pub(crate) fn is_known(code: usize) -> bool
-    ensures { result ≡ leb 1 code }
-{
-    1 <= code
+    known(profile, code).map_or(0, |known| known.number())
 }
 
 // Whether a level of the code may stand without a parent.
-pub(crate) fn may_stand_alone(profile: ProfileName, code: usize) -> bool
-    ensures { result ≡ may_stand_alone (level_profile profile) code }
+#[tactic(auto, unfolding(crate::specs::Profile::may_stand_alone))]
+pub(crate) fn may_stand_alone(profile: ProfileName, code: Code) -> bool
+    ensures { result ≡ may_stand_alone (level_profile profile) (number code) }
 {
     match profile {
-        ProfileName::Report => (code == REPORT) | (code == ITEM),
-        ProfileName::Reply => (code == ITEM) | (code == RESPONSE) | (code == REPORT),
+        ProfileName::Report => matches!(code, Code::Report | Code::Item),
+        ProfileName::Reply => matches!(code, Code::Item | Code::Response | Code::Report),
     }
 }
 
 // Whether a level of the code may be marked 1.
-pub(crate) fn may_be_marked(profile: ProfileName, code: usize) -> bool
-    ensures { result ≡ may_be_marked (level_profile profile) code }
+#[tactic(auto, unfolding(crate::specs::Profile::may_be_marked))]
+pub(crate) fn may_be_marked(profile: ProfileName, code: Code) -> bool
+    ensures { result ≡ may_be_marked (level_profile profile) (number code) }
 {
     match profile {
-        ProfileName::Report => (code == REPORT) | (code == ITEM) | (code == COMPONENT),
+        ProfileName::Report => matches!(code, Code::Report | Code::Item | Code::Component),
         ProfileName::Reply => false,
+    }
+}
+
+// The code with that number.
+fn numbered(number: usize) -> Option<Code>
+    ensures { result ≡ numbered number }
+{
+    match number {
+        1 => Some(Code::Report),
+        2 => Some(Code::Item),
+        3 => Some(Code::Component),
+        4 => Some(Code::Characteristic),
+        5 => Some(Code::Serial),
+        6 => Some(Code::Response),
+        _ => None,
     }
 }
 
 // Whether a level of the code may hang under one of the parent's code, in a report.
-fn may_hang_in_report(parent: usize, child: usize) -> bool
-    ensures { result ≡ may_hang nonconformance parent child }
+#[tactic(auto, unfolding(crate::specs::Profile::may_hang))]
+fn may_hang_in_report(parent: Code, child: Code) -> bool
+    ensures { result ≡ may_hang nonconformance (number parent) (number child) }
 {
     match parent {
-        REPORT => child == ITEM,
-        ITEM => (child == COMPONENT) | (child == CHARACTERISTIC) | (child == SERIAL),
-        COMPONENT => (child == CHARACTERISTIC) | (child == SERIAL),
+        Code::Report => matches!(child, Code::Item),
+        Code::Item => matches!(child, Code::Component | Code::Characteristic | Code::Serial),
+        Code::Component => matches!(child, Code::Characteristic | Code::Serial),
         _ => false,
     }
 }
 
-// Whether a level of the code may hang under one of the parent's code.
-pub(crate) fn may_hang(profile: ProfileName, parent: usize, child: usize) -> bool
-    ensures { result ≡ may_hang (level_profile profile) parent child }
+// Whether a level of the code may hang under one whose code has the parent's number.
+#[tactic(auto, unfolding(crate::specs::Profile::may_hang))]
+pub(crate) fn may_hang(profile: ProfileName, parent: usize, child: Code) -> bool
+    ensures { result ≡ may_hang (level_profile profile) parent (number child) }
 {
-    match profile {
-        ProfileName::Report => may_hang_in_report(parent, child),
-        ProfileName::Reply => false,
+    match (profile, numbered(parent)) {
+        (ProfileName::Report, Some(parent)) => may_hang_in_report(parent, child),
+        _ => false,
     }
 }

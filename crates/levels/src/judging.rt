@@ -1,21 +1,22 @@
 // Judging an HL by its code and mark, and by its parent.
-ghost use Rattle.std.specs.Prelude.{◌≡◌};
-ghost use Rattle.elements.specs.Checks.{first_broken};
+ghost use Rattle.std.specs.Prelude.{◌≡◌, [], ◌∷◌};
+ghost use Rattle.elements.specs.Checks.{check, first_broken};
 ghost use Rattle.levels.specs.Profile.{level_profile};
 ghost use Rattle.levels.specs.Rules.{root_checks, child_checks};
-ghost use Rattle.levels.specs.internal.Answers.{judged_by, level_with, judged_root, judged_child};
+ghost use Rattle.levels.specs.internal.Codes.{number};
+ghost use Rattle.levels.specs.internal.Answers.{judged_root, judged_child};
 
+use crate::codes::Code;
 use crate::{codes, marks};
-use elements::verdict::Verdict;
+use elements::verdict::{Fault, Verdict};
 use rows::profile::ProfileName;
 
-// The answer for an HL.
+// What an HL that breaks no rule makes of its level: the parent's level number, 0 for none, the depth, the code's number.
 #[derive(Clone, Copy, Drop)]
-pub enum Judged {
-    // Its level is entitled: the parent's level number, the depth, the code's number.
-    Entitled(usize, usize, usize),
-    // The first rule that it breaks: the answer's number, and the element it names.
-    Refused(usize, usize),
+pub struct Entitled {
+    pub parent: usize,
+    pub depth: usize,
+    pub code: usize,
 }
 
 // What its children must know of a level: its number, its code's number, whether it is marked 0, and the depth below it.
@@ -27,67 +28,69 @@ pub struct Parent {
     pub below: usize,
 }
 
-// Answers 14 and 15 of a level without a parent.
-fn root_verdict(profile: ProfileName, code: usize, mark: &[u8]) -> Verdict
-    ensures { result ≡ first_broken (root_checks (level_profile profile) code mark.now) }
-{
-    if !(codes::is_known(code) & codes::may_stand_alone(profile, code)) {
-        return Verdict::Broken(14, 3);
-    }
-    if !marks::mark_fits(profile, mark, code) {
-        return Verdict::Broken(15, 4);
-    }
-    Verdict::Holds
-}
+// Answer 14 of a code that the profile does not know.
+const UNKNOWN: Fault = Fault {
+    number: 14,
+    element: 3,
+};
 
-// Answers 14 and 15 of a level under a parent of that code, which is marked 0 or is not.
-fn child_verdict(
-    profile: ProfileName,
-    parent: usize,
-    shut: bool,
-    code: usize,
-    mark: &[u8],
-) -> Verdict
-    ensures { result ≡ first_broken (child_checks (level_profile profile) parent shut code mark.now) }
+// What one rule says: that it holds, or else the answer's number and the element it names.
+fn rule(number: usize, element: usize, holds: bool) -> Verdict
+    ensures { result ≡ first_broken (check number element holds ∷ []) }
 {
-    if !codes::is_known(code) {
-        return Verdict::Broken(14, 3);
-    }
-    if !codes::may_hang(profile, parent, code) {
-        return Verdict::Broken(14, 2);
-    }
-    if shut {
-        return Verdict::Broken(15, 2);
-    }
-    if !marks::mark_fits(profile, mark, code) {
-        return Verdict::Broken(15, 4);
-    }
-    Verdict::Holds
-}
-
-// The verdict as the answer for an HL whose level has that parent, depth and code.
-fn answer(verdict: Verdict, parent: usize, depth: usize, code: usize) -> Judged
-    ensures { result ≡ judged_by verdict (level_with parent depth code) }
-{
-    match verdict {
-        Verdict::Holds => Judged::Entitled(parent, depth, code),
-        Verdict::Broken(number, element) => Judged::Refused(number, element),
+    if holds {
+        Ok(())
+    } else {
+        Err(Fault { number, element })
     }
 }
 
-// The answer for an HL that names no parent, by its code and mark.
-pub fn judge_root(profile: ProfileName, code: &[u8], mark: &[u8]) -> Judged
+// Answers 14 and 15 of a level of the code without a parent.
+fn root_verdict(profile: ProfileName, own: Code, mark: &[u8]) -> Verdict
+    ensures { result ≡ first_broken (root_checks (level_profile profile) (number own) mark.now) }
+{
+    rule(14, 3, codes::may_stand_alone(profile, own))?;
+    rule(15, 4, marks::mark_fits(profile, mark, own))
+}
+
+// Answers 14 and 15 of a level of the code under this parent.
+fn child_verdict(profile: ProfileName, parent: Parent, own: Code, mark: &[u8]) -> Verdict
+    ensures { result ≡ first_broken (child_checks (level_profile profile) parent.code parent.shut (number own) mark.now) }
+{
+    rule(14, 2, codes::may_hang(profile, parent.code, own))?;
+    rule(15, 2, !parent.shut)?;
+    rule(15, 4, marks::mark_fits(profile, mark, own))
+}
+
+// What an HL that names no parent makes of its level, by its code and mark, or the first rule that it breaks.
+#[tactic(auto, unfolding(crate::specs::internal::Answers::judged_root))]
+pub fn judge_root(profile: ProfileName, code: &[u8], mark: &[u8]) -> Result<Entitled, Fault>
     ensures { result ≡ judged_root (level_profile profile) code.now mark.now }
 {
-    let own = codes::code_number(profile, code);
-    answer(root_verdict(profile, own, mark), 0, 1, own)
+    let own = codes::known(profile, code).ok_or(UNKNOWN)?;
+    root_verdict(profile, own, mark)?;
+    Ok(Entitled {
+        parent: 0,
+        depth: 1,
+        code: own.number(),
+    })
 }
 
-// The answer for an HL under this parent, by its code and mark.
-pub fn judge_child(profile: ProfileName, parent: Parent, code: &[u8], mark: &[u8]) -> Judged
+// What an HL under this parent makes of its level, by its code and mark, or the first rule that it breaks.
+#[tactic(auto, unfolding(crate::specs::internal::Answers::judged_child))]
+pub fn judge_child(
+    profile: ProfileName,
+    parent: Parent,
+    code: &[u8],
+    mark: &[u8],
+) -> Result<Entitled, Fault>
     ensures { result ≡ judged_child (level_profile profile) parent code.now mark.now }
 {
-    let own = codes::code_number(profile, code);
-    let verdict = child_verdict(profile, parent.code, parent.shut, own, mark);
-    answer(verdict, parent.number, parent.below, own)
+    let own = codes::known(profile, code).ok_or(UNKNOWN)?;
+    child_verdict(profile, parent, own, mark)?;
+    Ok(Entitled {
+        parent: parent.number,
+        depth: parent.below,
+        code: own.number(),
+    })
 }

@@ -102,31 +102,28 @@ pub fn next_table() -> [u8; ENTRIES]
     NEXT
 }
 
-// The row that comes after `row` with that tag number, 0 for none. `row` is 0 where nothing is read yet; `again` says that it stands
+// The row that comes after `row` with that tag number, if there is one. `row` is 0 where nothing is read yet; `again` says that it stands
 // right behind itself.
-pub fn row_after(table: &[u8; ENTRIES], row: u8, again: bool, tag: u8) -> u8
+pub fn row_after(table: &[u8; ENTRIES], row: u8, again: bool, tag: u8) -> Option<u8>
     ensures { RowAfter table.now row again tag result }
 {
     // Nothing is read yet: only ST comes first.
     if row == 0 {
-        if tag == ST {
-            return 1;
-        }
-        return 0;
+        return if tag == ST { Some(1) } else { None };
     }
     if row > LAST || tag >= NO_TAG {
-        return 0;
+        return None;
     }
     let next = table[(row as usize - 1) * TAG_COUNT + tag as usize];
     // No row may follow with that tag.
-    if NONE <= next {
-        return 0;
+    if next == 0 || next >= NONE {
+        return None;
     }
     // No third of a row whose maximum is 2.
     if again && next == row && at_most_two(row) {
-        return 0;
+        return None;
     }
-    next
+    Some(next)
 }
 
 // Whether the row's maximum is 2.

@@ -2,9 +2,10 @@
 -- Assumes nothing.
 use Prim.Native.Nat.{ℕ, ◌+◌, ◌-◌, ◌<◌, ◌≤◌}
 use mathlib.Core.Path.{◌≡◌, refl, sym, ◌∙◌}
-use mathlib.Core.Bool.{Bool, true, false, ◌||◌, true≢false}
+use mathlib.Core.Bool.{Bool, true, false, not, ◌||◌, true≢false}
 use mathlib.Core.Logic.{inl, inr, ⊎_elim}
 use mathlib.Core.List.{List}
+use Rattle.std.specs.Prelude.{Option, Some, None, MatchOption}
 use native.Mathlib.Nat.{eq-or-lt_of_le}
 use native.Mathlib.Numerals.{add-one}
 use native.Mathlib.Omega.{arith}
@@ -68,15 +69,27 @@ module _ (t : List ℕ) (k : ℕ) {parent depth : ℕ} (p : parent ≡ parent_in
         })
         (λ fit. ⊎_elim (λ top. absurd (some (p ∙ top.parent))) (λ under. omega (arith, rw (← p) at under.depth)) fit.hangs)
 
-module _ (t : List ℕ) where
-  -- at the start no level is unfit
-  pub fits_none : FitTable t 0
-  fits_none k low high = absurd (omega arith)
+module _ (b : Bool) {P : Type 0} where
+  -- where a test says no, it is not so
+  pub when_no : not b ≡ true → Decides b P → P → ⊥
+  when_no e d = by_value b e d
+    where
+      by_value : (v : Bool) → not v ≡ true → Decides v P → P → ⊥
+      by_value true e d = absurd (true≢false (sym e))
+      by_value false e d = d
 
-  -- nor after one more that is fit
-  pub fits_more : (k : ℕ) → FitTable t k → Fit t (k + 1) → FitTable t (k + 1)
-  fits_more k fit next j low high = elim (eq-or-lt_of_le high) [ inl e ↦ rw e next | inr l ↦ fit j low (omega arith) ]
+  -- and where it says yes, it is so
+  pub when_yes : not b ≡ false → Decides b P → P
+  when_yes e d = by_value b e d
+    where
+      by_value : (v : Bool) → not v ≡ false → Decides v P → P
+      by_value true e d = d
+      by_value false e d = absurd (true≢false e)
 
-  -- the next is the first that is unfit
-  pub unfit_next : (count k : ℕ) → k < count → FitTable t k → (Fit t (k + 1) → ⊥) → FirstUnfit t count (k + 1)
-  unfit_next count k inside fit unfit = rw (add-one k) (omega arith, fit, rw (add-one k) at unfit)
+-- a level that is found among those from 1 on is the first that is unfit
+pub first_found : (t : List ℕ) (count : ℕ) (r : Option ℕ)
+    → MatchOption r ((k : ℕ) → 1 ≤ k → k < count + 1 → Fit t k)
+    (λ k. (1 ≤ k) × (k < count + 1) × (Fit t k → ⊥) × ((j : ℕ) → 1 ≤ j → j < k → Fit t j))
+    → FirstUnfit t count r
+first_found t count None found = λ k low high. found k low (omega arith)
+first_found t count (Some k) found = (found.0, omega arith, found.3, found.2)

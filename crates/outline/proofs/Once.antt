@@ -7,9 +7,7 @@ use mathlib.Core.List.{List}
 use native.Mathlib.Omega.{arith}
 use native.Mathlib.Decide.{dec_lt}
 use Rattle.gate.specs.Records.{over}
-use Rattle.outline.specs.Walks.{FitTable, room_of, Unfit, TooShort, Lists, Walks}
-use Rattle.outline.specs.declared.answer.Walked.{Walked}
-use Rattle.outline.specs.declared.answer.Walked.TheVariants.{Refused}
+use Rattle.outline.specs.Walks.{Walked, unlisted, FitTable, room_of, Unfit, TooShort, Lists, Walks}
 use Rattle.outline.proofs.Orders.{outline_once}
 
 module _ (t : List ℕ) (count : ℕ) (before : List ℕ) where
@@ -51,7 +49,7 @@ module _ (t : List ℕ) (count : ℕ) (before : List ℕ) where
 
     room_once : WithRoom r after → WithRoom r' after' → Same
     room_once (inl x) (inl y) = (
-      x.answer ∙ ap (λ (n : ℕ). Refused 20 n) (first_once r r' after after' x y) ∙ sym y.answer,
+      x.answer ∙ ap (λ (n : ℕ). unlisted 20 n) (first_once r r' after after' x y) ∙ sym y.answer,
       x.unchanged ∙ sym y.unchanged,
     )
     room_once (inl x) (inr v) = absurd (x.unfit (is_fit r' after' v x.level x.from x.upto))

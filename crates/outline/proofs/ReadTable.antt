@@ -10,6 +10,7 @@ use native.Mathlib.Decide.{dec_lt}
 use lib.ListN.{length, drop, get_or, length-append}
 use lib.Seq.{get_or-append-add}
 use borrow.Author.Tests.{eq-eqb, ne_eqb}
+use Rattle.std.specs.Prelude.{Ok, Err}
 use Rattle.text.specs.Bytes.{Bytes}
 use Rattle.text.specs.View.{View}
 use Rattle.text.specs.Cut.{Placed}
@@ -20,21 +21,18 @@ use Rattle.levels.specs.Levels.{Claim, Level, level_at, level_of, levels_of, rec
 use Rattle.levels.specs.internal.Everyone.{Everyone}
 use Rattle.levels.proofs.CalledLevel.{parent_below, level_nobody}
 use Rattle.levels.proofs.Depth.{Within4, depth_at_most_4}
+use Rattle.gate.specs.Answers.{Answer, accepted}
 use Rattle.gate.specs.Profile.{Profile, profile_named, profile_of}
 use Rattle.gate.specs.Segments.{seen, onto, claims, levels_in}
 use Rattle.gate.specs.Rules.{Kept, From}
 use Rattle.gate.specs.Records.{Tables}
 use Rattle.gate.specs.Reads.{Run, Read, Reads}
-use Rattle.gate.specs.declared.answer.Answer.{Answer}
-use Rattle.gate.specs.declared.answer.Answer.TheVariants.{Accepted, Refused}
 use Rattle.gate.specs.declared.how.How.{How}
 use Rattle.gate.proofs.whole.AllLevels.{Leveled, from_kept}
 use Rattle.gate.proofs.conditions.Accepting.{accepted_transaction}
 use Rattle.gate.proofs.conditions.Conditions.{accepted_proper}
 use Rattle.outline.specs.Outline.{parent_in, depth_in}
-use Rattle.outline.specs.Walks.{Top, Hangs, Fit, FitTable, room_of, Walks}
-use Rattle.outline.specs.declared.answer.Walked.{Walked}
-use Rattle.outline.specs.declared.answer.Walked.TheVariants as walked
+use Rattle.outline.specs.Walks.{Walked, unlisted, Top, Hangs, Fit, FitTable, room_of, Walks}
 
 -- four numbers a level
 records_length : (ls : List Level) → length (records_of ls) ≡ level_width * length ls
@@ -113,8 +111,8 @@ module _ (name : ProfileName) (how : How) (s : Bytes) (before : Tables) where
 
   -- every segment that has a record kept its rules
   all_kept : (r : Answer) (kept : List Placed) (numbers : List ℕ) → Run profile how before s r kept numbers → From (Kept profile) [] (seen how kept)
-  all_kept (Accepted segments levels bytes) kept numbers x = (accepted_transaction profile how before s segments levels bytes kept numbers x).meets.kept
-  all_kept (Refused number segment byte element) kept numbers x = rw x.ends.kept_is x.passed.kept
+  all_kept (Ok a) kept numbers x = (accepted_transaction profile how before s a.segments a.levels a.bytes kept numbers x).meets.kept
+  all_kept (Err r) kept numbers x = rw x.ends.kept_is x.passed.kept
 
   -- so each HL among them did
   leveled : (h vs : List View) → From (Kept profile) h vs → From (Leveled profile) h vs
@@ -138,21 +136,21 @@ module _ (name : ProfileName) (how : How) (s : Bytes) (before : Tables) where
       )
 
 -- of an accepted report these are as many levels as the answer counts
-pub accepted_fit : (how : How) (s : Bytes) (before : Tables) (segments levels bytes : ℕ) (after : Tables) → Reads how s before (Accepted segments levels bytes) after
+pub accepted_fit : (how : How) (s : Bytes) (before : Tables) (segments levels bytes : ℕ) (after : Tables) → Reads how s before (accepted segments levels bytes) after
     → (levels ≤ room_of after.levels) × FitTable after.levels levels
 accepted_fit how s before segments levels bytes after reads =
     let x = (accepted_proper how s before segments levels bytes after reads).read in
     let count : levels ≡ length (levels_in (profile_of how) (onto [] (seen how x.kept))) = ap (λ (four : List ℕ). get_or four 2 0) x.run.ends.counts in
-    subst (λ (n : ℕ). (n ≤ room_of after.levels) × FitTable after.levels n) (sym count) (read_fit how.profile how s before (Accepted segments levels bytes) after x)
+    subst (λ (n : ℕ). (n ≤ room_of after.levels) × FitTable after.levels n) (sym count) (read_fit how.profile how s before (accepted segments levels bytes) after x)
 
 -- the number of a walk's answer
 abbrev number_told : Walked → ℕ
-number_told (walked.Listed levels) = 0
-number_told (walked.Refused number level) = number
+number_told (Ok levels) = 0
+number_told (Err u) = u.number
 
 -- so a walk over it is never refused with 20
-pub accepted_walks : (how : How) (s : Bytes) (before : Tables) (segments levels bytes : ℕ) (after : Tables) → Reads how s before (Accepted segments levels bytes) after
-    → (output : List ℕ) (level : ℕ) (then : List ℕ) → Walks after.levels levels output (walked.Refused 20 level) then → ⊥
+pub accepted_walks : (how : How) (s : Bytes) (before : Tables) (segments levels bytes : ℕ) (after : Tables) → Reads how s before (accepted segments levels bytes) after
+    → (output : List ℕ) (level : ℕ) (then : List ℕ) → Walks after.levels levels output (unlisted 20 level) then → ⊥
 accepted_walks how s before segments levels bytes after reads output level then walks =
     let fit = accepted_fit how s before segments levels bytes after reads in
     elim walks [

@@ -40,62 +40,64 @@ module _ {t : List ℕ} {count of depth : ℕ} {before : List ℕ} {at : ℕ} wh
     stored = rw (gathered_none t count fit (beneath t count depth) of inside) (stored_none before at);
   }
 
-  module _ {output : List ℕ} {next level : ℕ} (v : Visited t count of depth before at output next level) where
+  module _ {output : List ℕ} {next seen : ℕ} (v : Visited t count of depth before at output next seen) where
     -- the output is as long as it was
     pub output_long : length output ≡ length before
-    output_long = ap length v.stored.1 ∙ length-sets before at (gathered (beneath t count depth) t of level)
+    output_long = ap length v.stored.1 ∙ length-sets before at (gathered (beneath t count depth) t of seen)
 
     -- behind the last level all is listed
-    pub listed_all : depth < 4 → count ≤ level → Stored before at (listed (4 - depth) t count of) output next
+    pub listed_all : depth < 4 → count ≤ seen → Stored before at (listed (4 - depth) t count of) output next
     listed_all shallow end =
-        let e : count ≡ level = omega (arith, v.upto) in
+        let e : count ≡ seen = omega (arith, v.upto) in
         subst (λ (xs : List ℕ). Stored before at xs output next)
         (sym (listed_gathered t count of depth shallow ∙ ap (gathered (beneath t count depth) t of) e)) v.stored
 
-    module _ (inside : level < count) where
-      -- and behind the last stray it is where a level is no deeper
+    -- of the level that comes next
+    module _ {level : ℕ} (e : level ≡ seen + 1) (inside : level ≤ count) where
+      -- behind the last stray all is listed where it is no deeper
       pub listed_ended : depth < 4 → FitTable t count → {stray deep : ℕ} → stray ≡ last_stray t count → depth ≡ depth_of t of
-          → deep ≡ depth_in t (level + 1) → ltb stray (level + 1) && leb deep depth ≡ true
-          → Stored before at (listed (4 - depth) t count of) output next
-      listed_ended shallow fit {stray} {deep} s d e ends =
-          let both : T (ltb stray (level + 1) && leb deep depth) = rw ends tt in
-          let past = ltb→lt stray (level + 1) (first_of (ltb stray (level + 1)) (leb deep depth) both) in
-          let no_deeper = leb→le deep depth (second_of (ltb stray (level + 1)) (leb deep depth) both) in
+          → deep ≡ depth_in t level → ltb stray level && leb deep depth ≡ true → Stored before at (listed (4 - depth) t count of) output next
+      listed_ended shallow fit {stray} {deep} s d is ends =
+          let both : T (ltb stray level && leb deep depth) = rw ends tt in
+          let past = ltb→lt stray level (first_of (ltb stray level) (leb deep depth) both) in
+          let no_deeper = leb→le deep depth (second_of (ltb stray level) (leb deep depth) both) in
+          let here : deep ≡ depth_in t (seen + 1) = rw e at is in
           rw (
             listed_gathered t count of depth shallow,
-            gathered_ended t count fit (beneath t count depth) of level v.from inside (omega arith) (omega arith),
+            gathered_ended t count fit (beneath t count depth) of seen v.from (omega arith) (omega arith) (omega arith),
           )
           v.stored
 
-      -- the next level, where it is no child
-      pub visited_other : (parent_in t (level + 1) ≡ of → ⊥) → Visited t count of depth before at output next (level + 1)
+      -- where it is no child, it adds nothing
+      pub visited_other : (parent_in t level ≡ of → ⊥) → Visited t count of depth before at output next level
       visited_other other = record {
         from = omega (arith, v.from);
-        upto = omega arith;
-        stored = rw (gathered_other (beneath t count depth) t of level other) v.stored;
+        upto = inside;
+        stored = rw e (rw (gathered_other (beneath t count depth) t of seen (rw e at other)) v.stored);
       }
 
-      module _ (child : parent_in t (level + 1) ≡ of) where
+      module _ (child : parent_in t level ≡ of) where
         -- a child and what is beneath it have room
         pub child_room : depth < 4 → at + length (listed (4 - depth) t count of) ≤ length before
-            → next + (1 + length (beneath t count depth (level + 1))) ≤ length output
+            → next + (1 + length (beneath t count depth level)) ≤ length output
         child_room shallow room =
-            omega (
+            rw e
+            (omega (
               arith,
               output_long,
               v.stored.0,
               ap length (listed_gathered t count of depth shallow),
-              gathered_room (beneath t count depth) t of level count inside child,
-            )
+              gathered_room (beneath t count depth) t of seen count (omega arith) (rw e at child),
+            ))
 
         -- and are listed
-        pub visited_child : {output' : List ℕ} {next' : ℕ}
-            → Stored (set output next (level + 1)) (next + 1) (beneath t count depth (level + 1)) output' next'
-            → Visited t count of depth before at output' next' (level + 1)
+        pub visited_child : {output' : List ℕ} {next' : ℕ} → Stored (set output next level) (next + 1) (beneath t count depth level) output' next'
+            → Visited t count of depth before at output' next' level
         visited_child s = record {
           from = omega (arith, v.from);
-          upto = omega arith;
+          upto = inside;
           stored =
-              rw (gathered_child (beneath t count depth) t of level child)
-              (stored_more before at (gathered (beneath t count depth) t of level) (level + 1) (beneath t count depth (level + 1)) v.stored s);
+              rw e
+              (rw (gathered_child (beneath t count depth) t of seen (rw e at child))
+              (stored_more before at (gathered (beneath t count depth) t of seen) (seen + 1) (beneath t count depth (seen + 1)) v.stored (rw e at s)));
         }

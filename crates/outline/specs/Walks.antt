@@ -1,11 +1,18 @@
 -- The promise of a walk: which answer, and what the output holds afterwards, for every level table, count and output. Document 02, Item 2.
 -- Assumes nothing.
-use Rattle.std.specs.Prelude.{ℕ, ◌+◌, ◌/◌, ◌<◌, ◌≤◌, ◌≡◌, ◌⊎◌, List, length}
+use Rattle.std.specs.Prelude.{ℕ, ◌+◌, ◌/◌, ◌<◌, ◌≤◌, ◌≡◌, ◌⊎◌, List, length, Result, Ok, Err}
 use Rattle.levels.specs.Widths.{level_width}
 use Rattle.gate.specs.Records.{over}
 use Rattle.outline.specs.Outline.{parent_in, depth_in, Outline}
-use Rattle.outline.specs.declared.answer.Walked.{Walked}
-use Rattle.outline.specs.declared.answer.Walked.TheVariants.{Listed, Refused}
+use Rattle.outline.specs.declared.answer.Unlisted.{Unlisted}
+
+-- an answer: how many levels are listed, or why none is
+abbrev pub Walked : Type 0
+Walked = Result ℕ Unlisted
+
+-- refused with this number, for this level
+abbrev pub unlisted : (number level : ℕ) → Walked
+unlisted number level = Err (record { number = number; level = level })
 
 -- level k has no parent, and depth 1
 pub record Top (t : List ℕ) (k : ℕ) : Type 0 where
@@ -35,7 +42,7 @@ module _ (t : List ℕ) (count : ℕ) (before : List ℕ) (r : Walked) (after : 
   -- 20 with level 0: the count exceeds the room
   pub record TooMany : Type 0 where
     pub exceeds : room_of t < count
-    pub answer : r ≡ Refused 20 0
+    pub answer : r ≡ unlisted 20 0
     pub unchanged : after ≡ before
 
   -- 20 with a level: it is the first that is unfit
@@ -46,7 +53,7 @@ module _ (t : List ℕ) (count : ℕ) (before : List ℕ) (r : Walked) (after : 
     pub upto : level ≤ count
     pub unfit : Fit t level → ⊥
     pub first : (k : ℕ) → 1 ≤ k → k < level → Fit t k
-    pub answer : r ≡ Refused 20 level
+    pub answer : r ≡ unlisted 20 level
     pub unchanged : after ≡ before
 
   -- 21 with level 0: the output is shorter than the count
@@ -54,7 +61,7 @@ module _ (t : List ℕ) (count : ℕ) (before : List ℕ) (r : Walked) (after : 
     pub room : count ≤ room_of t
     pub fit : FitTable t count
     pub shorter : length before < count
-    pub answer : r ≡ Refused 21 0
+    pub answer : r ≡ unlisted 21 0
     pub unchanged : after ≡ before
 
   -- 0 with the count: the outline stands at the front of the output, and what lies behind it is as it was
@@ -62,7 +69,7 @@ module _ (t : List ℕ) (count : ℕ) (before : List ℕ) (r : Walked) (after : 
     pub room : count ≤ room_of t
     pub fit : FitTable t count
     pub long : count ≤ length before
-    pub answer : r ≡ Listed count
+    pub answer : r ≡ Ok count
     pub order : List ℕ
     pub outline : Outline t count order
     pub written : after ≡ over before order

@@ -22,17 +22,10 @@ fn is_fit(levels: &[u64], k: usize) -> bool
     records::depth_in(levels, parent as usize) == depth - 1
 }
 
-// The first of the levels 1 to count that is unfit; 0 where all are fit.
-pub(crate) fn first_unfit(levels: &[u64], count: usize) -> usize
+// The first of the levels 1 to count that is unfit; none where all are fit.
+pub(crate) fn first_unfit(levels: &[u64], count: usize) -> Option<usize>
     requires { level_width * count ≤ length levels.now }
     ensures { FirstUnfit levels.now count result }
 {
-    let mut k: usize = 0;
-    while k < count {
-        k += 1;
-        if !is_fit(levels, k) {
-            return k;
-        }
-    }
-    0
+    (1..count + 1).find(|k| !is_fit(levels, *k))
 }

@@ -1,4 +1,4 @@
-// The numbers of a level's record; levels are numbered from 1.
+// The numbers of a level's record; levels are numbered from 1. Each has a function of its own, so that a call says which it reads.
 ghost use Rattle.std.specs.Prelude.{◌≡◌, ◌*◌, ◌≤◌, length};
 ghost use Rattle.levels.specs.Widths.{level_width};
 ghost use Rattle.outline.specs.Outline.{parent_in, depth_in};

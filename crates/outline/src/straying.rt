@@ -6,7 +6,8 @@ ghost use Rattle.outline.specs.internal.Straying.{above_of, with_level, last_str
 
 use crate::records;
 
-// The latest level so far of depth at most 1, 2 and 3; 0 where there is none.
+// The latest level so far of depth at most 1, 2 and 3; 0 where there is none, as a parent's number is. No array: a level is asked about by the depth above
+// it, and kept by its own, and depth 4 has no place.
 #[derive(Clone, Copy, Drop)]
 pub struct Latest {
     pub first: usize,
@@ -40,7 +41,7 @@ impl Latest {
 }
 
 // The last of the levels 1 to count whose parent is not the latest level before it that is less deep; 0 where there is none. Behind it the
-// levels under one stand together.
+// levels under one stand together, so the number serves as a bound.
 pub(crate) fn last_stray(levels: &[u64], count: usize) -> usize
     requires count_in_bounds { level_width * count ≤ length levels.now }
     requires fit_table { FitTable levels.now count }
@@ -51,10 +52,8 @@ pub(crate) fn last_stray(levels: &[u64], count: usize) -> usize
         second: 0,
         third: 0,
     };
-    let mut stray: usize = 0;
-    let mut k: usize = 0;
-    while k < count {
-        k += 1;
+    let mut stray = 0;
+    for k in 1..=count {
         let depth = records::depth_in(levels, k);
         if records::parent_in(levels, k) != latest.above(depth) as u64 {
             stray = k;

@@ -3,10 +3,11 @@ ghost use Rattle.std.specs.Prelude.{◌≡◌, ◌+◌, ◌-◌, ◌*◌, ◌≤
 ghost use Rattle.std.proofs.lemmas.List.Edits.{sets};
 ghost use Rattle.levels.specs.Widths.{level_width};
 ghost use Rattle.outline.specs.Walks.{FitTable, Walks};
+ghost use Rattle.outline.specs.internal.Fitting.{Listable};
 ghost use Rattle.outline.specs.internal.Listing.{depth_of, listed};
 ghost use Rattle.outline.specs.internal.Straying.{last_stray};
 
-use crate::answer::Walked;
+use crate::answer::{Unlisted, Walked};
 use crate::{fitting, records, straying};
 use levels::widths::LEVEL_WIDTH;
 
@@ -37,9 +38,7 @@ fn walk_under(
 {
     let mut next = at;
     if depth < 4 {
-        let mut level = of;
-        while level < forest.count {
-            level += 1;
+        for level in of + 1..=forest.count {
             if (forest.stray < level) & (records::depth_in(levels, level) <= depth as u64) {
                 break;
             }
@@ -52,32 +51,36 @@ fn walk_under(
     next
 }
 
+// Whether the levels 1 to count can be listed in an output of so many places: not with 20 where the table has not so many, or one is unfit, nor
+// with 21 where the places are fewer.
+fn listable(levels: &[u64], count: usize, places: usize) -> Result<(), Unlisted>
+    ensures { Listable levels.now count places result }
+{
+    if levels.len() / LEVEL_WIDTH < count {
+        return Err(Unlisted {
+            number: 20,
+            level: 0,
+        });
+    }
+    if let Some(level) = fitting::first_unfit(levels, count) {
+        return Err(Unlisted { number: 20, level });
+    }
+    if places < count {
+        return Err(Unlisted {
+            number: 21,
+            level: 0,
+        });
+    }
+    Ok(())
+}
+
 // Lists the levels 1 to count of the table in the output, each under its parent. Where that is refused the output keeps what it held, and so
 // does what lies behind the list.
-#[tactic(auto, using(crate::proofs::WalkAnswers::walk_too_short))]
 pub fn walk(levels: &[u64], count: usize, output: &mut [u64]) -> Walked
     ensures { Walks levels.now count output.old result output.new }
 {
-    if levels.len() / LEVEL_WIDTH < count {
-        return Walked::Refused {
-            number: 20,
-            level: 0,
-        };
-    }
-    let unfit = fitting::first_unfit(levels, count);
-    if unfit != 0 {
-        return Walked::Refused {
-            number: 20,
-            level: unfit,
-        };
-    }
-    if output.len() < count {
-        return Walked::Refused {
-            number: 21,
-            level: 0,
-        };
-    }
+    listable(levels, count, output.len())?;
     let stray = straying::last_stray(levels, count);
     walk_under(levels, Forest { count, stray }, 0, 0, output, 0);
-    Walked::Listed { levels: count }
+    Ok(count)
 }

@@ -4,7 +4,6 @@ pub mod Stores
 pub mod HlSegments
 pub mod Standings
 pub mod RuleOrder
-pub mod ClosingTests
 pub mod OpeningControl
 pub mod PlainSegments
 pub mod JudgeSteps

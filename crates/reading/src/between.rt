@@ -47,10 +47,8 @@ fn past_line_end(s: &[u8], how: How, at: usize, left: Left) -> Onward
 {
     let end = at + skipped_at(s, how, at);
     let mut behind = left;
-    let mut i = at;
-    while i < end {
+    for i in at..end {
         behind = past_special(behind, i);
-        i += 1;
     }
     Onward {
         at: end,

@@ -1,7 +1,7 @@
 // The next segment: where it ends, where its elements start, and what its bytes alone tell of it. The bytes are looked at once, 64 at a
 // time: the places of the separators, and of bytes that are no data, go into a lent queue, and a segment visits only those places. A BIN is not
 // searched for its terminator: its count says where that is due.
-ghost use Rattle.std.specs.Prelude.{◌≡◌, ◌+◌, ◌≤◌, ◌<◌, T, length, drop, set};
+ghost use Rattle.std.specs.Prelude.{◌≡◌, ◌==◌, ◌+◌, ◌≤◌, ◌<◌, T, length, drop, set, position};
 ghost use Rattle.reading.specs.internal.SpecialBytes.{is_special_in, SpecialTable, Fills};
 ghost use Rattle.reading.specs.internal.Queue.{bit, Indexed, Window, Ready};
 ghost use Rattle.reading.specs.internal.Between.{Serves};
@@ -11,20 +11,25 @@ ghost use Rattle.text.specs.Bin.{begins_bin};
 
 use elements::layout::Layout;
 use text::bin;
-use text::bin::Counted;
+use text::bin::Uncounted;
 use text::separators::Separators;
 
-// What the bytes hold next.
+// A segment that was cut, by its layout, and what is left of the queue behind it.
 #[derive(Clone, Copy, Drop)]
-pub(crate) enum Next {
-    // No segment: the bytes end before its terminator.
+pub(crate) struct Cut {
+    pub layout: Layout,
+    pub left: Left,
+}
+
+// Why no segment was cut.
+#[derive(Clone, Copy, Drop)]
+pub(crate) enum Uncut {
+    // The bytes end before its terminator.
     Open,
-    // A terminator at this place, and before it a byte that is neither data nor separator.
+    // A terminator stands at this place, and before it a byte that is neither data nor separator.
     Bad(usize),
-    // A BIN that is broken: the element that is at fault.
+    // A BIN is broken: the element that is at fault.
     Broken(usize),
-    // A segment, by its layout, and what is left of the queue behind it.
-    Segment(Layout, Left),
 }
 
 // What is left of the queue: the entries from `head` up to `tail`, which are the special places from here as far as `seen`.
@@ -59,11 +64,7 @@ fn fill(specials: &mut [bool; 256], from: usize, last: usize, entry: bool)
     requires last_bound { last < 256 }
     ensures { Fills specials.old from last entry specials.new }
 {
-    let mut i = from;
-    while i <= last {
-        specials[i] = entry;
-        i += 1;
-    }
+    specials[from..=last].fill(entry);
 }
 
 // Which bytes are special: the separators, and every byte that is no data.
@@ -98,19 +99,17 @@ fn index(s: &[u8], specials: &[bool; 256], from: usize, to: usize, queue: &mut [
 {
     let mut number: usize = 0;
     let mut i = from;
+    // A loop by eights, each of which is unrolled: an iterator over chunks of eight would not have their places.
     while i + 8 <= to {
-        let mut j: usize = 0;
-        while j < 8 {
+        for j in 0..8 {
             queue[number] = i + j;
             number += special_bit(specials, s[i + j]);
-            j += 1;
         }
         i += 8;
     }
-    while i < to {
-        queue[number] = i;
-        number += special_bit(specials, s[i]);
-        i += 1;
+    for place in i..to {
+        queue[number] = place;
+        number += special_bit(specials, s[place]);
     }
     number
 }
@@ -133,18 +132,22 @@ fn keep_start(starts: &mut [usize; 33], number: usize, place: usize)
     }
 }
 
-// The answer where the byte at `from` is bad: `Bad` where a terminator follows, else `Open`.
-fn stop(s: &[u8], from: usize, terminator: u8) -> Next
+// The first place among these bytes where the byte stands.
+fn first_place(bytes: &[u8], byte: u8) -> Option<usize>
+    ensures { result ≡ position (λ b. b == byte) bytes.now }
+{
+    bytes.iter().position(|b| *b == byte)
+}
+
+// Why no segment was cut where the byte at `from` is bad: `Bad` where a terminator follows, else `Open`.
+fn stop(s: &[u8], from: usize, terminator: u8) -> Uncut
+    requires { from ≤ length s.now }
     ensures { Stops s.now from terminator result }
 {
-    let mut i = from;
-    while i < s.len() {
-        if s[i] == terminator {
-            return Next::Bad(i);
-        }
-        i += 1;
+    match first_place(&s[from..], terminator) {
+        Some(place) => Uncut::Bad(from + place),
+        None => Uncut::Open,
     }
-    Next::Open
 }
 
 // The layout of a segment whose terminator stands at `end`. Rule 6 holds of it where it holds of the elements before the last, and of the last,
@@ -179,7 +182,7 @@ fn next_plain(
     left: Left,
     queue: &mut [usize; 72],
     starts: &mut [usize; 33],
-) -> Next
+) -> Result<Cut, Uncut>
     requires special_table { SpecialTable separators specials.now }
     requires fitted { Fitted separators }
     requires ready { Ready specials.now s.now at queue.old left.head left.tail left.seen }
@@ -195,6 +198,7 @@ fn next_plain(
     let mut behind = at;
     starts[0] = at;
     loop {
+        // A loop, since what is left of the queue goes on to the next segment.
         while head < tail {
             let place = queue[head];
             let byte = s[place];
@@ -208,15 +212,16 @@ fn next_plain(
             }
             if byte == separators.terminator {
                 let layout = layout_of(at, place, count, start, behind, ended);
-                return Next::Segment(layout, Left { head, tail, seen });
+                let left = Left { head, tail, seen };
+                return Ok(Cut { layout, left });
             }
             if byte != separators.component {
-                return stop(s, place, separators.terminator);
+                return Err(stop(s, place, separators.terminator));
             }
             behind = place + 1;
         }
         if s.len() <= seen {
-            return Next::Open;
+            return Err(Uncut::Open);
         }
         let to = reach(seen, s.len());
         tail = index(s, specials, seen, to, queue);
@@ -233,18 +238,18 @@ fn next_counted(
     number: usize,
     attached: usize,
     starts: &mut [usize; 33],
-) -> Next
+) -> Result<Cut, Uncut>
     requires starts_len { length starts.old ≡ 33 }
     requires at_bound { at + 6 ≤ attached }
     requires attached_in_bounds { attached ≤ length s.now }
     ensures { CutsCounted s.now terminator at number attached starts.old starts.new result }
 {
     if s.len() - attached <= number {
-        return Next::Open;
+        return Err(Uncut::Open);
     }
     let end = attached + number;
     if s[end] != terminator {
-        return Next::Broken(2);
+        return Err(Uncut::Broken(2));
     }
     starts[0] = at;
     starts[1] = at + 4;
@@ -256,30 +261,37 @@ fn next_counted(
         single: false,
         ended: true,
     };
-    let seen = end + 1;
-    Next::Segment(
-        layout,
-        Left {
-            head: 0,
-            tail: 0,
-            seen,
-        },
-    )
+    let left = Left {
+        head: 0,
+        tail: 0,
+        seen: end + 1,
+    };
+    Ok(Cut { layout, left })
 }
 
 // The next segment from `at` on, where it begins with `BIN` and the element separator: its count, and one jump over what it counts.
-fn next_bin(s: &[u8], separators: Separators, at: usize, starts: &mut [usize; 33]) -> Next
+fn next_bin(
+    s: &[u8],
+    separators: Separators,
+    at: usize,
+    starts: &mut [usize; 33],
+) -> Result<Cut, Uncut>
     requires fitted { Fitted separators }
     requires t { T (begins_bin separators.element (drop at s.now)) }
     requires starts_len { length starts.old ≡ 33 }
     ensures { CutsBin separators s.now at starts.new result }
 {
     match bin::count(s, at + 4, separators.element) {
-        Counted::Told(number, end) => {
-            next_counted(s, separators.terminator, at, number, end + 1, starts)
-        }
-        Counted::Open => Next::Open,
-        Counted::Broken => Next::Broken(1),
+        Ok(count) => next_counted(
+            s,
+            separators.terminator,
+            at,
+            count.number,
+            count.end + 1,
+            starts,
+        ),
+        Err(Uncounted::Open) => Err(Uncut::Open),
+        Err(Uncounted::Broken) => Err(Uncut::Broken(1)),
     }
 }
 
@@ -291,7 +303,7 @@ pub(crate) fn next_segment(
     onward: Onward,
     queue: &mut [usize; 72],
     starts: &mut [usize; 33],
-) -> Next
+) -> Result<Cut, Uncut>
     requires special_table { SpecialTable separators specials.now }
     requires fitted { Fitted separators }
     requires serves { Serves specials.now s.now onward.at queue.old onward.left }

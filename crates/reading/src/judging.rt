@@ -7,17 +7,16 @@ ghost use Rattle.elements.specs.Checks.{first_broken};
 ghost use Rattle.elements.specs.internal.Layouts.{element_in};
 ghost use Rattle.elements.specs.Rules.{end_checks};
 ghost use Rattle.reading.specs.internal.Cutting.{segment_of};
-ghost use Rattle.reading.specs.internal.Judgements.{opening_control, closing_in, Inside, broken_by, by_level_of, JudgesLate, KnownTag, JudgesNext};
+ghost use Rattle.reading.specs.internal.Judgements.{opening_control, closing_in, Inside, broken_by, JudgesLate, KnownTag, JudgesNext};
 
 use crate::placing;
 use crate::storing::NewLevel;
-use elements::layout::Layout;
-use elements::verdict::Verdict;
-use elements::{layout, rules, segment};
+use elements::layout::Parts;
+use elements::verdict::{Fault, Verdict};
+use elements::{rules, segment};
 use finding::lists::LISTS;
 use finding::{filling, lists, notes};
 use gate::how::How;
-use levels::judging::Judged;
 use levels::widths::SEGMENT_WIDTH;
 use numbering::next;
 use rows::list::ENTRIES;
@@ -27,17 +26,59 @@ use text::separators::Separators;
 use text::{compare, lookup};
 use types::digits;
 
-// What the rules say of the next segment.
+// The faults that are found here: of the tag, of an end that no element is named for, of the row, and of the SE.
+const UNKNOWN_TAG: Fault = Fault {
+    number: 4,
+    element: 0,
+};
+
+const BAD_END: Fault = Fault {
+    number: 6,
+    element: 0,
+};
+
+const NO_ROW: Fault = Fault {
+    number: 7,
+    element: 0,
+};
+
+const OUTSIDE_PROFILE: Fault = Fault {
+    number: 24,
+    element: 0,
+};
+
+const OTHER_COUNT: Fault = Fault {
+    number: 16,
+    element: 1,
+};
+
+const OTHER_CONTROL: Fault = Fault {
+    number: 16,
+    element: 2,
+};
+
+const CHILD_OWED: Fault = Fault {
+    number: 15,
+    element: 0,
+};
+
+// What a segment is that breaks no rule.
 #[derive(Clone, Copy, Drop)]
 pub(crate) enum Judgement {
-    // The first rule that it breaks: the answer's number, and the element it names.
-    Broken(usize, usize),
     // Its row; it makes no level and does not close the transaction.
     Other(u8),
     // Its row, and the level that it makes.
     Level { row: u8, level: NewLevel },
     // The row of the SE that closes the transaction.
     Last(u8),
+}
+
+// The records of the segments so far and of their levels, and the last level of each list.
+#[derive(Clone, Copy, Drop)]
+pub(crate) struct Records<'a> {
+    pub segments: &'a [u64],
+    pub levels: &'a [u64],
+    pub lasts: &'a [u32; LISTS],
 }
 
 // What the reader carries from segment to segment: how many segments were passed, the last row, how many levels they made, and
@@ -61,30 +102,10 @@ impl State {
 }
 
 // The number of the segment's tag.
-fn tag_of(s: &[u8], starts: &[usize; 33], layout: Layout) -> u8
-    ensures { result ≡ tag_number (element_in s.now starts.now layout 0) }
+fn tag_of(parts: Parts) -> u8
+    ensures { result ≡ tag_number (element_in parts.entry.bytes.now parts.entry.starts.now parts.entry.layout 0) }
 {
-    tags::tag_number(layout::element(s, starts, layout, 0))
-}
-
-// The judgement on an HL with that row, by what the rules of levels say; its mark asks that of the levels to come, and its HL01
-// belongs to that list.
-fn by_level(row: u8, asks: usize, place: usize, judged: Judged) -> Judgement
-    ensures { result ≡ by_level_of row asks place judged }
-{
-    match judged {
-        Judged::Entitled(parent, depth, code) => Judgement::Level {
-            row,
-            level: NewLevel {
-                parent,
-                depth,
-                code,
-                asks,
-                place,
-            },
-        },
-        Judged::Refused(number, element) => Judgement::Broken(number, element),
-    }
+    tags::tag_number(parts.element(0))
 }
 
 // The second element of the first segment, which starts with the bytes.
@@ -102,151 +123,117 @@ fn opening_control<'a>(s: &'a [u8], separators: Separators, segments: &[u64]) ->
 }
 
 // The verdict of the closing rules on an SE.
-fn judge_se(
-    s: &[u8],
-    separators: Separators,
-    starts: &[usize; 33],
-    layout: Layout,
-    segments: &[u64],
-    levels: &[u64],
-    state: State,
-) -> Verdict
-    ensures { result ≡ first_broken (closing_in s.now separators.element starts.now layout segments.now levels.now state) }
+fn judge_se(separators: Separators, parts: Parts, state: State, records: Records) -> Verdict
+    ensures { result ≡ first_broken (closing_in parts.entry.bytes.now separators.element parts.entry.starts.now parts.entry.layout records.entry.segments.now records.entry.levels.now state) }
 {
-    let total = layout::element(s, starts, layout, 1);
+    let total = parts.element(1);
     let told = digits::number_of(total);
     if told == 0 {
-        return Verdict::Broken(16, 1);
+        return Err(OTHER_COUNT);
     }
     if told - 1 != state.count {
-        return Verdict::Broken(16, 1);
+        return Err(OTHER_COUNT);
     }
-    let control = layout::element(s, starts, layout, 2);
-    if !compare::same_bytes(control, opening_control(s, separators, segments)) {
-        return Verdict::Broken(16, 2);
+    let control = parts.element(2);
+    let opening = opening_control(parts.bytes, separators, records.segments);
+    if !compare::same_bytes(control, opening) {
+        return Err(OTHER_CONTROL);
     }
-    if !filling::all_filled(levels, state.levels) {
-        return Verdict::Broken(15, 0);
+    if !filling::all_filled(records.levels, state.levels) {
+        return Err(CHILD_OWED);
     }
-    Verdict::Holds
+    Ok(())
 }
 
-// Rule 6 broken, where the pass found it so: the answer with its element.
-fn bad_end(s: &[u8], how: How, layout: Layout) -> Judgement
-    requires { Inside s.now layout }
-    ensures { result ≡ broken_by (first_broken (end_checks (plain_view how.separators (segment_of s.now layout)))) }
+// Rule 6 broken, where the pass found it so: the fault with its element.
+fn bad_end(separators: Separators, parts: Parts) -> Fault
+    requires { Inside parts.bytes.now parts.layout }
+    ensures { result ≡ broken_by (first_broken (end_checks (plain_view separators (segment_of parts.entry.bytes.now parts.entry.layout)))) }
 {
-    let at = layout.at;
-    let end = layout.end;
-    match segment::end_verdict(&s[at..end], how.separators) {
-        Verdict::Broken(number, element) => Judgement::Broken(number, element),
-        Verdict::Holds => Judgement::Broken(6, 0),
+    let Parts { bytes, layout, .. } = parts;
+    match segment::end_verdict(&bytes[layout.at..layout.end], separators) {
+        Err(fault) => fault,
+        Ok(()) => BAD_END,
     }
 }
 
 // The rules of levels and of closing, for a segment that keeps all others and has that tag and row.
 fn judge_late(
-    s: &[u8],
     how: How,
-    starts: &[usize; 33],
-    layout: Layout,
+    parts: Parts,
     state: State,
-    segments: &[u64],
-    levels: &[u64],
-    lasts: &[u32; LISTS],
+    records: Records,
     tag: u8,
     row: u8,
-) -> Judgement
-    ensures { JudgesLate how s.now starts.now layout state segments.now levels.now lasts.now tag row result }
+) -> Result<Judgement, Fault>
+    ensures { JudgesLate how parts.entry.bytes.now parts.entry.starts.now parts.entry.layout state records.entry.segments.now records.entry.levels.now records.entry.lasts.now tag row result }
 {
     if tag == tags::HL {
-        let place = lists::place_of(layout::element(s, starts, layout, 1));
-        let asks = notes::asks_of(layout::element(s, starts, layout, 4));
-        let chosen = how.profile;
-        let judged = placing::judge_level(
-            s,
-            how.separators.element,
-            chosen,
-            starts,
-            layout,
+        let place = lists::place_of(parts.element(1));
+        let asks = notes::asks_of(parts.element(4));
+        let entitled = placing::judge_level(how, parts, place, records)?;
+        let level = NewLevel {
+            parent: entitled.parent,
+            depth: entitled.depth,
+            code: entitled.code,
+            asks,
             place,
-            segments,
-            levels,
-            lasts,
-        );
-        return by_level(row, asks, place, judged);
+        };
+        return Ok(Judgement::Level { row, level });
     }
     if tag == tags::SE {
-        return match judge_se(s, how.separators, starts, layout, segments, levels, state) {
-            Verdict::Holds => Judgement::Last(row),
-            Verdict::Broken(number, element) => Judgement::Broken(number, element),
-        };
+        judge_se(how.separators, parts, state, records)?;
+        return Ok(Judgement::Last(row));
     }
-    Judgement::Other(row)
+    Ok(Judgement::Other(row))
 }
 
 // The rules of rows, then those of elements and the late ones, which a plain segment does not have, for a segment of a known tag of which
 // rule 6 holds.
 fn judge_known(
-    s: &[u8],
     how: How,
     table: &[u8; ENTRIES],
-    starts: &[usize; 33],
-    layout: Layout,
+    parts: Parts,
     state: State,
-    segments: &[u64],
-    levels: &[u64],
-    lasts: &[u32; LISTS],
+    records: Records,
     tag: u8,
-) -> Judgement
+) -> Result<Judgement, Fault>
     requires next_table { NextTable table.now }
-    requires known_tag { KnownTag s.now starts.now layout tag }
-    ensures { JudgesNext how s.now starts.now layout state segments.now levels.now lasts.now result }
+    requires known_tag { KnownTag parts.bytes.now parts.starts.now parts.layout tag }
+    ensures { JudgesNext how parts.entry.bytes.now parts.entry.starts.now parts.entry.layout state records.entry.segments.now records.entry.levels.now records.entry.lasts.now result }
 {
-    let row = next::row_after(table, state.row, state.again, tag);
-    if row == 0 {
-        return Judgement::Broken(7, 0);
-    }
-    let chosen = how.profile;
-    if !profile::admits(chosen, row) {
-        return Judgement::Broken(24, 0);
+    let Some(row) = next::row_after(table, state.row, state.again, tag) else {
+        return Err(NO_ROW);
+    };
+    if !profile::admits(how.profile, row) {
+        return Err(OUTSIDE_PROFILE);
     }
     if rules::is_plain(tag) {
-        return Judgement::Other(row);
+        return Ok(Judgement::Other(row));
     }
-    match ruled::ruled_verdict(s, starts, layout, how.separators.component, chosen, tag) {
-        Verdict::Broken(number, element) => Judgement::Broken(number, element),
-        Verdict::Holds => judge_late(
-            s, how, starts, layout, state, segments, levels, lasts, tag, row,
-        ),
-    }
+    ruled::ruled_verdict(parts, how.separators.component, how.profile, tag)?;
+    judge_late(how, parts, state, records, tag, row)
 }
 
-// What the rules say of the next segment, by where the reader stands.
+// What the rules say of the next segment, by where the reader stands: the first that it breaks, or what it is.
 #[tactic(auto, using(crate::proofs::reader::JudgeSteps::tag_refused))]
 pub(crate) fn judge(
-    s: &[u8],
     how: How,
     table: &[u8; ENTRIES],
-    starts: &[usize; 33],
-    layout: Layout,
+    parts: Parts,
     state: State,
-    segments: &[u64],
-    levels: &[u64],
-    lasts: &[u32; LISTS],
-) -> Judgement
+    records: Records,
+) -> Result<Judgement, Fault>
     requires next_table { NextTable table.now }
-    requires inside { Inside s.now layout }
-    ensures { JudgesNext how s.now starts.now layout state segments.now levels.now lasts.now result }
+    requires inside { Inside parts.bytes.now parts.layout }
+    ensures { JudgesNext how parts.entry.bytes.now parts.entry.starts.now parts.entry.layout state records.entry.segments.now records.entry.levels.now records.entry.lasts.now result }
 {
-    let tag = tag_of(s, starts, layout);
+    let tag = tag_of(parts);
     if tags::NO_TAG <= tag {
-        return Judgement::Broken(4, 0);
+        return Err(UNKNOWN_TAG);
     }
-    if !layout.ended {
-        return bad_end(s, how, layout);
+    if !parts.layout.ended {
+        return Err(bad_end(how.separators, parts));
     }
-    judge_known(
-        s, how, table, starts, layout, state, segments, levels, lasts, tag,
-    )
+    judge_known(how, table, parts, state, records, tag)
 }

@@ -1,44 +1,58 @@
 // Judging an HL by the levels before it.
-ghost use Rattle.levels.specs.Profile.{level_profile};
+ghost use Rattle.gate.specs.Profile.{profile_of};
 ghost use Rattle.reading.specs.internal.Judgements.{JudgesLevel};
 
-use elements::layout;
-use elements::layout::Layout;
-use finding::lists::LISTS;
+use crate::judging::Records;
+use elements::layout::Parts;
+use elements::verdict::Fault;
+use finding::known::Known;
 use finding::{lists, parents, search};
+use gate::how::How;
 use levels::judging;
-use levels::judging::Judged;
-use rows::profile::ProfileName;
+use levels::judging::Entitled;
 
-// What the rules of levels say of the HL by the profile, where `place` is the list that its HL01 belongs to.
+// The faults of an HL that its names alone tell: an HL01 that an HL before it has, and an HL02 that none has.
+const USED_ID: Fault = Fault {
+    number: 12,
+    element: 1,
+};
+
+const NO_PARENT: Fault = Fault {
+    number: 13,
+    element: 2,
+};
+
+// What the rules of levels say of the HL, where `place` is the list that its HL01 belongs to.
 pub(crate) fn judge_level(
-    s: &[u8],
-    separator: u8,
-    profile: ProfileName,
-    starts: &[usize; 33],
-    layout: Layout,
+    how: How,
+    parts: Parts,
     place: usize,
-    segments: &[u64],
-    levels: &[u64],
-    lasts: &[u32; LISTS],
-) -> Judged
-    ensures { JudgesLevel (level_profile profile) s.now separator starts.now layout place segments.now levels.now lasts.now result }
+    records: Records,
+) -> Result<Entitled, Fault>
+    ensures { JudgesLevel (profile_of how).levels parts.entry.bytes.now how.separators.element parts.entry.starts.now parts.entry.layout place
+        records.entry.segments.now records.entry.levels.now records.entry.lasts.now result }
 {
-    let id = layout::element(s, starts, layout, 1);
-    if search::find(s, separator, segments, levels, lasts, place, id) != 0 {
-        return Judged::Refused(12, 1);
+    let known = Known {
+        bytes: parts.bytes,
+        separator: how.separators.element,
+        segments: records.segments,
+        levels: records.levels,
+        lasts: records.lasts,
+    };
+    let id = parts.element(1);
+    if search::find(known, place, id).is_some() {
+        return Err(USED_ID);
     }
-    let parent = layout::element(s, starts, layout, 2);
-    let code = layout::element(s, starts, layout, 3);
-    let mark = layout::element(s, starts, layout, 4);
-    if parent.len() == 0 {
-        return judging::judge_root(profile, code, mark);
+    let parent = parts.element(2);
+    let code = parts.element(3);
+    let mark = parts.element(4);
+    if parent.is_empty() {
+        return judging::judge_root(how.profile, code, mark);
     }
     let hung = lists::place_of(parent);
-    let above = search::find(s, separator, segments, levels, lasts, hung, parent);
-    if above == 0 {
-        return Judged::Refused(13, 2);
-    }
-    let found = parents::parent_at(levels, above);
-    judging::judge_child(profile, found, code, mark)
+    let Some(above) = search::find(known, hung, parent) else {
+        return Err(NO_PARENT);
+    };
+    let found = parents::parent_at(records.levels, above);
+    judging::judge_child(how.profile, found, code, mark)
 }

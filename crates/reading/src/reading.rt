@@ -7,27 +7,53 @@ ghost use Rattle.elements.specs.Checks.{first_broken};
 ghost use Rattle.elements.specs.Rules.{data_checks};
 ghost use Rattle.reading.specs.internal.SpecialBytes.{SpecialTable};
 ghost use Rattle.gate.specs.Profile.{profile_of};
-ghost use Rattle.gate.specs.declared.answer.Answer.TheVariants.{Refused};
+ghost use Rattle.gate.specs.Answers.{refused};
 ghost use Rattle.gate.specs.Reads.{limit, Read, Reads};
 ghost use Rattle.finding.specs.internal.Notes.{cleared};
 ghost use Rattle.reading.specs.internal.Cutting.{cut_out};
-ghost use Rattle.reading.specs.internal.Settling.{refused_by};
+ghost use Rattle.reading.specs.internal.Settling.{refused_by, uncut_refused, UncutWithin};
 
-use crate::cutting::{Left, Next};
-use crate::judging::State;
-use crate::settling::Step;
+use crate::cutting::{Left, Uncut};
+use crate::judging::{Records, State};
 use crate::{between, cutting, judging, settling};
+use elements::layout::Parts;
 use elements::segment;
-use elements::verdict::Verdict;
+use elements::verdict::Fault;
 use finding::lists::LISTS;
 use finding::notes;
-use gate::answer::Answer;
+use gate::answer::{Answer, Refusal};
 use gate::how::How;
 use numbering::next;
 use rows::list::ENTRIES;
+use std::ops::ControlFlow;
 
 // The longest input.
 pub const LIMIT: usize = 1048576;
+
+// The separators serve no reading; the input is too long.
+const UNFIT: Refusal = Refusal {
+    number: 1,
+    segment: 0,
+    byte: 0,
+    element: 0,
+};
+
+const TOO_LONG: Refusal = Refusal {
+    number: 2,
+    segment: 0,
+    byte: 0,
+    element: 0,
+};
+// The bytes end before a terminator.
+const UNENDED: Fault = Fault {
+    number: 3,
+    element: 0,
+};
+// A byte that may not stand in a segment, where no element is named for it.
+const BAD_BYTE: Fault = Fault {
+    number: 5,
+    element: 0,
+};
 
 // How a reading ended: the answer, and how many levels have a record.
 #[derive(Clone, Copy, Drop)]
@@ -37,16 +63,16 @@ struct Ended {
 }
 
 // A refusal behind `count` segments.
-fn refused(number: usize, count: usize, at: usize, element: usize) -> Answer
+fn refused(fault: Fault, count: usize, at: usize) -> Answer
     requires { count ≤ 9000000000000000000 }
-    ensures { result ≡ Refused number (count + 1) at element }
+    ensures { result ≡ refused fault.number (count + 1) at fault.element }
 {
-    Answer::Refused {
-        number,
+    Err(Refusal {
+        number: fault.number,
         segment: count + 1,
         byte: at,
-        element,
-    }
+        element: fault.element,
+    })
 }
 
 // Rule 5 broken by the segment from `at` to `end`, behind `count` segments: the answer with its element.
@@ -57,8 +83,27 @@ fn bad_bytes(s: &[u8], how: How, at: usize, end: usize, count: usize) -> Answer
     ensures { result ≡ refused_by (first_broken (data_checks (plain_view how.separators (cut_out s.now at end)))) count at }
 {
     match segment::byte_verdict(&s[at..end], how.separators) {
-        Verdict::Broken(number, element) => refused(number, count, at, element),
-        Verdict::Holds => refused(5, count, at, 0),
+        Err(fault) => refused(fault, count, at),
+        Ok(()) => refused(BAD_BYTE, count, at),
+    }
+}
+
+// The refusal where no segment was cut at `at`, behind `count` segments.
+fn uncut_refused(s: &[u8], how: How, uncut: Uncut, at: usize, count: usize) -> Answer
+    requires within { UncutWithin s.now at uncut }
+    requires count_bound { count ≤ 9000000000000000000 }
+    ensures { result ≡ uncut_refused how s.now at count uncut }
+{
+    match uncut {
+        Uncut::Open => refused(UNENDED, count, at),
+        Uncut::Bad(end) => bad_bytes(s, how, at, end, count),
+        Uncut::Broken(element) => {
+            let fault = Fault {
+                number: 10,
+                element,
+            };
+            refused(fault, count, at)
+        }
     }
 }
 
@@ -87,42 +132,45 @@ fn read_on(
     loop {
         let onward = between::next_start(s, how, behind, left);
         let at = onward.at;
-        match cutting::next_segment(s, specials, how.separators, onward, &mut queue, &mut starts) {
-            Next::Open => {
+        let cut = match cutting::next_segment(
+            s,
+            specials,
+            how.separators,
+            onward,
+            &mut queue,
+            &mut starts,
+        ) {
+            Ok(cut) => cut,
+            Err(uncut) => {
                 return Ended {
-                    answer: refused(3, state.count, at, 0),
+                    answer: uncut_refused(s, how, uncut, at, state.count),
                     levels: state.levels,
                 };
             }
-            Next::Bad(end) => {
+        };
+        let layout = cut.layout;
+        let parts = Parts {
+            bytes: s,
+            starts: &starts,
+            layout,
+        };
+        let records = Records {
+            segments,
+            levels,
+            lasts: &lasts,
+        };
+        let judged = judging::judge(how, table, parts, state, records);
+        match settling::settle(judged, layout, state, segments, levels, &mut lasts) {
+            ControlFlow::Break(answer) => {
                 return Ended {
-                    answer: bad_bytes(s, how, at, end, state.count),
+                    answer,
                     levels: state.levels,
                 };
             }
-            Next::Broken(element) => {
-                return Ended {
-                    answer: refused(10, state.count, at, element),
-                    levels: state.levels,
-                };
-            }
-            Next::Segment(layout, remaining) => {
-                let judgement = judging::judge(
-                    s, how, table, &starts, layout, state, segments, levels, &lasts,
-                );
-                match settling::settle(judgement, layout, state, segments, levels, &mut lasts) {
-                    Step::Done(answer) => {
-                        return Ended {
-                            answer,
-                            levels: state.levels,
-                        };
-                    }
-                    Step::Passed(next) => {
-                        state = next;
-                        behind = layout.end + 1;
-                        left = remaining;
-                    }
-                }
+            ControlFlow::Continue(next) => {
+                state = next;
+                behind = layout.end + 1;
+                left = cut.left;
             }
         }
     }
@@ -136,20 +184,10 @@ pub fn read(s: &[u8], how: How, segments: &mut [u64], levels: &mut [u64]) -> Ans
         (record { segments = segments.new; levels = levels.new }) }
 {
     if !how.separators.fit() {
-        return Answer::Refused {
-            number: 1,
-            segment: 0,
-            byte: 0,
-            element: 0,
-        };
+        return Err(UNFIT);
     }
     if LIMIT < s.len() {
-        return Answer::Refused {
-            number: 2,
-            segment: 0,
-            byte: 0,
-            element: 0,
-        };
+        return Err(TOO_LONG);
     }
     let mut specials: [bool; 256] = [false; 256];
     cutting::set_special(&mut specials, how.separators);

@@ -7,17 +7,19 @@ use crate::judging::{Judgement, State};
 use crate::storing;
 use crate::storing::NewLevel;
 use elements::layout::Layout;
+use elements::verdict::Fault;
 use finding::lists::LISTS;
-use gate::answer::Answer;
+use gate::answer::{Accepted, Answer, Refusal};
+use std::ops::ControlFlow;
 
-// What became of the next segment.
-#[derive(Clone, Copy, Drop)]
-pub(crate) enum Step {
-    // The reading ends with this answer.
-    Done(Answer),
-    // The segment was passed, and the reader carries this.
-    Passed(State),
-}
+// What became of the next segment: the reading ends with an answer, or the reader goes on and carries this.
+pub(crate) type Step = ControlFlow<Answer, State>;
+
+// No room for a record.
+const NO_ROOM: Fault = Fault {
+    number: 17,
+    element: 0,
+};
 
 // What the reader carries after one segment more.
 fn after(state: State, row: u8, levels: usize) -> State
@@ -33,16 +35,16 @@ fn after(state: State, row: u8, levels: usize) -> State
 }
 
 // A refusal at the segment.
-fn refusal(number: usize, layout: Layout, state: State, element: usize) -> Step
+fn refusal(fault: Fault, layout: Layout, state: State) -> Step
     requires { state.count < 9000000000000000000 }
-    ensures { result ≡ refused_at number layout state element }
+    ensures { result ≡ refused_at fault.number layout state fault.element }
 {
-    Step::Done(Answer::Refused {
-        number,
+    ControlFlow::Break(Err(Refusal {
+        number: fault.number,
         segment: state.count + 1,
         byte: layout.at,
-        element,
-    })
+        element: fault.element,
+    }))
 }
 
 // Acceptance with this segment as the last: how many segments and levels there are, and the bytes up to its terminator.
@@ -51,11 +53,11 @@ fn acceptance(layout: Layout, state: State) -> Step
     requires count_bound { state.count < 9000000000000000000 }
     ensures { result ≡ accepted_at layout state }
 {
-    Step::Done(Answer::Accepted {
+    ControlFlow::Break(Ok(Accepted {
         segments: state.count + 1,
         levels: state.levels,
         bytes: layout.end + 1,
-    })
+    }))
 }
 
 // Passes a segment that makes no level, where there is room for its record. It belongs to the latest level, if there is one.
@@ -65,10 +67,10 @@ fn pass_other(row: u8, layout: Layout, state: State, segments: &mut [u64]) -> St
     ensures { SettlesOther row layout state segments.old segments.new result }
 {
     if !storing::segment_room(segments, state.count) {
-        return refusal(17, layout, state, 0);
+        return refusal(NO_ROOM, layout, state);
     }
     storing::put_segment(segments, state.count, layout, row, state.levels);
-    Step::Passed(after(state, row, state.levels))
+    ControlFlow::Continue(after(state, row, state.levels))
 }
 
 // Passes a segment that makes a level, where there is room for both records. It belongs to the level that it makes.
@@ -85,15 +87,15 @@ fn pass_level(
     ensures { SettlesLevel row level layout state segments.old levels.old lasts.old segments.new levels.new lasts.new result }
 {
     if !storing::segment_room(segments, state.count) {
-        return refusal(17, layout, state, 0);
+        return refusal(NO_ROOM, layout, state);
     }
     if !storing::level_room(levels, state.levels) {
-        return refusal(17, layout, state, 0);
+        return refusal(NO_ROOM, layout, state);
     }
     let number = state.levels + 1;
     storing::put_segment(segments, state.count, layout, row, number);
     storing::put_level(levels, lasts, state.levels, state.count + 1, level);
-    Step::Passed(after(state, row, number))
+    ControlFlow::Continue(after(state, row, number))
 }
 
 // Accepts with this segment as the last, where there is room for its record. It belongs to no level.
@@ -104,15 +106,15 @@ fn close(row: u8, layout: Layout, state: State, segments: &mut [u64]) -> Step
     ensures { SettlesLast row layout state segments.old segments.new result }
 {
     if !storing::segment_room(segments, state.count) {
-        return refusal(17, layout, state, 0);
+        return refusal(NO_ROOM, layout, state);
     }
     storing::put_segment(segments, state.count, layout, row, 0);
     acceptance(layout, state)
 }
 
-// What the judgement on the segment that the layout names does.
+// What the rules say of the segment that the layout names does.
 pub(crate) fn settle(
-    judgement: Judgement,
+    judged: Result<Judgement, Fault>,
     layout: Layout,
     state: State,
     segments: &mut [u64],
@@ -120,14 +122,14 @@ pub(crate) fn settle(
     lasts: &mut [u32; LISTS],
 ) -> Step
     requires { InRoom segments.old levels.old layout state }
-    ensures { SettlesBy judgement layout state segments.old levels.old lasts.old segments.new levels.new lasts.new result }
+    ensures { SettlesBy judged layout state segments.old levels.old lasts.old segments.new levels.new lasts.new result }
 {
-    match judgement {
-        Judgement::Broken(number, element) => refusal(number, layout, state, element),
-        Judgement::Other(row) => pass_other(row, layout, state, segments),
-        Judgement::Level { row, level } => {
+    match judged {
+        Err(fault) => refusal(fault, layout, state),
+        Ok(Judgement::Other(row)) => pass_other(row, layout, state, segments),
+        Ok(Judgement::Level { row, level }) => {
             pass_level(row, level, layout, state, segments, levels, lasts)
         }
-        Judgement::Last(row) => close(row, layout, state, segments),
+        Ok(Judgement::Last(row)) => close(row, layout, state, segments),
     }
 }

@@ -1,12 +1,12 @@
 // Storing the records of a segment and of a level in the lent tables.
-ghost use Rattle.std.specs.Prelude.{◌≡◌, [], ◌∷◌, ◌+◌, ◌-◌, ◌/◌, ◌≤◌, ◌<◌, ltb, length, set};
-ghost use Rattle.std.proofs.lemmas.List.Edits.{sets};
+ghost use Rattle.std.specs.Prelude.{◌≡◌, [], ◌∷◌, ◌++◌, ◌+◌, ◌-◌, ◌/◌, ◌≤◌, ◌<◌, ltb, length, take, drop};
 ghost use Rattle.levels.specs.Widths.{segment_width, level_width};
 ghost use Rattle.finding.specs.internal.Entries.{stored_at};
 ghost use Rattle.reading.specs.internal.Entering.{levels_with, lasts_with};
 
 use elements::layout::Layout;
 use finding::lists::LISTS;
+use finding::notes::Asks;
 use finding::{lists, notes};
 use levels::widths::{LEVEL_WIDTH, SEGMENT_WIDTH};
 
@@ -17,7 +17,7 @@ pub(crate) struct NewLevel {
     pub parent: usize,
     pub depth: usize,
     pub code: usize,
-    pub asks: usize,
+    pub asks: Asks,
     pub place: usize,
 }
 
@@ -35,23 +35,13 @@ pub(crate) fn level_room(levels: &[u64], n: usize) -> bool
     n < levels.len() / LEVEL_WIDTH
 }
 
-// Stores one number of a record.
-fn store(table: &mut [u64], at: usize, number: usize)
-    requires { at < length table.old }
-    ensures { table.new ≡ set table.old at number }
-{
-    table[at] = number as u64;
-}
-
 // Stores the four numbers of a record, one behind the other.
-fn store_four(table: &mut [u64], at: usize, a: usize, b: usize, c: usize, d: usize)
+#[tactic(auto, using(crate::proofs::reader::Stores::four_stored))]
+fn store_four(table: &mut [u64], at: usize, numbers: [u64; 4])
     requires { at + 4 ≤ length table.old }
-    ensures { table.new ≡ sets table.old at (a ∷ b ∷ c ∷ d ∷ []) }
+    ensures { table.new ≡ take at table.old ++ (numbers ++ drop (at + 4) table.old) }
 {
-    store(table, at, a);
-    store(table, at + 1, b);
-    store(table, at + 2, c);
-    store(table, at + 3, d);
+    table[at..at + 4].copy_from_slice(&numbers);
 }
 
 // Start, length and row of a segment, and the level it belongs to, behind the first n records.
@@ -61,14 +51,8 @@ pub(crate) fn put_segment(segments: &mut [u64], n: usize, layout: Layout, row: u
     ensures { segments.new ≡ stored_at segment_width segments.old n (layout.at ∷ (layout.end - layout.at) ∷ row ∷ level ∷ []) }
 {
     let len = layout.end - layout.at;
-    store_four(
-        segments,
-        n * SEGMENT_WIDTH,
-        layout.at,
-        len,
-        row as usize,
-        level,
-    );
+    let numbers = [layout.at as u64, len as u64, row as u64, level as u64];
+    store_four(segments, n * SEGMENT_WIDTH, numbers);
 }
 
 // Enters a level behind the first n: its record, with a note, and it as the last of its list; its parent's note tells that a child was met.
@@ -84,13 +68,13 @@ pub(crate) fn put_level(
 {
     let before = lists::last_in(lasts, level.place);
     notes::meet_child(levels, level.parent);
-    store_four(
-        levels,
-        n * LEVEL_WIDTH,
-        segment,
-        level.parent,
-        level.depth,
-        notes::note(level.code, level.asks, before),
-    );
+    let note = notes::note(level.code, level.asks as usize, before);
+    let numbers = [
+        segment as u64,
+        level.parent as u64,
+        level.depth as u64,
+        note as u64,
+    ];
+    store_four(levels, n * LEVEL_WIDTH, numbers);
     lists::put_last(lasts, level.place, n + 1);
 }

@@ -4,16 +4,16 @@ use Prim.Native.Nat.{ℕ}
 use mathlib.Core.Path.{◌≡◌, refl, sym, ap, subst, ◌∙◌}
 use mathlib.Core.List.{List, []}
 use lib.ListN.{length, drop}
+use Rattle.std.specs.Prelude.{Ok, Err}
 use Rattle.text.specs.Bytes.{Bytes}
 use Rattle.text.specs.Cut.{Placed}
 use Rattle.text.specs.declared.separators.Separators.{Separators}
 use Rattle.text.proofs.View.{fitted}
 use Rattle.rows.specs.declared.profile.ProfileName.{ProfileName}
+use Rattle.gate.specs.Answers.{Answer, accepted}
 use Rattle.gate.specs.Records.{Tables, segment_records}
 use Rattle.gate.specs.Reads.{Reads}
 use Rattle.gate.specs.Conditions.{Numbering, Shows, used_by}
-use Rattle.gate.specs.declared.answer.Answer.{Answer}
-use Rattle.gate.specs.declared.answer.Answer.TheVariants.{Accepted, Refused}
 use Rattle.gate.proofs.reading.Passing.{one_each}
 use Rattle.gate.proofs.conditions.Conditions.{accepted_numbered, accepted_proper, condition_2}
 use Rattle.rewriting.specs.Rewrites.{strictly, OutcomeOf, AfterAcceptance}
@@ -23,20 +23,20 @@ use Rattle.rewriting.proofs.TableRecords.{stored}
 
 -- the numbers of an acceptance
 abbrev pub bytes_of : Answer → ℕ
-bytes_of (Accepted segments levels bytes) = bytes
-bytes_of (Refused number segment byte element) = 0
+bytes_of (Ok a) = a.bytes
+bytes_of (Err r) = 0
 
 abbrev segments_told : Answer → ℕ
-segments_told (Accepted segments levels bytes) = segments
-segments_told (Refused number segment byte element) = 0
+segments_told (Ok a) = a.segments
+segments_told (Err r) = 0
 
-module _ (profile : ProfileName) (old : Separators) (s : Bytes) (before : Tables) (a l b : ℕ) (tables : Tables) (reads : Reads (strictly profile old) s before (Accepted a l b) tables) where
+module _ (profile : ProfileName) (old : Separators) (s : Bytes) (before : Tables) (a l b : ℕ) (tables : Tables) (reads : Reads (strictly profile old) s before (accepted a l b) tables) where
   -- the segments of the reading
   pub record AcceptedAs : Type 0 where
     pub gs : List Placed
     pub rows : List ℕ
     pub numbering : Numbering (strictly profile old) s gs rows
-    pub shows : Shows (strictly profile old) before gs rows (Accepted a l b) tables
+    pub shows : Shows (strictly profile old) before gs rows (accepted a l b) tables
 
   kept : AcceptedAs
   kept =
@@ -45,7 +45,7 @@ module _ (profile : ProfileName) (old : Separators) (s : Bytes) (before : Tables
         gs = m.gs;
         rows = m.rows;
         numbering = m.numbering;
-        shows = condition_2.shown (strictly profile old) s before (Accepted a l b) tables reads tt m.gs m.rows m.numbering;
+        shows = condition_2.shown (strictly profile old) s before (accepted a l b) tables reads tt m.gs m.rows m.numbering;
       }
 
   abbrev gs : List Placed
@@ -83,6 +83,6 @@ module _ (profile : ProfileName) (old : Separators) (s : Bytes) (before : Tables
 
   -- the outcome over the segments that the table names is the one that the promise asks
   pub accepting : (new : Separators) (output : Bytes) (r : Answer) (after : Bytes)
-      → OutcomeOf old new (segments_from s tables.segments 0 a) (Accepted a l b) b output r after
-      → AfterAcceptance profile old new s (Accepted a l b) b output r after
+      → OutcomeOf old new (segments_from s tables.segments 0 a) (accepted a l b) b output r after
+      → AfterAcceptance profile old new s (accepted a l b) b output r after
   accepting new output r after x = record { gs = gs; rows = kept.rows; numbering = n; outcome = rw named.0 at x }

@@ -21,9 +21,7 @@ use Rattle.text.proofs.Bins.{bin_parts}
 use Rattle.text.proofs.View.{clean_unseparated}
 use Rattle.text.proofs.BinView.{bin_view, view_bin, view_plain, inspected_bin}
 use Rattle.text.proofs.Serving.{id_bytes_free, digit_id_byte}
-use Rattle.elements.specs.Checks.{first_broken}
-use Rattle.elements.specs.declared.verdict.Verdict.{Verdict}
-use Rattle.elements.specs.declared.verdict.Verdict.TheVariants.{Holds, Broken}
+use Rattle.elements.specs.Checks.{Verdict, Holds, broken, first_broken}
 use Rattle.elements.proofs.Bytewise.{bad_from, each_bad}
 use Rattle.rewriting.specs.Rewrites.{apart_from, apart_checks, collision_checks}
 use Rattle.rewriting.specs.internal.CutOff.{AsCut}
@@ -96,7 +94,7 @@ module _ (old new : Separators) (segment : Bytes) where
 
       module _ (other : byte ≡ old.element → ⊥) where
         by_test : (t : Bool) → not (eqb byte old.component) && is_separator new byte ≡ t
-            → found ≡ cond (not t) (clash_from old new element (drop (i + 1) segment)) (Broken 18 element)
+            → found ≡ cond (not t) (clash_from old new element (drop (i + 1) segment)) (broken 18 element)
         by_test t e =
             a.so_far
             ∙ rw (add-one i, drop-cons segment i 0 inside, ne_eqb byte old.element other, tested (eqb byte old.component) (is_separator new byte), e)
@@ -104,5 +102,5 @@ module _ (old new : Separators) (segment : Bytes) where
         pub apart_more : not (eqb byte old.component) && is_separator new byte ≡ false → ApartTo element (i + 1)
         apart_more e = record { so_far = by_test false e; few = omega (arith, a.few) }
 
-        pub apart_not : not (eqb byte old.component) && is_separator new byte ≡ true → Broken 18 element ≡ found
+        pub apart_not : not (eqb byte old.component) && is_separator new byte ≡ true → broken 18 element ≡ found
         apart_not e = sym (by_test true e)

@@ -5,8 +5,8 @@ use lib.ListN.{take}
 use Rattle.text.specs.Bytes.{Bytes}
 use Rattle.text.specs.declared.separators.Separators.{Separators}
 use Rattle.rows.specs.declared.profile.ProfileName.{ProfileName}
+use Rattle.gate.specs.Answers.{accepted}
 use Rattle.gate.specs.Records.{Tables}
-use Rattle.gate.specs.declared.answer.Answer.TheVariants.{Accepted}
 use Rattle.rewriting.specs.Rewrites.{Rewrites}
 use Rattle.rewriting.specs.Conditions.{Condition1Rewriting, Condition2Rewriting}
 use Rattle.rewriting.specs.Lookups.{LookedUpAlike}
@@ -34,6 +34,6 @@ condition_2_rewriting = record {
 
 -- Document 02, Item 8: a rewriting that succeeds gives bytes in which a lookup finds the same
 pub looked_up_alike : (profile : ProfileName) (old new : Separators) (s : Bytes) (before : Tables) (output : Bytes) (segments levels bytes : ℕ) (tables : Tables) (after : Bytes)
-    → Rewrites profile old new s before output (Accepted segments levels bytes) tables after → LookedUpAlike profile old s new (take bytes after)
+    → Rewrites profile old new s before output (accepted segments levels bytes) tables after → LookedUpAlike profile old s new (take bytes after)
 looked_up_alike profile old new s before output a l b tables after x =
     looked_up profile old new s before output a l b tables after (succeeded profile old new s before output a l b tables after x)

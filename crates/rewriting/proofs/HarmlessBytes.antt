@@ -8,6 +8,8 @@ use mathlib.Core.List.{List, [], ◌∷◌}
 use native.Mathlib.Omega.{arith}
 use lib.Dec.{T, eqb}
 use lib.ListN.{length, get_or, take}
+use Rattle.std.specs.Prelude.{None}
+use Rattle.std.specs.List.{fold}
 use Rattle.text.specs.Bytes.{Bytes, every}
 use Rattle.text.specs.Separators.{is_separator, Fitted}
 use Rattle.text.specs.Bin.{is_bin}
@@ -20,13 +22,10 @@ use Rattle.text.proofs.Everys.{every_at, every_both}
 use Rattle.text.proofs.View.{plain_unseparated}
 use Rattle.text.proofs.BinCut.{Plainly, cut_gives}
 use Rattle.text.proofs.Writable.{plain_inspected}
-use Rattle.elements.specs.Checks.{first_broken}
-use Rattle.elements.specs.declared.verdict.Verdict.{Verdict}
-use Rattle.elements.specs.declared.verdict.Verdict.TheVariants.{Holds, Broken}
+use Rattle.elements.specs.Checks.{Verdict, Holds, broken, first_broken}
 use Rattle.elements.proofs.FirstBroken.{each_holds}
 use Rattle.gate.specs.Conditions.{used_by}
 use Rattle.rewriting.specs.Rewrites.{apart_from, apart_checks, collision_checks, collision}
-use Rattle.rewriting.specs.declared.collisions.Clash.TheVariants.{Nowhere}
 use Rattle.rewriting.specs.internal.CutOff.{LedStrictly, CutOff, AsCut}
 use Rattle.rewriting.specs.internal.QuickTest.{harmless_byte}
 use Rattle.rewriting.specs.internal.Output.{stretch}
@@ -42,31 +41,15 @@ as_cut old fit s segment more e n = by (cut_gives old fit s segment more e)
     by (inl h) = absurd (subst (λ (b : Bool). T b) n h)
     by (inr p) = plain_inspected old fit segment p
 
+-- a fold that asks each byte
+pub fold_every : (f : ℕ → Bool) (so_far : Bool) (s : Bytes) → fold (λ (x : Bool) (b : ℕ). x && f b) so_far s ≡ so_far && every f s
+fold_every f so_far [] = sym (and_true so_far)
+fold_every f so_far (b ∷ s) = fold_every f (so_far && f b) s ∙ and_assoc so_far (f b) (every f s)
+
 module _ (old new : Separators) where
-  -- of the bytes from `from` up to `to` those before i are tested
-  module _ (s : Bytes) (from to : ℕ) where
-    pub record TestedTo (so_far : Bool) (i : ℕ) : Type 0 where
-      pub inside : to ≤ length s
-      pub all : every (harmless_byte old new) (stretch from to s) ≡ so_far && every (harmless_byte old new) (stretch i to s)
-
-    pub tested_none : to ≤ length s → TestedTo true from
-    tested_none l = record { inside = l; all = refl }
-
-    module _ {so_far : Bool} {i : ℕ} (t : TestedTo so_far i) where
-      pub tested_more : i < to → TestedTo (so_far && harmless_byte old new (get_or s i 0)) (i + 1)
-      tested_more l =
-          let f = harmless_byte old new in
-          record {
-            inside = t.inside;
-            all = t.all ∙ rw (stretch_next s to i t.inside l) (sym (and_assoc so_far (f (get_or s i 0)) (every f (stretch (i + 1) to s))));
-          }
-
-      pub tested_all : to ≤ i → so_far ≡ every (harmless_byte old new) (stretch from to s)
-      tested_all l = sym (t.all ∙ rw (stretch_none s to i l) (and_true so_far))
-
   -- one byte: it separates elements, or components, or is harmless and no old separator
   spared : (e c is_new is-old : Bool) (k : ℕ) {x y x' y' : Verdict} → T (not is_new || is-old) → (x ≡ Holds → x' ≡ Holds) → (y ≡ Holds → y' ≡ Holds)
-      → cond e x (cond (c || not is-old) y (Broken 18 k)) ≡ Holds → cond e x' (cond (c || not is_new) y' (Broken 18 k)) ≡ Holds
+      → cond e x (cond (c || not is-old) y (broken 18 k)) ≡ Holds → cond e x' (cond (c || not is_new) y' (broken 18 k)) ≡ Holds
   spared true c is_new is-old k h f g z = f z
   spared false true is_new is-old k h f g z = g z
   spared false false false false k h f g z = g z
@@ -104,7 +87,7 @@ module _ (old new : Separators) where
 
     -- and so it is of all segments that were read
     pub harmless_nowhere : (n at : ℕ) (s : Bytes) (gs : List Placed) (end : ℕ) (rest : Bytes) → LedStrictly old at s gs end rest
-        → T (every (harmless_byte old new) (closed old.terminator (texts gs))) → collision old new n gs ≡ Nowhere
+        → T (every (harmless_byte old new) (closed old.terminator (texts gs))) → collision old new n gs ≡ None
     harmless_nowhere n at s [] end rest l h = refl
     harmless_nowhere n at s (g ∷ gs) end rest l h =
         let f = harmless_byte old new in
@@ -119,9 +102,7 @@ module _ (old new : Separators) where
 
 -- what the quick test tells of the bytes that segments use
 pub harmless_used : (old new : Separators) (s : Bytes) (gs : List Placed) → CutOff old s gs → Fitted new → (bytes : ℕ) → bytes ≡ used_by gs
-    → every (harmless_byte old new) (stretch 0 bytes s) ≡ true → collision old new 1 gs ≡ Nowhere
+    → every (harmless_byte old new) (take bytes s) ≡ true → collision old new 1 gs ≡ None
 harmless_used old new s gs c new_fit bytes b h =
-    let same : bytes - 0 ≡ used_by gs = omega (arith, b) in
-    let used : stretch 0 bytes s ≡ closed old.terminator (texts gs) =
-    ap (λ (n : ℕ). take n s) same ∙ used_taken old s gs c.end c.rest c.leads in
+    let used : take bytes s ≡ closed old.terminator (texts gs) = rw b (used_taken old s gs c.end c.rest c.leads) in
     harmless_nowhere old new c.fit new_fit 1 0 s gs c.end c.rest c.leads (rw (← used, h) tt)

@@ -8,6 +8,7 @@ use native.Mathlib.Omega.{arith}
 use native.Mathlib.Numerals.{add-one}
 use lib.Dec.{T}
 use lib.ListN.{take}
+use Rattle.std.specs.Prelude.{None}
 use Rattle.text.specs.Bytes.{Bytes, every}
 use Rattle.text.specs.Separators.{Fitted}
 use Rattle.text.specs.View.{view_of}
@@ -17,11 +18,9 @@ use Rattle.text.specs.declared.separators.Separators.{Separators}
 use Rattle.text.proofs.Bools.{first_of, second_of}
 use Rattle.text.proofs.Everys.{every_both}
 use Rattle.text.proofs.BinSpans.{bin_of}
-use Rattle.elements.specs.Checks.{first_broken}
-use Rattle.elements.specs.declared.verdict.Verdict.TheVariants.{Holds}
+use Rattle.elements.specs.Checks.{Holds, first_broken}
 use Rattle.gate.specs.Conditions.{used_by}
 use Rattle.rewriting.specs.Rewrites.{collision_checks, collision}
-use Rattle.rewriting.specs.declared.collisions.Clash.TheVariants.{Nowhere}
 use Rattle.rewriting.specs.declared.table.Part.{Part}
 use Rattle.rewriting.specs.internal.SegmentTable.{segment_in, segments_from, attached_part, NamesFrom}
 use Rattle.rewriting.specs.internal.CutOff.{CutOff}
@@ -108,7 +107,7 @@ module _ (s : Bytes) (table : List ℕ) (count : ℕ) (old new : Separators) whe
 
     -- none is ahead
     pub tested_end : (bytes : ℕ) → count ≤ k → bytes ≡ used_by all → (test : Bool) → test ≡ fine (stretch from bytes s) → so_far && test ≡ true
-        → collision old new 1 all ≡ Nowhere
+        → collision old new 1 all ≡ None
     tested_end bytes l b test e h =
         let both : T (so_far && test) = rw h tt in
         w.told (first_of so_far test both) (rw (e, last_bytes s table count old w.runs bytes l b) at (second_of so_far test both))

@@ -7,41 +7,40 @@ use mathlib.Core.List.{List}
 use native.Mathlib.Omega.{arith}
 use lib.Dec.{leb}
 use lib.ListN.{length}
+use Rattle.std.specs.Prelude.{Option, Some, None, Ok, Err}
 use Rattle.text.specs.Bytes.{Bytes}
 use Rattle.text.specs.Separators.{fit_separators}
 use Rattle.text.specs.Cut.{Placed}
 use Rattle.text.specs.declared.separators.Separators.{Separators}
 use Rattle.rows.specs.declared.profile.ProfileName.{ProfileName}
 use Rattle.gate.specs.Profile.{profile_named}
+use Rattle.gate.specs.Answers.{Answer}
 use Rattle.gate.specs.Records.{Tables}
-use Rattle.gate.specs.declared.answer.Answer.{Answer}
-use Rattle.gate.specs.declared.answer.Answer.TheVariants.{Accepted, Refused}
 use Rattle.gate.proofs.reading.Numbers.{refusal_once}
 use Rattle.gate.proofs.reading.Once.{reads_once}
 use Rattle.gate.proofs.conditions.Conditions.{numbering_once}
 use Rattle.rewriting.specs.Rewrites.{strictly, rewritten, collision, Outcome, OutcomeOf, AfterReading, Rewriting, Unfit, RewritesFit, Rewrites}
 use Rattle.rewriting.specs.declared.collisions.Clash.{Clash}
-use Rattle.rewriting.specs.declared.collisions.Clash.TheVariants.{At, Nowhere}
 
-outcome_once : (x : Clash) (room : Bool) (accepted : Answer) (new output : Bytes) (r r' : Answer) (after after' : Bytes)
-    → Outcome x room accepted new output r after → Outcome x room accepted new output r' after' → (r ≡ r') × (after ≡ after')
+outcome_once : (x : Option Clash) (room : Bool) (told : Answer) (new output : Bytes) (r r' : Answer) (after after' : Bytes)
+    → Outcome x room told new output r after → Outcome x room told new output r' after' → (r ≡ r') × (after ≡ after')
 unfolding Outcome
-outcome_once (At k b e) room accepted new output r r' after after' x y =
-    (refusal_once r r' 18 k b e (omega arith) x.0 y.0, x.1 ∙ sym y.1)
-outcome_once Nowhere false accepted new output r r' after after' x y = (refusal_once r r' 19 0 0 0 (omega arith) x.0 y.0, x.1 ∙ sym y.1)
-outcome_once Nowhere true accepted new output r r' after after' x y = (x.0 ∙ sym y.0, x.1 ∙ sym y.1)
+outcome_once (Some clash) room told new output r r' after after' x y =
+    (refusal_once r r' 18 clash.segment clash.byte clash.element (omega arith) x.0 y.0, x.1 ∙ sym y.1)
+outcome_once None false told new output r r' after after' x y = (refusal_once r r' 19 0 0 0 (omega arith) x.0 y.0, x.1 ∙ sym y.1)
+outcome_once None true told new output r r' after after' x y = (x.0 ∙ sym y.0, x.1 ∙ sym y.1)
 
 module _ (profile : ProfileName) (old new : Separators) (s : Bytes) (before : Tables) (output : Bytes) where
   -- an accepted reading has one numbering, and the rest follows from its segments
   reading_once : (answer : Answer) (r r' : Answer) (after after' : Bytes) → AfterReading profile old new s answer output r after
       → AfterReading profile old new s answer output r' after' → (r ≡ r') × (after ≡ after')
-  reading_once (Accepted a l b) r r' after after' x y =
+  reading_once (Ok a) r r' after after' x y =
       let gs = (numbering_once (strictly profile old) s x.gs y.gs x.rows y.rows x.numbering y.numbering).0 in
-      outcome_once (collision old new 1 y.gs) (leb b (length output)) (Accepted a l b) (rewritten old new y.gs) output r r' after after'
-      (subst (λ (gs : List Placed). OutcomeOf old new gs (Accepted a l b) b output r after) gs
+      outcome_once (collision old new 1 y.gs) (leb a.bytes (length output)) (Ok a) (rewritten old new y.gs) output r r' after after'
+      (subst (λ (gs : List Placed). OutcomeOf old new gs (Ok a) a.bytes output r after) gs
       x.outcome)
       y.outcome
-  reading_once (Refused n k b e) r r' after after' x y = (x.0 ∙ sym y.0, x.1 ∙ sym y.1)
+  reading_once (Err refusal) r r' after after' x y = (x.0 ∙ sym y.0, x.1 ∙ sym y.1)
 
   -- the answer, the tables and the output of a rewriting are one
   pub rewrites_once : (r r' : Answer) (tables tables' : Tables) (after after' : Bytes) → Rewrites profile old new s before output r tables after

@@ -17,10 +17,10 @@ use Rattle.text.specs.Separators.{Fitted}
 use Rattle.rows.specs.declared.profile.ProfileName.{ProfileName}
 use Rattle.gate.specs.Profile.{profile_named}
 use Rattle.gate.specs.Segments.{seen, onto, levels_in}
+use Rattle.gate.specs.Answers.{accepted}
 use Rattle.gate.specs.Records.{Tables, recorded}
 use Rattle.gate.specs.Reads.{limit, Reads}
 use Rattle.gate.specs.Conditions.{Numbering, used_by, Shows, HasRoom}
-use Rattle.gate.specs.declared.answer.Answer.TheVariants.{Accepted}
 use Rattle.gate.proofs.conditions.Conditions.{accepted_numbered, accepted_proper, meets_accepted, numbering_once}
 use Rattle.rewriting.specs.Rewrites.{strictly, rewritten}
 use Rattle.rewriting.specs.internal.CutOff.{LedStrictly}
@@ -61,8 +61,8 @@ module _ (profile : ProfileName) (old new : Separators) (s : Bytes) (before : Ta
       let m = accepted_numbered (strictly profile old) s before a l b tables x.reads in
       rw (numbering_once (strictly profile old) s x.gs m.gs x.rows m.rows n m.numbering).0 m.room
 
-  shows : Shows (strictly profile old) before x.gs x.rows (Accepted a l b) tables
-  shows = meets_accepted (strictly profile old) s before x.gs x.rows x.old_fit short n room (Accepted a l b) tables x.reads
+  shows : Shows (strictly profile old) before x.gs x.rows (accepted a l b) tables
+  shows = meets_accepted (strictly profile old) s before x.gs x.rows x.old_fit short n room (accepted a l b) tables x.reads
 
   pub used : b ≡ used_by x.gs
   used = ap bytes_of shows.answer
@@ -110,7 +110,7 @@ module _ (profile : ProfileName) (old new : Separators) (s : Bytes) (before : Ta
   room_again : HasRoom (strictly profile new) before renewed
   room_again = rw views room
 
-  answer_again : Accepted a l b ≡ Accepted (length renewed) (length (levels_in (profile_named profile) (onto [] (seen (strictly profile new) renewed)))) (used_by renewed)
+  answer_again : accepted a l b ≡ accepted (length renewed) (length (levels_in (profile_named profile) (onto [] (seen (strictly profile new) renewed)))) (used_by renewed)
   answer_again = shows.answer ∙ rw (views, same_used old new old_fitted new_fitted x.gs keep, length-map)
 
   tables_again : recorded (profile_named profile) (strictly profile new) before renewed x.rows ≡ tables
@@ -126,7 +126,7 @@ module _ (profile : ProfileName) (old new : Separators) (s : Bytes) (before : Ta
     short,
   )
 
-  pub reads_back : ReadsTo (strictly profile new) (take b after) before (Accepted a l b) tables
+  pub reads_back : ReadsTo (strictly profile new) (take b after) before (accepted a l b) tables
   reads_back r t y =
       let z : Reads (strictly profile new) out before r t = rw taken_again at y in
       let w = meets_accepted (strictly profile new) out before renewed x.rows x.new_fit short_again numbering_again room_again r t z in

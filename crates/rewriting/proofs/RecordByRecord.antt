@@ -6,16 +6,15 @@ use mathlib.Core.List.{List, [], ◌∷◌}
 use native.Mathlib.Omega.{arith}
 use native.Mathlib.Numerals.{add-one}
 use lib.ListN.{length}
+use Rattle.std.specs.Prelude.{Some, None, Err}
 use Rattle.text.specs.Bytes.{Bytes}
 use Rattle.text.specs.View.{view_of}
 use Rattle.text.specs.Cut.{Placed, Whole, cut_of}
 use Rattle.text.specs.declared.separators.Separators.{Separators}
-use Rattle.elements.specs.Checks.{first_broken}
-use Rattle.elements.specs.declared.verdict.Verdict.{Verdict}
-use Rattle.elements.specs.declared.verdict.Verdict.TheVariants.{Holds, Broken}
+use Rattle.elements.specs.Checks.{Verdict, Holds, first_broken}
+use Rattle.elements.specs.declared.verdict.Fault.{Fault}
 use Rattle.gate.specs.Conditions.{used_by}
 use Rattle.rewriting.specs.Rewrites.{collision_checks, or_later, collision}
-use Rattle.rewriting.specs.declared.collisions.Clash.TheVariants.{At, Nowhere}
 use Rattle.rewriting.specs.internal.SegmentTable.{start_in, segment_in, placed_in, segments_from, Names, NamesFrom}
 use Rattle.rewriting.specs.internal.CutOff.{LedStrictly, CutOff}
 use Rattle.rewriting.proofs.SegmentBytes.{ends, used_length}
@@ -98,9 +97,6 @@ module _ (s : Bytes) (table : List ℕ) (count : ℕ) where
     apart_start n c = record { so_far = rw all_left; at = 0; tail = s; ahead = ahead_start old n c }
 
     module _ {k : ℕ} (a : ApartBefore k) where
-      pub apart_end : count ≤ k → Nowhere ≡ collision old new 1 all
-      apart_end l = sym (a.so_far ∙ rw (none_left k l))
-
       -- what is found in the segment of record k
       module _ (segment : Bytes) (v : Verdict) (l : k < count) (is : segment ≡ segment_in s table k)
           (found : v ≡ first_broken (collision_checks new (view_of old segment))) where
@@ -109,6 +105,3 @@ module _ (s : Bytes) (table : List ℕ) (count : ℕ) where
 
         pub apart_next : v ≡ Holds → ApartBefore (k + 1)
         apart_next e = record { so_far = decided ∙ rw (e, add-one (k + 1)); at = _; tail = _; ahead = (ahead_next old a.ahead l).later }
-
-        pub apart_clash : (number element : ℕ) → v ≡ Broken number element → At (k + 1) (start_in table k) element ≡ collision old new 1 all
-        apart_clash number element e = sym (decided ∙ rw e)

@@ -8,63 +8,54 @@ use native.Mathlib.Omega.{arith}
 use lib.Dec.{T, leb}
 use lib.ListN.{length, drop}
 use borrow.Author.Tests.{leb-true}
+use Rattle.std.specs.Prelude.{Option, Some, None, Ok, Err}
 use Rattle.text.specs.Bytes.{Bytes}
 use Rattle.text.specs.Separators.{fit_separators}
 use Rattle.text.specs.Cut.{Placed}
 use Rattle.text.specs.declared.separators.Separators.{Separators}
 use Rattle.rows.specs.declared.profile.ProfileName.{ProfileName}
+use Rattle.gate.specs.Answers.{Answer, accepted}
 use Rattle.gate.specs.Records.{Tables}
 use Rattle.gate.specs.Reads.{Reads}
 use Rattle.gate.specs.Conditions.{Numbering}
-use Rattle.gate.specs.declared.answer.Answer.{Answer}
-use Rattle.gate.specs.declared.answer.Answer.TheVariants.{Accepted, Refused}
 use Rattle.rewriting.specs.Rewrites.{strictly, rewritten, collision, Outcome, AfterReading, RewritesFit, Rewrites}
 use Rattle.rewriting.specs.declared.collisions.Clash.{Clash}
-use Rattle.rewriting.specs.declared.collisions.Clash.TheVariants.{At, Nowhere}
 use Rattle.rewriting.proofs.AcceptedTable.{bytes_of}
-
--- an acceptance is no refusal
-accepted_refused : {a l b n k y e : ℕ} → Accepted a l b ≡ Refused n k y e → ⊥
-accepted_refused p = let z : ◌≡◌ {A = ℕ} 1 0 = ap is_accepted p in omega arith
-  where
-    is_accepted : Answer → ℕ
-    is_accepted (Accepted a l b) = 1
-    is_accepted (Refused n k y e) = 0
 
 pub record Success (profile : ProfileName) (old new : Separators) (s : Bytes) (before : Tables) (output : Bytes) (a l b : ℕ) (tables : Tables) (after : Bytes) : Type 0 where
   pub old_fit : T (fit_separators old)
   pub new_fit : T (fit_separators new)
-  pub reads : Reads (strictly profile old) s before (Accepted a l b) tables
+  pub reads : Reads (strictly profile old) s before (accepted a l b) tables
   pub gs : List Placed
   pub rows : List ℕ
   pub numbering : Numbering (strictly profile old) s gs rows
-  pub apart : collision old new 1 gs ≡ Nowhere
+  pub apart : collision old new 1 gs ≡ None
   pub room : b ≤ length output
   pub output_is : after ≡ rewritten old new gs ++ drop (length (rewritten old new gs)) output
 
 -- 18 and 19 are ruled out
-record Written (x : Clash) (room : Bool) (accepted : Answer) (new output : Bytes) (r : Answer) (after : Bytes) : Type 0 where
-  none : x ≡ Nowhere
+record Written (x : Option Clash) (room : Bool) (told : Answer) (new output : Bytes) (r : Answer) (after : Bytes) : Type 0 where
+  none : x ≡ None
   fits : room ≡ true
-  same : r ≡ accepted
+  same : r ≡ told
   output_is : after ≡ new ++ drop (length new) output
 
-outcome_written : (x : Clash) (room : Bool) (accepted : Answer) (new output : Bytes) (a l b : ℕ) (after : Bytes)
-    → Outcome x room accepted new output (Accepted a l b) after → Written x room accepted new output (Accepted a l b) after
+outcome_written : (x : Option Clash) (room : Bool) (told : Answer) (new output : Bytes) (a l b : ℕ) (after : Bytes)
+    → Outcome x room told new output (accepted a l b) after → Written x room told new output (accepted a l b) after
 unfolding Outcome
-outcome_written (At k y e) room accepted new output a l b after x = absurd (omega (arith, head-eq_of_cons-eq x.0))
-outcome_written Nowhere false accepted new output a l b after x = absurd (omega (arith, head-eq_of_cons-eq x.0))
-outcome_written Nowhere true accepted new output a l b after x = record { none = refl; fits = refl; same = x.0; output_is = x.1 }
+outcome_written (Some clash) room told new output a l b after x = absurd (omega (arith, head-eq_of_cons-eq x.0))
+outcome_written None false told new output a l b after x = absurd (omega (arith, head-eq_of_cons-eq x.0))
+outcome_written None true told new output a l b after x = record { none = refl; fits = refl; same = x.0; output_is = x.1 }
 
 module _ (profile : ProfileName) (old new : Separators) (s : Bytes) (before : Tables) (output : Bytes) (a l b : ℕ) (tables : Tables) (after : Bytes) where
   -- and the reading's refusals
   reading_success : T (fit_separators old) → T (fit_separators new) → (answer : Answer) → Reads (strictly profile old) s before answer tables
-      → AfterReading profile old new s answer output (Accepted a l b) after → Success profile old new s before output a l b tables after
-  reading_success old_fit new_fit (Refused n k y e) reads x = absurd (accepted_refused x.0)
-  reading_success old_fit new_fit (Accepted a' l' b') reads x =
+      → AfterReading profile old new s answer output (accepted a l b) after → Success profile old new s before output a l b tables after
+  reading_success old_fit new_fit (Err refusal) reads x = absurd (let e = x.0 in cc)
+  reading_success old_fit new_fit (Ok told) reads x =
       let w =
-      outcome_written (collision old new 1 x.gs) (leb b' (length output)) (Accepted a' l' b') (rewritten old new x.gs) output a l b after x.outcome in
-      let bytes : b ≡ b' = ap bytes_of w.same in
+      outcome_written (collision old new 1 x.gs) (leb told.bytes (length output)) (Ok told) (rewritten old new x.gs) output a l b after x.outcome in
+      let bytes : b ≡ told.bytes = ap bytes_of w.same in
       record {
         old_fit = old_fit;
         new_fit = new_fit;
@@ -73,16 +64,16 @@ module _ (profile : ProfileName) (old new : Separators) (s : Bytes) (before : Ta
         rows = x.rows;
         numbering = x.numbering;
         apart = w.none;
-        room = omega (arith, bytes, leb-true b' (length output) w.fits);
+        room = omega (arith, bytes, leb-true told.bytes (length output) w.fits);
         output_is = w.output_is;
       }
 
-  pub succeeded : Rewrites profile old new s before output (Accepted a l b) tables after → Success profile old new s before output a l b tables after
+  pub succeeded : Rewrites profile old new s before output (accepted a l b) tables after → Success profile old new s before output a l b tables after
   unfolding Rewrites
   succeeded x = fit (fit_separators old) (fit_separators new) refl refl x
     where
       fit : (old_fit new_fit : Bool) → fit_separators old ≡ old_fit → fit_separators new ≡ new_fit
-          → RewritesFit old_fit new_fit profile old new s before output (Accepted a l b) tables after → Success profile old new s before output a l b tables after
+          → RewritesFit old_fit new_fit profile old new s before output (accepted a l b) tables after → Success profile old new s before output a l b tables after
       fit false new_fit p q x = absurd (omega (arith, head-eq_of_cons-eq x.answer))
       fit true false p q x = absurd (omega (arith, head-eq_of_cons-eq x.answer))
       fit true true p q x = reading_success (rw p tt) (rw q tt) x.answer x.reads x.follows

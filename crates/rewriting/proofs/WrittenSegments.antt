@@ -6,6 +6,7 @@ use mathlib.Core.List.{List, [], ◌∷◌, ◌++◌, map}
 use native.Mathlib.Omega.{arith}
 use lib.Dec.{T}
 use lib.ListN.{length, length-append}
+use Rattle.std.specs.Prelude.{Option, None, Err}
 use Rattle.text.specs.Bytes.{Bytes, every}
 use Rattle.text.specs.Pieces.{closed}
 use Rattle.text.specs.View.{View, view_of, written, empty, inspected}
@@ -14,9 +15,7 @@ use Rattle.text.specs.declared.separators.Separators.{Separators}
 use Rattle.text.proofs.SeenAlike.{written_length, part_alike, bytes_alike, elements_alike}
 use Rattle.text.proofs.Writable.{Writable, cut_writable, writable_cut, writable_seen, writable_again}
 use Rattle.text.specs.Separators.{Fitted}
-use Rattle.elements.specs.Checks.{first_broken}
-use Rattle.elements.specs.declared.verdict.Verdict.{Verdict}
-use Rattle.elements.specs.declared.verdict.Verdict.TheVariants.{Holds, Broken}
+use Rattle.elements.specs.Checks.{Verdict, Holds, first_broken}
 use Rattle.rows.specs.declared.profile.ProfileName.{ProfileName}
 use Rattle.gate.specs.Records.{segment_records}
 use Rattle.gate.specs.Conditions.{used_by}
@@ -25,21 +24,12 @@ use Rattle.rewriting.specs.internal.CutOff.{LedStrictly}
 use Rattle.rewriting.specs.Lookups.{FoundAlike, AllFoundAlike}
 use Rattle.rewriting.specs.Rewrites.{strictly, views_by, rewritten, apart_from, collision_checks, or_later, collision}
 use Rattle.rewriting.specs.declared.collisions.Clash.{Clash}
-use Rattle.rewriting.specs.declared.collisions.Clash.TheVariants.{At, Nowhere}
 use Rattle.rewriting.proofs.SegmentBytes.{texts}
 
--- a clash is one
-clash_none : {segment byte element : ℕ} → At segment byte element ≡ Nowhere → ⊥
-clash_none e = let z : ◌≡◌ {A = ℕ} 1 0 = ap count e in omega arith
-  where
-    count : Clash → ℕ
-    count (At segment byte element) = 1
-    count Nowhere = 0
-
 -- no collision in a segment, and none in those behind it
-silent : (v : Verdict) (n byte : ℕ) (later : Clash) → or_later v n byte later ≡ Nowhere → (v ≡ Holds) × (later ≡ Nowhere)
+silent : (v : Verdict) (n byte : ℕ) (later : Option Clash) → or_later v n byte later ≡ None → (v ≡ Holds) × (later ≡ None)
 silent Holds n byte later e = (refl, e)
-silent (Broken number element) n byte later e = absurd (clash_none e)
+silent (Err fault) n byte later e = absurd (cc)
 
 -- where no test fails, no new separator stands in what is looked into
 apart_everywhere : (new : Separators) (v : View) → first_broken (collision_checks new v) ≡ Holds → T (every (apart_from new) (inspected v))
@@ -71,7 +61,7 @@ module _ (old new : Separators) (old_fit : Fitted old) (new_fit : Fitted new) wh
   AllKeep (g ∷ gs) = StaysSame g × AllKeep gs
 
   pub all_keep : (n at : ℕ) (s : Bytes) (gs : List Placed) (end : ℕ) (rest : Bytes)
-      → LedStrictly old at s gs end rest → collision old new n gs ≡ Nowhere → AllKeep gs
+      → LedStrictly old at s gs end rest → collision old new n gs ≡ None → AllKeep gs
   all_keep n at s [] end rest l e = tt
   all_keep n at s (g ∷ gs) end rest l e =
       let v = view_of old g.segment in

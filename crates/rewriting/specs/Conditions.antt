@@ -1,25 +1,23 @@
 -- What the conditions of acceptance say of rewriting, clause by clause in the tender's order, about its promise. Each is proved as one theorem.
 -- Assumes nothing.
-use Rattle.std.specs.Prelude.{ℕ, ◌≤◌, ◌≡◌, ◌⊎◌, List, length, take, drop}
+use Rattle.std.specs.Prelude.{ℕ, ◌≤◌, ◌≡◌, ◌⊎◌, List, length, take, drop, Ok, Err}
 use Rattle.text.specs.Bytes.{Bytes}
 use Rattle.text.specs.Cut.{Placed}
 use Rattle.text.specs.declared.separators.Separators.{Separators}
 use Rattle.rows.specs.declared.profile.ProfileName.{ProfileName}
 use Rattle.gate.specs.Segments.{seen}
-use Rattle.gate.specs.Answers.{RowNotInProfile}
+use Rattle.gate.specs.Answers.{Answer, accepted, RowNotInProfile}
 use Rattle.gate.specs.Records.{Tables}
 use Rattle.gate.specs.Reads.{Reads}
 use Rattle.gate.specs.Conditions.{Numbering}
-use Rattle.gate.specs.declared.answer.Answer.{Answer}
-use Rattle.gate.specs.declared.answer.Answer.TheVariants.{Accepted, Refused}
 use Rattle.gate.specs.declared.how.How.{How}
 use Rattle.rewriting.specs.Rewrites.{strictly, Rewrites}
 
 -- Condition 1
 -- the list of rewriting's answers: acceptance, and refusals 1 to 19, of a reply 24 too
 abbrev pub RewritingListed : ProfileName → Answer → Type 0
-RewritingListed profile (Accepted segments levels bytes) = Unit {0}
-RewritingListed profile (Refused number segment byte element) = (1 ≤ number) × ((number ≤ 19) ⊎ RowNotInProfile profile number)
+RewritingListed profile (Ok a) = Unit {0}
+RewritingListed profile (Err r) = (1 ≤ r.number) × ((r.number ≤ 19) ⊎ RowNotInProfile profile r.number)
 
 -- every input, either profile, every choice of separators, every table size and every output's length
 pub record Condition1Rewriting : Type 0 where
@@ -59,14 +57,14 @@ pub record WritesExactly (bytes : ℕ) (output after : Bytes) : Type 0 where
 pub record Condition2Rewriting : Type 0 where
   -- gives bytes that read back to the same elements,
   pub same_elements : (profile : ProfileName) (old new : Separators) (s : Bytes) (before : Tables) (output : Bytes) (segments levels bytes : ℕ) (tables : Tables) (after : Bytes)
-      → Rewrites profile old new s before output (Accepted segments levels bytes) tables after → SameReport profile old s new (take bytes after)
+      → Rewrites profile old new s before output (accepted segments levels bytes) tables after → SameReport profile old s new (take bytes after)
   -- with the same answer and the same tables;
   pub reads_back : (profile : ProfileName) (old new : Separators) (s : Bytes) (before : Tables) (output : Bytes) (segments levels bytes : ℕ) (tables : Tables) (after : Bytes)
-      → Rewrites profile old new s before output (Accepted segments levels bytes) tables after
-      → ReadsTo (strictly profile new) (take bytes after) before (Accepted segments levels bytes) tables
+      → Rewrites profile old new s before output (accepted segments levels bytes) tables after
+      → ReadsTo (strictly profile new) (take bytes after) before (accepted segments levels bytes) tables
   -- it writes exactly the used length;
   pub writes_exactly : (profile : ProfileName) (old new : Separators) (s : Bytes) (before : Tables) (output : Bytes) (segments levels bytes : ℕ) (tables : Tables) (after : Bytes)
-      → Rewrites profile old new s before output (Accepted segments levels bytes) tables after → WritesExactly bytes output after
+      → Rewrites profile old new s before output (accepted segments levels bytes) tables after → WritesExactly bytes output after
   -- and with the old separators given again it gives the same bytes
   pub same_bytes : (profile : ProfileName) (old : Separators) (s : Bytes) (before : Tables) (output : Bytes) (segments levels bytes : ℕ) (tables : Tables) (after : Bytes)
-      → Rewrites profile old old s before output (Accepted segments levels bytes) tables after → take bytes after ≡ take bytes s
+      → Rewrites profile old old s before output (accepted segments levels bytes) tables after → take bytes after ≡ take bytes s

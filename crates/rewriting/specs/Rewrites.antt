@@ -1,7 +1,7 @@
 -- The promise of rewriting: which answer, and what tables and output hold afterwards, for every input, either profile, both sets of
 -- separators, every table and every output. Document 01, the text behind the table of answers.
 -- Assumes nothing.
-use Rattle.std.specs.Prelude.{ℕ, suc, ◌≡◌, Bool, true, false, not, List, [], ◌∷◌, ◌++◌, map, leb, length, drop}
+use Rattle.std.specs.Prelude.{ℕ, suc, ◌≡◌, Bool, true, false, not, List, [], ◌∷◌, ◌++◌, map, leb, length, drop, Option, Some, None, Ok, Err}
 use Rattle.text.specs.Bytes.{Bytes, every}
 use Rattle.text.specs.Separators.{fit_separators, is_separator}
 use Rattle.text.specs.Pieces.{closed}
@@ -10,18 +10,13 @@ use Rattle.text.specs.Cut.{Placed}
 use Rattle.text.specs.declared.separators.Separators.{Separators}
 use Rattle.text.specs.declared.lines.LineEnds.TheVariants.{Strict}
 use Rattle.rows.specs.declared.profile.ProfileName.{ProfileName}
-use Rattle.elements.specs.Checks.{Check, each, first_broken}
-use Rattle.elements.specs.declared.verdict.Verdict.{Verdict}
-use Rattle.elements.specs.declared.verdict.Verdict.TheVariants.{Holds, Broken}
-use Rattle.gate.specs.Answers.{numbers_of}
+use Rattle.elements.specs.Checks.{Verdict, Holds, Check, each, first_broken}
+use Rattle.gate.specs.Answers.{Answer, numbers_of}
 use Rattle.gate.specs.Records.{Tables}
 use Rattle.gate.specs.Reads.{Reads}
 use Rattle.gate.specs.Conditions.{Numbering}
-use Rattle.gate.specs.declared.answer.Answer.{Answer}
-use Rattle.gate.specs.declared.answer.Answer.TheVariants.{Accepted, Refused}
 use Rattle.gate.specs.declared.how.How.{How}
 use Rattle.rewriting.specs.declared.collisions.Clash.{Clash}
-use Rattle.rewriting.specs.declared.collisions.Clash.TheVariants.{At, Nowhere}
 
 -- strict reading by this profile and these separators; rewriting reads so, whatever its caller's way with line ends is
 abbrev pub strictly : ProfileName → Separators → How
@@ -49,40 +44,39 @@ collision_checks new v = apart_checks new (inspected v)
 
 -- a clash is the place of a piece that fails: its segment's number, the byte where the segment starts, and the element. The first segment with
 -- such a piece decides, and in it the first such piece; n is the number of the first of these segments
-abbrev pub or_later : Verdict → ℕ → ℕ → Clash → Clash
+abbrev pub or_later : Verdict → ℕ → ℕ → Option Clash → Option Clash
 or_later Holds n byte later = later
-or_later (Broken number element) n byte later = At n byte element
+or_later (Err fault) n byte later = Some (record { segment = n; byte = byte; element = fault.element })
 
-abbrev pub collision : Separators → Separators → ℕ → List Placed → Clash
-collision old new n [] = Nowhere
+abbrev pub collision : Separators → Separators → ℕ → List Placed → Option Clash
+collision old new n [] = None
 collision old new n (g ∷ gs) =
     or_later (first_broken (collision_checks new (view_of old g.segment))) n g.at (collision old new (suc n) gs)
 
 -- what becomes of an accepted reading: 18, then 19 where the output has no room, both with the output as it was; else the reading's own answer,
 -- and the new bytes at the start of the output
-unfoldable pub Outcome : Clash → (room : Bool) → Answer → Bytes → Bytes → Answer → Bytes → Type 0
-Outcome (At segment byte element) room accepted new output r after =
-    (numbers_of r ≡ 18 ∷ segment ∷ byte ∷ element ∷ []) × (after ≡ output)
-Outcome Nowhere false accepted new output r after = (numbers_of r ≡ 19 ∷ 0 ∷ 0 ∷ 0 ∷ []) × (after ≡ output)
-Outcome Nowhere true accepted new output r after = (r ≡ accepted) × (after ≡ new ++ drop (length new) output)
+unfoldable pub Outcome : Option Clash → (room : Bool) → Answer → Bytes → Bytes → Answer → Bytes → Type 0
+Outcome (Some clash) room told new output r after =
+    (numbers_of r ≡ 18 ∷ clash.segment ∷ clash.byte ∷ clash.element ∷ []) × (after ≡ output)
+Outcome None false told new output r after = (numbers_of r ≡ 19 ∷ 0 ∷ 0 ∷ 0 ∷ []) × (after ≡ output)
+Outcome None true told new output r after = (r ≡ told) × (after ≡ new ++ drop (length new) output)
 
 -- and so with these segments
 abbrev pub OutcomeOf : Separators → Separators → List Placed → Answer → ℕ → Bytes → Answer → Bytes → Type 0
-OutcomeOf old new gs accepted bytes output r after =
-    Outcome (collision old new 1 gs) (leb bytes (length output)) accepted (rewritten old new gs) output r after
+OutcomeOf old new gs told bytes output r after =
+    Outcome (collision old new 1 gs) (leb bytes (length output)) told (rewritten old new gs) output r after
 
 -- an accepted reading has the segments of the one numbering that meets every rule
-pub record AfterAcceptance (profile : ProfileName) (old new : Separators) (s : Bytes) (accepted : Answer) (bytes : ℕ) (output : Bytes) (r : Answer) (after : Bytes) : Type 0 where
+pub record AfterAcceptance (profile : ProfileName) (old new : Separators) (s : Bytes) (told : Answer) (bytes : ℕ) (output : Bytes) (r : Answer) (after : Bytes) : Type 0 where
   pub gs : List Placed
   pub rows : List ℕ
   pub numbering : Numbering (strictly profile old) s gs rows
-  pub outcome : OutcomeOf old new gs accepted bytes output r after
+  pub outcome : OutcomeOf old new gs told bytes output r after
 
 -- what follows the reading's answer; a refusal is returned as it is
 abbrev pub AfterReading : ProfileName → Separators → Separators → Bytes → Answer → Bytes → Answer → Bytes → Type 0
-AfterReading profile old new s (Accepted segments levels bytes) output r after =
-    AfterAcceptance profile old new s (Accepted segments levels bytes) bytes output r after
-AfterReading profile old new s (Refused number segment byte element) output r after = (r ≡ Refused number segment byte element) × (after ≡ output)
+AfterReading profile old new s (Ok accepted) output r after = AfterAcceptance profile old new s (Ok accepted) accepted.bytes output r after
+AfterReading profile old new s (Err refusal) output r after = (r ≡ Err refusal) × (after ≡ output)
 
 -- with both sets fit: the reading, which leaves the tables, and what follows it
 pub record Rewriting (profile : ProfileName) (old new : Separators) (s : Bytes) (before : Tables) (output : Bytes) (r : Answer) (tables : Tables) (after : Bytes) : Type 0 where

@@ -4,3 +4,4 @@ pub mod SegmentTable
 pub mod Output
 pub mod QuickTest
 pub mod CutOff
+pub mod Rewritable

@@ -1,77 +1,52 @@
 // Answer 18: the first data byte that equals a new separator.
-ghost use Rattle.std.specs.Prelude.{◌≡◌, true, ◌≤◌, length};
+ghost use Rattle.std.specs.Prelude.{◌≡◌, true};
 ghost use Rattle.text.specs.Bytes.{every};
-ghost use Rattle.text.specs.Separators.{is_separator, Fitted};
+ghost use Rattle.text.specs.Separators.{Fitted};
 ghost use Rattle.text.specs.View.{view_of};
 ghost use Rattle.elements.specs.Checks.{first_broken};
-ghost use Rattle.gate.specs.Conditions.{used_by};
-ghost use Rattle.rewriting.specs.Rewrites.{collision_checks, collision};
-ghost use Rattle.rewriting.specs.internal.SegmentTable.{segments_from, NamesFrom};
-ghost use Rattle.rewriting.specs.internal.CutOff.{AsCut, CutOff};
+ghost use Rattle.rewriting.specs.Rewrites.{collision_checks};
+ghost use Rattle.rewriting.specs.internal.CutOff.{AsCut};
+ghost use Rattle.rewriting.specs.internal.Rewritable.{first_clash, Rewritable};
 ghost use Rattle.rewriting.specs.internal.QuickTest.{harmless_byte};
-ghost use Rattle.rewriting.specs.internal.Output.{stretch};
-ghost use Rattle.rewriting.specs.declared.collisions.Clash.TheVariants.{Nowhere};
 
 use crate::change::Change;
-use crate::table;
-use elements::verdict::Verdict;
+use crate::table::Reading;
+use elements::verdict::{Fault, Verdict};
 use text::bin;
-use text::separators::Separators;
 
 // Where a data byte equals a new separator: the segment's number, the byte where the segment starts, and the element; the tag is element 0.
 #[derive(Clone, Copy, Drop)]
-pub(crate) enum Clash {
-    At {
-        segment: usize,
-        byte: usize,
-        element: usize,
-    },
-    Nowhere,
+pub(crate) struct Clash {
+    pub segment: usize,
+    pub byte: usize,
+    pub element: usize,
 }
 
-// Whether the byte is one of the three separators.
-fn separates(separators: Separators, byte: u8) -> bool
-    ensures { result ≡ is_separator separators byte }
+// Whether every byte is no new separator, or is an old one too. The fold always runs to the end, so that it can take many bytes at once.
+fn harmless(bytes: &[u8], change: Change) -> bool
+    ensures { result ≡ every (harmless_byte change.old change.new) bytes.now }
 {
-    (byte == separators.element) | (byte == separators.component) | (byte == separators.terminator)
-}
-
-// Whether every byte from `from` up to `to` is no new separator, or is an old one too. The loop always runs to the end, so that it can take many bytes at
-// once.
-fn harmless(s: &[u8], from: usize, to: usize, change: Change) -> bool
-    requires { to ≤ length s.now }
-    ensures { result ≡ every (harmless_byte change.old change.new) (stretch from to s.now) }
-{
-    let mut so_far = true;
-    let mut i = from;
-    while i < to {
-        let byte = s[i];
-        so_far = so_far & (!separates(change.new, byte) | separates(change.old, byte));
-        i += 1;
-    }
-    so_far
+    bytes.iter().fold(
+        true,
+        |so_far, byte| so_far & (!change.new.separates(*byte) | change.old.separates(*byte)),
+    )
 }
 
 // Whether so it is of all bytes of the segments but those of each BIN02: then nothing collides.
-fn harmless_runs(s: &[u8], bytes: usize, segments: &[u64], count: usize, change: Change) -> bool
-    requires names_from { NamesFrom s.now segments.now 0 count }
-    requires cut_off { CutOff change.old s.now (segments_from s.now segments.now 0 count) }
-    requires fitted { Fitted change.new }
-    requires bytes_value { bytes ≡ used_by (segments_from s.now segments.now 0 count) }
-    ensures { result ≡ true → collision change.old change.new 1 (segments_from s.now segments.now 0 count) ≡ Nowhere }
+fn harmless_runs(reading: Reading) -> bool
+    requires { Rewritable reading }
+    ensures { result ≡ true → first_clash reading.entry ≡ None }
 {
     let mut so_far = true;
-    let mut from: usize = 0;
-    let mut k: usize = 0;
-    while k < count {
-        let attached = table::attached_in(s, segments, k, change.old.element);
+    let mut from = 0;
+    for k in 0..reading.accepted.segments {
+        let attached = reading.attached(k);
         if attached.from < attached.to {
-            so_far = so_far & harmless(s, from, attached.from, change);
+            so_far = so_far & harmless(&reading.bytes[from..attached.from], reading.change);
             from = attached.to;
         }
-        k += 1;
     }
-    so_far & harmless(s, from, bytes, change)
+    so_far & harmless(&reading.bytes[from..reading.accepted.bytes], reading.change)
 }
 
 // The first element of the segment that collides; the tag is element 0. Neither a letter nor a digit may serve as a separator, so no byte of a whole
@@ -82,70 +57,50 @@ fn segment_collision(segment: &[u8], change: Change) -> Verdict
     ensures { result ≡ first_broken (collision_checks change.new (view_of change.old segment.now)) }
 {
     if bin::attached_from(segment, change.old.element) < segment.len() {
-        return Verdict::Holds;
+        return Ok(());
     }
-    let mut element: usize = 0;
-    let mut i: usize = 0;
-    while i < segment.len() {
-        let byte = segment[i];
-        if byte == change.old.element {
+    let mut element = 0;
+    for byte in segment {
+        if *byte == change.old.element {
             element += 1;
-        } else if (byte != change.old.component) & separates(change.new, byte) {
-            return Verdict::Broken(18, element);
-        }
-        i += 1;
-    }
-    Verdict::Holds
-}
-
-// The first segment that collides, of those that the first `count` records name.
-fn first_collision(s: &[u8], segments: &[u64], count: usize, change: Change) -> Clash
-    requires names_from { NamesFrom s.now segments.now 0 count }
-    requires cut_off { CutOff change.old s.now (segments_from s.now segments.now 0 count) }
-    requires fitted { Fitted change.new }
-    ensures { result ≡ collision change.old change.new 1 (segments_from s.now segments.now 0 count) }
-{
-    let mut k: usize = 0;
-    while k < count {
-        let segment = table::segment_in(s, segments, k);
-        match segment_collision(segment, change) {
-            Verdict::Broken(_, element) => {
-                let byte = table::start_in(segments, k);
-                let number = k + 1;
-                return Clash::At {
-                    segment: number,
-                    byte,
-                    element,
-                };
-            }
-            Verdict::Holds => {
-                k += 1;
-            }
+        } else if (*byte != change.old.component) & change.new.separates(*byte) {
+            return Err(Fault {
+                number: 18,
+                element,
+            });
         }
     }
-    Clash::Nowhere
+    Ok(())
 }
 
-// The first collision of an accepted reading that takes so many bytes. The segments are searched only where some byte may collide, and most readings are
-// told of at once: by all bytes, or by all but those of each BIN02.
-pub(crate) fn find_clash(
-    s: &[u8],
-    bytes: usize,
-    segments: &[u64],
-    count: usize,
-    change: Change,
-) -> Clash
-    requires names_from { NamesFrom s.now segments.now 0 count }
-    requires cut_off { CutOff change.old s.now (segments_from s.now segments.now 0 count) }
-    requires fitted { Fitted change.new }
-    requires bytes_value { bytes ≡ used_by (segments_from s.now segments.now 0 count) }
-    ensures { result ≡ collision change.old change.new 1 (segments_from s.now segments.now 0 count) }
+// The first segment that collides.
+fn first_collision(reading: Reading) -> Option<Clash>
+    requires { Rewritable reading }
+    ensures { result ≡ first_clash reading.entry }
 {
-    if harmless(s, 0, bytes, change) {
-        return Clash::Nowhere;
+    for k in 0..reading.accepted.segments {
+        if let Err(fault) = segment_collision(reading.segment(k), reading.change) {
+            let byte = reading.start(k);
+            return Some(Clash {
+                segment: k + 1,
+                byte,
+                element: fault.element,
+            });
+        }
     }
-    if harmless_runs(s, bytes, segments, count, change) {
-        return Clash::Nowhere;
+    None
+}
+
+// The first collision of an accepted reading. The segments are searched only where some byte may collide, and most readings are told of at once: by all
+// bytes, or by all but those of each BIN02.
+pub(crate) fn find_clash(reading: Reading) -> Option<Clash>
+    requires { Rewritable reading }
+    ensures { result ≡ first_clash reading.entry }
+{
+    if harmless(&reading.bytes[..reading.accepted.bytes], reading.change)
+        || harmless_runs(reading)
+    {
+        return None;
     }
-    first_collision(s, segments, count, change)
+    first_collision(reading)
 }

@@ -1,16 +1,13 @@
 // Rewriting one transaction with other separators.
-ghost use Rattle.std.specs.Prelude.{◌≡◌};
-ghost use Rattle.text.specs.Separators.{Fitted};
-ghost use Rattle.gate.specs.Conditions.{used_by};
-ghost use Rattle.gate.specs.declared.answer.Answer.TheVariants.{Accepted, Refused};
+ghost use Rattle.std.specs.Prelude.{◌≡◌, Ok};
+ghost use Rattle.gate.specs.Answers.{refused};
 ghost use Rattle.rewriting.specs.Rewrites.{OutcomeOf, Rewrites};
-ghost use Rattle.rewriting.specs.internal.SegmentTable.{segments_from, NamesFrom};
-ghost use Rattle.rewriting.specs.internal.CutOff.{CutOff};
+ghost use Rattle.rewriting.specs.internal.Rewritable.{segments_of, Rewritable};
 
 use crate::change::Change;
-use crate::collisions::Clash;
+use crate::table::Reading;
 use crate::{collisions, writing};
-use gate::answer::Answer;
+use gate::answer::{Answer, Refusal};
 use gate::how::How;
 use rows::profile::ProfileName;
 use text::lines::LineEnds;
@@ -18,56 +15,34 @@ use text::separators::Separators;
 
 // A refusal that names no segment.
 fn refused(number: usize, element: usize) -> Answer
-    ensures { result ≡ Refused number 0 0 element }
+    ensures { result ≡ refused number 0 0 element }
 {
-    Answer::Refused {
+    Err(Refusal {
         number,
         segment: 0,
         byte: 0,
         element,
-    }
+    })
 }
 
 // Writes the segments of an accepted reading; 18 or 19 where that cannot be.
-fn write_accepted(
-    s: &[u8],
-    change: Change,
-    segments: &[u64],
-    count: usize,
-    levels: usize,
-    bytes: usize,
-    output: &mut [u8],
-) -> Answer
-    requires names_from { NamesFrom s.now segments.now 0 count }
-    requires cut_off { CutOff change.old s.now (segments_from s.now segments.now 0 count) }
-    requires fitted { Fitted change.new }
-    requires bytes_value { bytes ≡ used_by (segments_from s.now segments.now 0 count) }
-    ensures { OutcomeOf change.old change.new (segments_from s.now segments.now 0 count) (Accepted count levels bytes) bytes
-        output.old result output.new }
+fn write_accepted(reading: Reading, output: &mut [u8]) -> Answer
+    requires { Rewritable reading }
+    ensures { let r = reading.entry in OutcomeOf r.change.old r.change.new (segments_of r) (Ok r.accepted) r.accepted.bytes output.old result output.new }
 {
-    match collisions::find_clash(s, bytes, segments, count, change) {
-        Clash::At {
-            segment,
-            byte,
-            element,
-        } => Answer::Refused {
+    if let Some(clash) = collisions::find_clash(reading) {
+        return Err(Refusal {
             number: 18,
-            segment,
-            byte,
-            element,
-        },
-        Clash::Nowhere => {
-            if output.len() < bytes {
-                return refused(19, 0);
-            }
-            writing::write_segments(s, bytes, segments, count, change, output);
-            Answer::Accepted {
-                segments: count,
-                levels,
-                bytes,
-            }
-        }
+            segment: clash.segment,
+            byte: clash.byte,
+            element: clash.element,
+        });
     }
+    if output.len() < reading.accepted.bytes {
+        return refused(19, 0);
+    }
+    writing::write_segments(reading, output);
+    Ok(reading.accepted)
 }
 
 // Reads one transaction by the profile and writes it to the output with the new separators. Where it is refused the output keeps its bytes;
@@ -95,25 +70,12 @@ pub fn rewrite(
         lines: LineEnds::Strict,
         profile,
     };
-    match reading::reading::read(s, strictly, segments, levels) {
-        Answer::Accepted {
-            segments: count,
-            levels: known,
-            bytes,
-        } => {
-            let change = Change { old, new };
-            write_accepted(s, change, segments, count, known, bytes, output)
-        }
-        Answer::Refused {
-            number,
-            segment,
-            byte,
-            element,
-        } => Answer::Refused {
-            number,
-            segment,
-            byte,
-            element,
-        },
-    }
+    let accepted = reading::reading::read(s, strictly, segments, levels)?;
+    let reading = Reading {
+        bytes: s,
+        segments,
+        accepted,
+        change: Change { old, new },
+    };
+    write_accepted(reading, output)
 }

@@ -1,13 +1,10 @@
 // The segments with other separators.
 ghost use Rattle.std.specs.Prelude.{◌≡◌, ◌≤◌, map, length};
-ghost use Rattle.gate.specs.Conditions.{used_by};
-ghost use Rattle.rewriting.specs.Rewrites.{rewritten};
-ghost use Rattle.rewriting.specs.internal.SegmentTable.{segments_from, NamesFrom};
-ghost use Rattle.rewriting.specs.internal.CutOff.{CutOff};
+ghost use Rattle.rewriting.specs.internal.Rewritable.{bytes_again, Rewritable};
 ghost use Rattle.rewriting.specs.internal.Output.{put_at, stretch, byte_again};
 
 use crate::change::Change;
-use crate::table;
+use crate::table::Reading;
 
 // What a byte becomes that does not stand in BIN02.
 fn byte_again(byte: u8, change: Change) -> u8
@@ -33,10 +30,8 @@ fn write_again(s: &[u8], from: usize, to: usize, change: Change, output: &mut [u
     requires to_in_bounds_2 { to ≤ length output.old }
     ensures { output.new ≡ put_at from (map (byte_again change.old change.new) (stretch from to s.now)) output.old }
 {
-    let mut i = from;
-    while i < to {
+    for i in from..to {
         output[i] = byte_again(s[i], change);
-        i += 1;
     }
 }
 
@@ -47,40 +42,30 @@ fn copy(s: &[u8], from: usize, to: usize, output: &mut [u8])
     requires to_in_bounds_2 { to ≤ length output.old }
     ensures { output.new ≡ put_at from (stretch from to s.now) output.old }
 {
-    let mut i = from;
-    while i < to {
-        output[i] = s[i];
-        i += 1;
-    }
+    output[from..to].copy_from_slice(&s[from..to]);
 }
 
-// Writes the segments that the first `count` records name, each with its terminator, to the start of the output. They are the first `bytes` bytes, one behind
-// the other, and every byte keeps its place: what stands between one BIN02 and the next is written as one run, and BIN02 as it is.
-pub(crate) fn write_segments(
-    s: &[u8],
-    bytes: usize,
-    segments: &[u64],
-    count: usize,
-    change: Change,
-    output: &mut [u8],
-)
-    requires names_from { NamesFrom s.now segments.now 0 count }
-    requires cut_off { CutOff change.old s.now (segments_from s.now segments.now 0 count) }
-    requires bytes_value { bytes ≡ used_by (segments_from s.now segments.now 0 count) }
-    requires bytes_in_bounds { bytes ≤ length output.old }
-    ensures { output.new ≡ put_at 0 (rewritten change.old change.new (segments_from s.now segments.now 0 count))
-        output.old }
+// Writes the segments of an accepted reading, each with its terminator, to the start of the output. They are the bytes that it takes, one behind the
+// other, and every byte keeps its place: what stands between one BIN02 and the next is written as one run, and BIN02 as it is.
+pub(crate) fn write_segments(reading: Reading, output: &mut [u8])
+    requires rewritable { Rewritable reading }
+    requires room { reading.accepted.bytes ≤ length output.old }
+    ensures { output.new ≡ put_at 0 (bytes_again reading.entry) output.old }
 {
-    let mut from: usize = 0;
-    let mut k: usize = 0;
-    while k < count {
-        let attached = table::attached_in(s, segments, k, change.old.element);
+    let mut from = 0;
+    for k in 0..reading.accepted.segments {
+        let attached = reading.attached(k);
         if attached.from < attached.to {
-            write_again(s, from, attached.from, change, output);
-            copy(s, attached.from, attached.to, output);
+            write_again(reading.bytes, from, attached.from, reading.change, output);
+            copy(reading.bytes, attached.from, attached.to, output);
             from = attached.to;
         }
-        k += 1;
     }
-    write_again(s, from, bytes, change, output);
+    write_again(
+        reading.bytes,
+        from,
+        reading.accepted.bytes,
+        reading.change,
+        output,
+    );
 }

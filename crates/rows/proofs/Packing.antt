@@ -133,25 +133,23 @@ three_bytes (a ∷ b ∷ c ∷ []) h = refl
 three_bytes (a ∷ b ∷ c ∷ d ∷ s) h = absurd (omega arith)
 
 -- the number found for two packed bytes
-pub two_number : (s : Bytes) (x y n : ℕ) → length s ≡ 2 → get_or s 0 0 < 256 → get_or s 1 0 < 256
-    → x ≡ get_or s 1 0 + 256 * 1 → y ≡ get_or s 0 0 + 256 * x → n ≡ packed_number y → n ≡ tag_number s
-two_number s x y n l h0 h1 ex ey en =
+pub two_number : (s : Bytes) (y n : ℕ) → length s ≡ 2 → get_or s 0 0 < 256 → get_or s 1 0 < 256
+    → y ≡ get_or s 0 0 + 256 * (get_or s 1 0 + 256 * 1) → n ≡ packed_number y → n ≡ tag_number s
+two_number s y n l h0 h1 ey en =
     let a = get_or s 0 0 in
     let b = get_or s 1 0 in
-    let p : y ≡ packed (a ∷ b ∷ []) = ey ∙ rw ex in
     let f : T (small (a ∷ b ∷ [])) =
     both (ltb a 256) (ltb b 256 && true) (lt→ltb a 256 h0) (both (ltb b 256) true (lt→ltb b 256 h1) tt) in
-    en ∙ ap packed_number p ∙ sym (number_packed (a ∷ b ∷ []) f) ∙ ap tag_number (sym (just_two s l))
+    en ∙ ap packed_number ey ∙ sym (number_packed (a ∷ b ∷ []) f) ∙ ap tag_number (sym (just_two s l))
 
 -- and for three
-pub three_number : (s : Bytes) (x y z n : ℕ) → length s ≡ 3 → get_or s 0 0 < 256 → get_or s 1 0 < 256 → get_or s 2 0 < 256
-    → x ≡ get_or s 2 0 + 256 * 1 → y ≡ get_or s 1 0 + 256 * x → z ≡ get_or s 0 0 + 256 * y → n ≡ packed_number z → n ≡ tag_number s
-three_number s x y z n l h0 h1 h2 ex ey ez en =
+pub three_number : (s : Bytes) (y n : ℕ) → length s ≡ 3 → get_or s 0 0 < 256 → get_or s 1 0 < 256 → get_or s 2 0 < 256
+    → y ≡ get_or s 0 0 + 256 * (get_or s 1 0 + 256 * (get_or s 2 0 + 256 * 1)) → n ≡ packed_number y → n ≡ tag_number s
+three_number s y n l h0 h1 h2 ey en =
     let a = get_or s 0 0 in
     let b = get_or s 1 0 in
     let d = get_or s 2 0 in
-    let p : z ≡ packed (a ∷ b ∷ d ∷ []) = ez ∙ rw (ey, ex) in
     let f : T (small (a ∷ b ∷ d ∷ [])) =
     both (ltb a 256) (ltb b 256 && (ltb d 256 && true)) (lt→ltb a 256 h0)
     (both (ltb b 256) (ltb d 256 && true) (lt→ltb b 256 h1) (both (ltb d 256) true (lt→ltb d 256 h2) tt)) in
-    en ∙ ap packed_number p ∙ sym (number_packed (a ∷ b ∷ d ∷ []) f) ∙ ap tag_number (sym (three_bytes s l))
+    en ∙ ap packed_number ey ∙ sym (number_packed (a ∷ b ∷ d ∷ []) f) ∙ ap tag_number (sym (three_bytes s l))

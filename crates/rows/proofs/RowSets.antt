@@ -1,4 +1,4 @@
--- The rows that the code admits in a reply against those of the profile, by one computed check.
+-- The rows of a reply, stretch by stretch, against those of the profile, by one computed check.
 -- Assumes nothing.
 use Prim.Native.Nat.{ℕ, ◌<◌}
 use mathlib.Core.Path.{◌≡◌, refl}
@@ -7,7 +7,7 @@ use Rattle.text.specs.Bytes.{among, between}
 use Rattle.text.proofs.Tables.{tab, tab_at}
 use Rattle.rows.specs.RowSets.{reply_rows}
 
--- the test of the code
+-- the stretches
 abbrev reply_row : ℕ → Bool
 reply_row row =
     between 1 2 row || between 12 12 row || between 17 19 row || between 23 26 row || between 30 31 row || between 46 49 row || between 51 51 row

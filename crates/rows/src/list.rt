@@ -2,7 +2,7 @@
 
 // The number of its tag, how often it may stand one after the other (0: freely), whether it must stand, and the row that opens the loop around
 // it (0: none). A row that opens a loop has the loop's mark, and the loop around its own.
-#[derive(Clone, Copy, Drop)]
+#[derive(Clone, Copy, Debug, PartialEq, Eq, Drop)]
 pub struct Row(pub u8, pub u8, pub bool, pub u8);
 
 // The number of the last row; the first is 1.

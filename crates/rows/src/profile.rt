@@ -4,7 +4,7 @@ ghost use Rattle.text.specs.Bytes.{among};
 ghost use Rattle.rows.specs.RowSets.{reply_rows, rows_of};
 
 // By which profile a transaction is read.
-#[derive(Clone, Copy, Drop)]
+#[derive(Clone, Copy, Debug, PartialEq, Eq, Drop)]
 pub enum ProfileName {
     // Nonconformance reports.
     Report,
@@ -16,17 +16,10 @@ pub enum ProfileName {
 fn in_replies(row: u8) -> bool
     ensures { result ≡ among reply_rows row }
 {
-    ((1 <= row) & (row <= 2))
-        | ((12 <= row) & (row <= 12))
-        | ((17 <= row) & (row <= 19))
-        | ((23 <= row) & (row <= 26))
-        | ((30 <= row) & (row <= 31))
-        | ((46 <= row) & (row <= 49))
-        | ((51 <= row) & (row <= 51))
-        | ((56 <= row) & (row <= 56))
-        | ((64 <= row) & (row <= 64))
-        | ((71 <= row) & (row <= 71))
-        | ((79 <= row) & (row <= 79))
+    matches!(
+        row,
+        1..=2 | 12 | 17..=19 | 23..=26 | 30..=31 | 46..=49 | 51 | 56 | 64 | 71 | 79
+    )
 }
 
 // Whether the profile admits the row: a report may have any.

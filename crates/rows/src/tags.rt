@@ -30,27 +30,22 @@ pub const TAG_COUNT: usize = 34;
 pub fn tag_number(tag: &[u8]) -> u8
     ensures { result ≡ tag_number tag.now }
 {
-    if tag.len() == 2 {
-        return number_of_two(packed_before(tag[0], packed_before(tag[1], 1)));
+    match tag {
+        [a, b] => number_of_two(packed(*a, *b, 1, 0)),
+        [a, b, c] => number_of_three(packed(*a, *b, *c, 1)),
+        _ => NO_TAG,
     }
-    if tag.len() == 3 {
-        return number_of_three(packed_before(
-            tag[0],
-            packed_before(tag[1], packed_before(tag[2], 1)),
-        ));
-    }
-    NO_TAG
 }
 
-// Packed bytes with one byte more in front. Bytes are packed into one number, the first byte lowest and a 1 above the last.
-fn packed_before(byte: u8, rest: u32) -> u32
-    requires { rest < 16777216 }
-    ensures { result ≡ byte + 256 * rest }
+// Four bytes packed into one number, the first byte lowest. A 1 stands above the last byte of a tag, and 0 above that.
+fn packed(a: u8, b: u8, c: u8, d: u8) -> u32
+    ensures { result ≡ a + 256 * (b + 256 * (c + 256 * d)) }
 {
-    byte as u32 + 256 * rest
+    u32::from_le_bytes([a, b, c, d])
 }
 
 // The number of the tag whose two bytes are packed. Two matches are faster than one: each has fewer numbers to tell apart.
+#[tactic(auto, unfolding(crate::specs::internal::Packed::packed_number))]
 fn number_of_two(packed: u32) -> u8
     requires { packed < 131072 }
     ensures { result ≡ packed_number packed }
@@ -72,6 +67,7 @@ fn number_of_two(packed: u32) -> u8
 }
 
 // The number of the tag whose three bytes are packed.
+#[tactic(auto, unfolding(crate::specs::internal::Packed::packed_number))]
 fn number_of_three(packed: u32) -> u8
     requires { 131072 ≤ packed }
     ensures { result ≡ packed_number packed }

@@ -10,13 +10,12 @@ use Rattle.text.specs.Bytes.{Bytes}
 use Rattle.text.specs.View.{Piece}
 use Rattle.rows.specs.declared.profile.ProfileName.{ProfileName}
 use Rattle.elements.specs.Data.{element_profile}
-use Rattle.elements.specs.Checks.{each}
+use Rattle.std.specs.Prelude.{Err}
+use Rattle.elements.specs.Checks.{each, Verdict, Holds, broken}
 use Rattle.elements.specs.Rules.{few_by, is_unused}
 use Rattle.elements.specs.internal.Layouts.{components_in}
 use Rattle.elements.specs.internal.Verdicts.{rules_of, last_must, complete_at_of, suits_at_of, elements_verdict}
 use Rattle.ruling.specs.internal.Early.{unused_verdict, many_verdict, early_checks, early_verdict, early_by}
-use Rattle.elements.specs.declared.verdict.Verdict.{Verdict}
-use Rattle.elements.specs.declared.verdict.Verdict.TheVariants.{Holds, Broken}
 use Rattle.elements.specs.declared.layout.Layout.{Layout}
 use Rattle.elements.proofs.FirstBroken.{and_then, broken_append, first_holds}
 use Rattle.elements.proofs.ByLayout.{at_past}
@@ -43,7 +42,7 @@ module _ (s : Bytes) (starts : List ℕ) (layout : Layout) (component tag : ℕ)
       (each 8 1 (length (rules_of tag).elements) (complete_at_of (rules_of tag) at) ++ each 10 1 (length (rules_of tag).elements) (suits_at_of (rules_of tag) at))
 
   -- 9 decides among them, or is silent and leaves it to 8 and 10
-  pub early_many : (n e : ℕ) → Broken n e ≡ nine → Broken n e ≡ early
+  pub early_many : (n e : ℕ) → broken n e ≡ nine → broken n e ≡ early
   early_many n e q = sym (early_is ∙ ap (λ (v : Verdict). and_then v eight_ten) (sym q))
 
   pub early_rest : Holds ≡ nine → eight_ten ≡ early
@@ -70,7 +69,7 @@ module _ (s : Bytes) (starts : List ℕ) (layout : Layout) (component tag : ℕ)
     by_profile =
         broken_append (each 9 1 layout.count (λ (k : ℕ). not (is_unused (element_profile profile) tag k && there k))) (early_checks (rules_of tag) at layout.count)
 
-    pub unwanted_decides : (n e : ℕ) → Broken n e ≡ unwanted → Broken n e ≡ early_by profile tag there at layout.count
+    pub unwanted_decides : (n e : ℕ) → broken n e ≡ unwanted → broken n e ≡ early_by profile tag there at layout.count
     unwanted_decides n e q = sym (by_profile ∙ ap (λ (v : Verdict). and_then v early) (sym q))
 
     pub others_decide : Holds ≡ unwanted → early ≡ early_by profile tag there at layout.count
@@ -82,4 +81,4 @@ module _ (s : Bytes) (starts : List ℕ) (layout : Layout) (component tag : ℕ)
       where
         second_holds : (v w : Verdict) → and_then v w ≡ Holds → w ≡ Holds
         second_holds Holds w e = e
-        second_holds (Broken n k) w e = absurd (let z : ◌≡◌ {A = ℕ} 0 1 = cc in omega arith)
+        second_holds (Err f) w e = absurd (let z : ◌≡◌ {A = ℕ} 0 1 = cc in omega arith)

@@ -1,4 +1,3 @@
-pub mod Counts
 pub mod Pairings
 pub mod TooMany
 pub mod UnusedElements

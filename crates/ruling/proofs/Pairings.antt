@@ -6,11 +6,11 @@ use mathlib.Core.Bool.{Bool, true, false, not, ◌&&◌, ◌||◌}
 use mathlib.Core.List.{List, [], ◌∷◌}
 use native.Mathlib.Omega.{arith}
 use Rattle.text.proofs.Bools.{or_assoc, or_false}
-use Rattle.elements.specs.Checks.{first_broken}
+use Rattle.std.specs.Prelude.{Err}
+use Rattle.elements.specs.declared.verdict.Fault.{Fault}
+use Rattle.elements.specs.Checks.{check, first_broken, Verdict, Holds, broken}
 use Rattle.elements.specs.Data.{Note, Paired, Required, Conditional, pairs_from}
 use Rattle.elements.specs.Rules.{note_holds, named_first, note_checks}
-use Rattle.elements.specs.declared.verdict.Verdict.{Verdict}
-use Rattle.elements.specs.declared.verdict.Verdict.TheVariants.{Holds, Broken}
 
 pair_holds : (a b : Bool) → a && b || not (a || b) ≡ a && (b && true) || not (a || (b || false))
 pair_holds true true = refl
@@ -43,12 +43,21 @@ module _ (there : ℕ → Bool) (a b : ℕ) {x y : Bool} (p : x ≡ there a) (q 
   pub required_three : (c : ℕ) {z : Bool} → z ≡ there c → x || y || z ≡ note_holds there (Required (a ∷ b ∷ c ∷ []))
   required_three c r = rw (p, q, r) (some_holds (there a) (there b) (there c))
 
+-- what the test of one note alone finds
+pub note_found : (k : ℕ) (h : Bool) (f : Fault) → first_broken (check 11 k h ∷ []) ≡ Err f → (h ≡ false) × (broken 11 k ≡ Err f)
+note_found k true f e = cc
+note_found k false f e = (refl, e)
+
+pub note_silent : (k : ℕ) (h : Bool) → first_broken (check 11 k h ∷ []) ≡ Holds → h ≡ true
+note_silent k true e = refl
+note_silent k false e = cc
+
 module _ (there : ℕ → Bool) where
   abbrev verdict : List Note → Verdict
   verdict ns = first_broken (note_checks ns there)
 
   -- a note that is broken decides; one that holds leaves it to those behind it
-  pub note_broken : (n : Note) (ns : List Note) → note_holds there n ≡ false → Broken 11 (named_first n) ≡ verdict (n ∷ ns)
+  pub note_broken : (n : Note) (ns : List Note) → note_holds there n ≡ false → broken 11 (named_first n) ≡ verdict (n ∷ ns)
   note_broken n ns e = rw e
 
   pub note_kept : (n : Note) (ns : List Note) → note_holds there n ≡ true → verdict (n ∷ ns) ≡ verdict ns
@@ -60,34 +69,37 @@ module _ (there : ℕ → Bool) where
   pairs_absent a (suc n) h =
       rw (h a (omega arith), h (a + 1) (omega arith)) (pairs_absent (a + 2) n (λ j l. h j (omega arith)))
 
-  -- LIN, where the pairs before k hold
-  pub record Pairs (k : ℕ) : Type 0 where
+  -- LIN, where the pairs before element 2 * pair hold
+  pub record Pairs (pair : ℕ) : Type 0 where
     pub left : ℕ
-    pub place : k + 2 * left ≡ 32
-    pub so_far : verdict (pairs_from 4 14) ≡ verdict (pairs_from k left)
+    pub place : pair + left ≡ 16
+    pub so_far : verdict (pairs_from 4 14) ≡ verdict (pairs_from (2 * pair) left)
 
-  pub pairs_none : Pairs 4
+  pub pairs_none : Pairs 2
   pairs_none = record { left = 14; place = refl; so_far = refl }
 
-  pair_fails : (k n : ℕ) → k < 32 → k + 2 * n ≡ 32 → note_holds there (Paired (k ∷ (k + 1) ∷ [])) ≡ false → Broken 11 k ≡ verdict (pairs_from k n)
-  pair_fails k zero l p e = absurd (omega arith)
-  pair_fails k (suc n) l p e = note_broken (Paired (k ∷ (k + 1) ∷ [])) (pairs_from (k + 2) n) e
+  pair_fails : (k n : ℕ) → 0 < n → note_holds there (Paired (k ∷ (k + 1) ∷ [])) ≡ false → broken 11 k ≡ verdict (pairs_from k n)
+  pair_fails k zero l e = absurd (omega arith)
+  pair_fails k (suc n) l e = note_broken (Paired (k ∷ (k + 1) ∷ [])) (pairs_from (k + 2) n) e
 
-  more_pairs : (k n : ℕ) → k < 32 → k + 2 * n ≡ 32 → note_holds there (Paired (k ∷ (k + 1) ∷ [])) ≡ true
-      → verdict (pairs_from 4 14) ≡ verdict (pairs_from k n) → Pairs (k + 2)
-  more_pairs k zero l p e w = absurd (omega arith)
-  more_pairs k (suc n) l p e w =
-      record { left = n; place = omega arith; so_far = w ∙ note_kept (Paired (k ∷ (k + 1) ∷ [])) (pairs_from (k + 2) n) e }
+  more_pairs : (pair n : ℕ) → pair < 16 → pair + n ≡ 16 → note_holds there (Paired (2 * pair ∷ (2 * pair + 1) ∷ [])) ≡ true
+      → verdict (pairs_from 4 14) ≡ verdict (pairs_from (2 * pair) n) → Pairs (pair + 1)
+  more_pairs pair zero l p e w = absurd (omega arith)
+  more_pairs pair (suc n) l p e w =
+      let next : 2 * (pair + 1) ≡ 2 * pair + 2 = omega arith in
+      record {
+        left = n;
+        place = omega arith;
+        so_far = rw next (w ∙ note_kept (Paired (2 * pair ∷ (2 * pair + 1) ∷ [])) (pairs_from (2 * pair + 2) n) e);
+      }
 
-  module _ {k : ℕ} (w : Pairs k) where
-    pub pairs_inside : k < 32 → k < 31
-    pairs_inside l = omega (arith, w.place)
+  module _ {pair : ℕ} (w : Pairs pair) where
+    pub pairs_broken : pair < 16 → note_holds there (Paired (2 * pair ∷ (2 * pair + 1) ∷ [])) ≡ false
+        → broken 11 (2 * pair) ≡ verdict (pairs_from 4 14)
+    pairs_broken l e = pair_fails (2 * pair) w.left (omega (arith, w.place)) e ∙ sym w.so_far
 
-    pub pairs_broken : k < 32 → note_holds there (Paired (k ∷ (k + 1) ∷ [])) ≡ false → Broken 11 k ≡ verdict (pairs_from 4 14)
-    pairs_broken l e = pair_fails k w.left l w.place e ∙ sym w.so_far
+    pub pairs_more : pair < 16 → note_holds there (Paired (2 * pair ∷ (2 * pair + 1) ∷ [])) ≡ true → Pairs (pair + 1)
+    pairs_more l e = more_pairs pair w.left l w.place e w.so_far
 
-    pub pairs_more : k < 32 → note_holds there (Paired (k ∷ (k + 1) ∷ [])) ≡ true → Pairs (k + 2)
-    pairs_more l e = more_pairs k w.left l w.place e w.so_far
-
-    pub pairs_all : ((j : ℕ) → k ≤ j → there j ≡ false) → Holds ≡ verdict (pairs_from 4 14)
-    pairs_all h = sym (w.so_far ∙ pairs_absent k w.left h)
+    pub pairs_all : ((j : ℕ) → 2 * pair ≤ j → there j ≡ false) → Holds ≡ verdict (pairs_from 4 14)
+    pairs_all h = sym (w.so_far ∙ pairs_absent (2 * pair) w.left h)

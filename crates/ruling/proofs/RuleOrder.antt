@@ -8,15 +8,14 @@ use lib.Dec.{T, eqb}
 use lib.ListN.{length}
 use Rattle.text.specs.Bytes.{Bytes}
 use Rattle.text.specs.View.{Piece, View, present, element_of}
-use Rattle.elements.specs.Checks.{Check, each, first_broken}
+use Rattle.std.specs.Prelude.{Err}
+use Rattle.elements.specs.Checks.{Check, each, first_broken, Verdict, Holds, broken}
 use Rattle.elements.specs.Data.{Note, Rules, element_profile}
 use Rattle.rows.specs.declared.profile.ProfileName.{ProfileName}
 use Rattle.elements.specs.Rules.{is_unused, absent_if, too_many_checks, missing_checks, unfit_checks, note_checks, checks_by, ruled_checks, few_by, present_at}
 use Rattle.elements.specs.internal.Layouts.{layout_view, there_in, components_in}
 use Rattle.elements.specs.internal.Verdicts.{rules_of, complete_at_of, suits_at_of, elements_verdict}
 use Rattle.ruling.specs.internal.Early.{unused_verdict, early_by}
-use Rattle.elements.specs.declared.verdict.Verdict.{Verdict}
-use Rattle.elements.specs.declared.verdict.Verdict.TheVariants.{Holds, Broken}
 use Rattle.elements.specs.declared.layout.Layout.{Layout}
 use Rattle.elements.proofs.FirstBroken.{and_then, broken_append, then_assoc, each_same, each_decides, each_under, each_silent}
 use Rattle.elements.proofs.ByLayout.{element_past, view_count, view_at, at_present}
@@ -126,7 +125,7 @@ module _ (s : Bytes) (starts : List ℕ) (layout : Layout) where
           (λ k l u. ap (λ (t : Bool). not (unused k && t)) (at_present s starts layout component k)))
 
       -- such an element decides over the other reasons for 9
-      nine_unwanted : (n e : ℕ) → Broken n e ≡ unwanted → nine ≡ Broken n e
+      nine_unwanted : (n e : ℕ) → broken n e ≡ unwanted → nine ≡ broken n e
       nine_unwanted n e q =
           let d = unwanted_is ∙ sym q in
           let f = each_decides 9 1 layout.count (λ (k : ℕ). absent_if (unused k) (at k)) n e d in
@@ -150,16 +149,16 @@ module _ (s : Bytes) (starts : List ℕ) (layout : Layout) where
         early_notes = by unwanted refl
           where
             by : (u : Verdict) → unwanted ≡ u → whole ≡ and_then (early_by profile tag there at layout.count) notes
-            by (Broken n e) q =
-                grouped ∙ ap (λ (v : Verdict). and_then v (and_then eight_ten notes)) (nine_unwanted n e (sym q))
-                ∙ ap (λ (v : Verdict). and_then v notes) (unwanted_decides s starts layout component tag profile there n e (sym q))
+            by (Err f) q =
+                grouped ∙ ap (λ (v : Verdict). and_then v (and_then eight_ten notes)) (nine_unwanted f.number f.element (sym q))
+                ∙ ap (λ (v : Verdict). and_then v notes) (unwanted_decides s starts layout component tag profile there f.number f.element (sym q))
             by Holds q =
                 grouped ∙ ap (λ (v : Verdict). and_then v (and_then eight_ten notes)) (nine_many (sym q)) ∙ sym (then_assoc many eight_ten notes)
                 ∙ ap (λ (v : Verdict). and_then v notes)
                 (sym (early_is s starts layout component tag) ∙ others_decide s starts layout component tag profile there (sym q))
 
         -- 9, 8 or 10 decides; where all three are silent, 11 does
-        pub decide_early : (n e : ℕ) → Broken n e ≡ early_by profile tag there at layout.count → Broken n e ≡ whole
+        pub decide_early : (n e : ℕ) → broken n e ≡ early_by profile tag there at layout.count → broken n e ≡ whole
         decide_early n e q = sym (early_notes ∙ ap (λ (v : Verdict). and_then v notes) (sym q))
 
         pub decide_notes : Holds ≡ early_by profile tag there at layout.count → notes ≡ whole

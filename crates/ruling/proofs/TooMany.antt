@@ -12,11 +12,10 @@ use borrow.Author.Tests.{eqb-true, eqb-false, leb-true, le-leb, lt-leb}
 use Rattle.text.specs.View.{Piece, empty}
 use Rattle.text.proofs.Tests.{and_first}
 use Rattle.rows.specs.Tags.{tag}
-use Rattle.elements.specs.Checks.{each, first_broken}
+use Rattle.elements.specs.Checks.{each, first_broken, Holds, broken}
 use Rattle.elements.specs.Data.{Element}
 use Rattle.elements.specs.Rules.{rule_of, few_components, few_by}
 use Rattle.elements.specs.internal.Verdicts.{rules_of}
-use Rattle.elements.specs.declared.verdict.Verdict.TheVariants.{Holds, Broken}
 use Rattle.elements.proofs.FirstBroken.{each_holds, each_broken, holds_each}
 use Rattle.elements.proofs.EveryTag.{few_but_five, few_empty}
 use Rattle.elements.proofs.RuleNumbers.{rule_past, rules_NCA}
@@ -34,7 +33,7 @@ module _ (tag count : ℕ) (at : ℕ → Piece) where
   last = length (rules_of tag).elements
 
   pub too_many_five : (count < 5 → at 5 ≡ empty) → few_components (rule_of (rules_of tag) 5).shape (at 5) ≡ false
-      → Broken 9 5 ≡ first_broken (each 9 1 count few)
+      → broken 9 5 ≡ first_broken (each 9 1 count few)
   too_many_five past e =
       sym (each_broken 9 1 count 5 few (λ j l m. before j m) (omega arith) (omega (arith, there)) (rw e (last_false (leb 5 last))))
     where
@@ -63,13 +62,13 @@ module _ (tag count : ℕ) (at : ℕ → Piece) where
         by_test true e = rw (eqb-true j 5 e) five
         by_test false e = few_but_five tag j (at j) (eqb-false j 5 e)
 
-    past_last : last < count → Broken 9 (last + 1) ≡ first_broken (each 9 1 count few)
+    past_last : last < count → broken 9 (last + 1) ≡ first_broken (each 9 1 count few)
     past_last l =
         sym
         (each_broken 9 1 count (last + 1) few (λ j p m. rw (le-leb j last (omega arith)) (few_each j)) (omega arith) (omega arith)
         (rw (lt-leb (last + 1) last (omega arith))))
 
-    pub too_many_past : (n : ℕ) → n ≡ last → n < count → Broken 9 (n + 1) ≡ first_broken (each 9 1 count few)
+    pub too_many_past : (n : ℕ) → n ≡ last → n < count → broken 9 (n + 1) ≡ first_broken (each 9 1 count few)
     too_many_past n e l = rw e (past_last (rw e at l))
 
     pub few_all : count ≤ last → Holds ≡ first_broken (each 9 1 count few)

@@ -17,10 +17,10 @@ use Rattle.text.proofs.Bools.{first_of, second_of, or_cases}
 use Rattle.rows.specs.Tags.{tag, tag_number}
 use Rattle.rows.specs.declared.profile.ProfileName.{ProfileName}
 use Rattle.rows.specs.declared.profile.ProfileName.TheVariants.{Report, Reply}
+use Rattle.elements.specs.Checks.{Holds, broken}
 use Rattle.elements.specs.Data.{unused_by, element_profile}
 use Rattle.elements.specs.Rules.{few_by, is_unused}
 use Rattle.elements.specs.internal.Verdicts.{rules_of}
-use Rattle.elements.specs.declared.verdict.Verdict.TheVariants.{Holds, Broken}
 use Rattle.elements.proofs.FirstBroken.{each_holds, each_broken}
 use Rattle.elements.proofs.EveryTag.{few_but_five}
 use Rattle.ruling.specs.internal.Early.{unused_verdict}
@@ -95,14 +95,14 @@ module _ (there : ℕ → Bool) (count t : ℕ) where
         by false e true f = let z = eqb-true 4 k f in rw (← z, four (sym z))
         by false e false f = refl
 
-    pub second_there : there 2 ≡ true → Broken 9 2 ≡ unused_verdict (is_unused (element_profile Reply) t) there count
+    pub second_there : there 2 ≡ true → broken 9 2 ≡ unused_verdict (is_unused (element_profile Reply) t) there count
     unfolding tag_number
     second_there e =
         sym
         (each_broken 9 1 count 2 fine (λ j l u. fine_else j (λ z. absurd (omega arith)) (λ z. absurd (omega arith))) (omega arith)
         (omega (arith, within 2 e)) (rw (hl, e)))
 
-    pub fourth_there : there 2 ≡ false → there 4 ≡ true → Broken 9 4 ≡ unused_verdict (is_unused (element_profile Reply) t) there count
+    pub fourth_there : there 2 ≡ false → there 4 ≡ true → broken 9 4 ≡ unused_verdict (is_unused (element_profile Reply) t) there count
     unfolding tag_number
     fourth_there none e =
         sym

@@ -18,15 +18,13 @@ use Rattle.types.specs.internal.Quick.{fits_quickly}
 use Rattle.types.specs.declared.kind.Kind.{Kind}
 use Rattle.types.proofs.QuickFits.{quickly_fits}
 use Rattle.elements.specs.Data.{Shape, Simple, Composite, first_unit, units}
-use Rattle.elements.specs.Checks.{each, first_broken}
+use Rattle.elements.specs.Checks.{each, first_broken, Verdict, Holds}
 use Rattle.elements.specs.Rules.{rule_of, few_components}
 use Rattle.elements.specs.internal.Layouts.{element_in, components_in}
 use Rattle.elements.specs.internal.Verdicts.{rules_of, last_must, complete_at_of, suits_at_of, elements_verdict}
 use Rattle.ruling.specs.internal.Early.{many_verdict, early_verdict}
 use Rattle.ruling.specs.internal.Usual.{simple, Suits, SuitsAt, FromOne, Suiting}
 use Rattle.elements.specs.declared.layout.Layout.{Layout}
-use Rattle.elements.specs.declared.verdict.Verdict.{Verdict}
-use Rattle.elements.specs.declared.verdict.Verdict.TheVariants.{Holds}
 use Rattle.elements.proofs.FirstBroken.{and_then, broken_append, each_holds}
 use Rattle.elements.proofs.EveryTag.{few_empty}
 use Rattle.ruling.proofs.TooMany.{few_all}
@@ -42,17 +40,9 @@ module _ (needed : Bool) (kind : Kind) (least most : ℕ) where
   fits_suits [] n e = absurd (n refl)
   fits_suits (b ∷ p) n e = record { complete = asked needed; suited = e }
 
-  pub absent_suits : (p : Bytes) → length p ≡ 0 → not needed ≡ true → Suits (simple needed kind least most) p
-  absent_suits [] l e = record { complete = rw e; suited = refl }
-  absent_suits (b ∷ p) l e = absurd (omega arith)
-
   pub quick_suits : (p : Bytes) (x : Bool) → (length p ≡ 0 → ⊥) → x ≡ fits_quickly kind least most p → x ≡ true
       → Suits (simple needed kind least most) p
   quick_suits p x n e t = fits_suits p n (quickly_fits kind least most p (sym e ∙ t))
-
-pub no_unit : (p : Bytes) → length p ≡ 0 → Suits units p
-no_unit [] l = record { complete = refl; suited = refl }
-no_unit (b ∷ p) l = absurd (omega arith)
 
 pub one_unit : (p : Bytes) (x : Bool) → (length p ≡ 0 → ⊥) → x ≡ fits_quickly first_unit.kind first_unit.least first_unit.most p → x ≡ true
     → Suits units p

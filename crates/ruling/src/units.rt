@@ -1,21 +1,12 @@
 // How many components NCA05 has.
-ghost use Rattle.std.specs.Prelude.{◌≡◌, ℕ, eqb, leb, length};
-ghost use Rattle.elements.specs.internal.Components.{count_of};
+ghost use Rattle.std.specs.Prelude.{◌≡◌, ◌==◌, count_by, leb, length};
 ghost use Rattle.elements.specs.internal.Layouts.{components_by};
 
 // How many bytes of the part are the separator.
 fn separator_count(p: &[u8], separator: u8) -> usize
-    ensures { result ≡ count_of (λ (b : ℕ). eqb b separator) p.now }
+    ensures { result ≡ count_by (λ b. b == separator) p.now }
 {
-    let mut n: usize = 0;
-    let mut i = 0;
-    while i < p.len() {
-        if p[i] == separator {
-            n += 1;
-        }
-        i += 1;
-    }
-    n
+    p.iter().filter(|b| **b == separator).count()
 }
 
 // Whether the units have no more than fifteen components.

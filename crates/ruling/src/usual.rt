@@ -5,200 +5,143 @@ ghost use Rattle.std.specs.Prelude.{◌≡◌, true};
 ghost use Rattle.text.specs.Bytes.{bytes};
 ghost use Rattle.rows.specs.Tags.{tag_number};
 ghost use Rattle.rows.specs.declared.profile.ProfileName.TheVariants.{Report};
-ghost use Rattle.types.specs.declared.kind.Kind.TheVariants.{AN, ID, R, DT, TM};
 ghost use Rattle.elements.specs.Data.{units};
 ghost use Rattle.ruling.specs.internal.Usual.{simple, Suits, SuitsAt, FromOne, Suiting, AllUsed};
 
-use elements::layout;
-use elements::layout::Layout;
+use elements::layout::Parts;
 use rows::profile::ProfileName;
 use rows::tags;
 use types::kind::Kind;
 use types::{quick, values};
 
-// A text of a length from least to most, or nothing where the element may be absent.
-fn text_suits(p: &[u8], must: bool, least: usize, most: usize) -> bool
-    ensures { result ≡ true → Suits (simple must AN least most) p.now }
+// A value of the type, of a length from least to most, that a quick test tells or, of a number or a type that has none, its check; or
+// nothing where the element may be absent.
+fn suits(kind: Kind, must: bool, least: usize, most: usize, p: &[u8]) -> bool
+    ensures { result ≡ true → Suits (simple must kind least most) p.now }
 {
-    if p.len() == 0 {
+    if p.is_empty() {
         return !must;
     }
-    quick::text(p, least, most)
-}
-
-// A short ID of a length from least to most, or nothing where the element may be absent.
-fn id_suits(p: &[u8], must: bool, least: usize, most: usize) -> bool
-    ensures { result ≡ true → Suits (simple must ID least most) p.now }
-{
-    if p.len() == 0 {
-        return !must;
+    match kind {
+        Kind::AN => quick::text(p, least, most),
+        Kind::ID => quick::short_id(p, least, most),
+        Kind::R => quick::digits_alone(p, least, most) || values::fits(kind, least, most, p),
+        Kind::DT => quick::early_date(p, least, most),
+        Kind::TM => quick::short_time(p, least, most),
+        Kind::Set842 => values::fits(kind, least, most, p),
+        Kind::N0 => values::fits(kind, least, most, p),
     }
-    quick::short_id(p, least, most)
-}
-
-// A number with from least to most digits, mostly digits alone, or nothing where the element may be absent.
-fn real_suits(p: &[u8], must: bool, least: usize, most: usize) -> bool
-    ensures { result ≡ true → Suits (simple must R least most) p.now }
-{
-    if p.len() == 0 {
-        return !must;
-    }
-    if quick::digits_alone(p, least, most) {
-        return true;
-    }
-    values::fits(Kind::R, least, most, p)
-}
-
-// An early date of a length from least to most, or nothing where the element may be absent.
-fn date_suits(p: &[u8], must: bool, least: usize, most: usize) -> bool
-    ensures { result ≡ true → Suits (simple must DT least most) p.now }
-{
-    if p.len() == 0 {
-        return !must;
-    }
-    quick::early_date(p, least, most)
-}
-
-// A time in hours and minutes of a length from least to most, or nothing where the element may be absent.
-fn time_suits(p: &[u8], must: bool, least: usize, most: usize) -> bool
-    ensures { result ≡ true → Suits (simple must TM least most) p.now }
-{
-    if p.len() == 0 {
-        return !must;
-    }
-    quick::short_time(p, least, most)
 }
 
 // A first unit of NCA05, or nothing.
 fn unit_suits(p: &[u8]) -> bool
     ensures { result ≡ true → Suits units p.now }
 {
-    if p.len() == 0 {
-        return true;
-    }
-    quick::short_id(p, 2, 2)
-}
-
-// A value of the type, of a length from least to most.
-fn value_suits(kind: Kind, least: usize, most: usize, p: &[u8]) -> bool
-    ensures { result ≡ true → Suits (simple true kind least most) p.now }
-{
-    if p.len() == 0 {
-        return false;
-    }
-    values::fits(kind, least, most, p)
+    p.is_empty() || quick::short_id(p, 2, 2)
 }
 
 // The first two elements of ST.
-fn usual_st(s: &[u8], starts: &[usize; 33], layout: Layout) -> bool
-    ensures { result ≡ true → FromOne (SuitsAt s.now starts.now layout (tag_number (bytes "ST"))) 2 }
+fn usual_st(parts: Parts) -> bool
+    ensures { result ≡ true → FromOne (SuitsAt parts.entry.bytes.now parts.entry.starts.now parts.entry.layout (tag_number (bytes "ST"))) 2 }
 {
-    let set = layout::element(s, starts, layout, 1);
-    let control = layout::element(s, starts, layout, 2);
-    value_suits(Kind::Set842, 3, 3, set) & text_suits(control, true, 4, 9)
+    let set = parts.element(1);
+    let control = parts.element(2);
+    suits(Kind::Set842, true, 3, 3, set) & suits(Kind::AN, true, 4, 9, control)
 }
 
 // The first four elements of N1.
-fn usual_n1(s: &[u8], starts: &[usize; 33], layout: Layout) -> bool
-    ensures { result ≡ true → FromOne (SuitsAt s.now starts.now layout (tag_number (bytes "N1"))) 4 }
+fn usual_n1(parts: Parts) -> bool
+    ensures { result ≡ true → FromOne (SuitsAt parts.entry.bytes.now parts.entry.starts.now parts.entry.layout (tag_number (bytes "N1"))) 4 }
 {
-    let party = layout::element(s, starts, layout, 1);
-    let name = layout::element(s, starts, layout, 2);
-    let kind = layout::element(s, starts, layout, 3);
-    let code = layout::element(s, starts, layout, 4);
-    id_suits(party, true, 2, 3)
-        & text_suits(name, false, 1, 60)
-        & id_suits(kind, false, 1, 2)
-        & text_suits(code, false, 2, 80)
+    let party = parts.element(1);
+    let name = parts.element(2);
+    let kind = parts.element(3);
+    let code = parts.element(4);
+    suits(Kind::ID, true, 2, 3, party)
+        & suits(Kind::AN, false, 1, 60, name)
+        & suits(Kind::ID, false, 1, 2, kind)
+        & suits(Kind::AN, false, 2, 80, code)
 }
 
 // The first three elements of DTM.
-fn usual_dtm(s: &[u8], starts: &[usize; 33], layout: Layout) -> bool
-    ensures { result ≡ true → FromOne (SuitsAt s.now starts.now layout (tag_number (bytes "DTM"))) 3 }
+fn usual_dtm(parts: Parts) -> bool
+    ensures { result ≡ true → FromOne (SuitsAt parts.entry.bytes.now parts.entry.starts.now parts.entry.layout (tag_number (bytes "DTM"))) 3 }
 {
-    let code = layout::element(s, starts, layout, 1);
-    let date = layout::element(s, starts, layout, 2);
-    let time = layout::element(s, starts, layout, 3);
-    id_suits(code, true, 3, 3) & date_suits(date, false, 8, 8) & time_suits(time, false, 4, 8)
+    let code = parts.element(1);
+    let date = parts.element(2);
+    let time = parts.element(3);
+    suits(Kind::ID, true, 3, 3, code)
+        & suits(Kind::DT, false, 8, 8, date)
+        & suits(Kind::TM, false, 4, 8, time)
 }
 
 // The first four elements of HL.
-fn usual_hl(s: &[u8], starts: &[usize; 33], layout: Layout) -> bool
-    ensures { result ≡ true → FromOne (SuitsAt s.now starts.now layout (tag_number (bytes "HL"))) 4 }
+fn usual_hl(parts: Parts) -> bool
+    ensures { result ≡ true → FromOne (SuitsAt parts.entry.bytes.now parts.entry.starts.now parts.entry.layout (tag_number (bytes "HL"))) 4 }
 {
-    let id = layout::element(s, starts, layout, 1);
-    let parent = layout::element(s, starts, layout, 2);
-    let code = layout::element(s, starts, layout, 3);
-    let mark = layout::element(s, starts, layout, 4);
-    text_suits(id, true, 1, 12)
-        & text_suits(parent, false, 1, 12)
-        & id_suits(code, true, 1, 2)
-        & id_suits(mark, false, 1, 1)
+    let id = parts.element(1);
+    let parent = parts.element(2);
+    let code = parts.element(3);
+    let mark = parts.element(4);
+    suits(Kind::AN, true, 1, 12, id)
+        & suits(Kind::AN, false, 1, 12, parent)
+        & suits(Kind::ID, true, 1, 2, code)
+        & suits(Kind::ID, false, 1, 1, mark)
 }
 
 // The first two elements of NTE.
-fn usual_nte(s: &[u8], starts: &[usize; 33], layout: Layout) -> bool
-    ensures { result ≡ true → FromOne (SuitsAt s.now starts.now layout (tag_number (bytes "NTE"))) 2 }
+fn usual_nte(parts: Parts) -> bool
+    ensures { result ≡ true → FromOne (SuitsAt parts.entry.bytes.now parts.entry.starts.now parts.entry.layout (tag_number (bytes "NTE"))) 2 }
 {
-    let code = layout::element(s, starts, layout, 1);
-    let text = layout::element(s, starts, layout, 2);
-    id_suits(code, false, 3, 3) & text_suits(text, true, 1, 80)
+    let code = parts.element(1);
+    let text = parts.element(2);
+    suits(Kind::ID, false, 3, 3, code) & suits(Kind::AN, true, 1, 80, text)
 }
 
 // The first five elements of NCA.
-fn usual_nca(s: &[u8], starts: &[usize; 33], layout: Layout) -> bool
-    ensures { result ≡ true → FromOne (SuitsAt s.now starts.now layout (tag_number (bytes "NCA"))) 5 }
+fn usual_nca(parts: Parts) -> bool
+    ensures { result ≡ true → FromOne (SuitsAt parts.entry.bytes.now parts.entry.starts.now parts.entry.layout (tag_number (bytes "NCA"))) 5 }
 {
-    let number = layout::element(s, starts, layout, 1);
-    let code = layout::element(s, starts, layout, 2);
-    let text = layout::element(s, starts, layout, 3);
-    let quantity = layout::element(s, starts, layout, 4);
-    let unit = layout::element(s, starts, layout, 5);
-    text_suits(number, false, 1, 20)
-        & id_suits(code, false, 1, 2)
-        & text_suits(text, false, 1, 80)
-        & real_suits(quantity, false, 1, 15)
+    let number = parts.element(1);
+    let code = parts.element(2);
+    let text = parts.element(3);
+    let quantity = parts.element(4);
+    let unit = parts.element(5);
+    suits(Kind::AN, false, 1, 20, number)
+        & suits(Kind::ID, false, 1, 2, code)
+        & suits(Kind::AN, false, 1, 80, text)
+        & suits(Kind::R, false, 1, 15, quantity)
         & unit_suits(unit)
 }
 
 // The first two elements of SE.
-fn usual_se(s: &[u8], starts: &[usize; 33], layout: Layout) -> bool
-    ensures { result ≡ true → FromOne (SuitsAt s.now starts.now layout (tag_number (bytes "SE"))) 2 }
+fn usual_se(parts: Parts) -> bool
+    ensures { result ≡ true → FromOne (SuitsAt parts.entry.bytes.now parts.entry.starts.now parts.entry.layout (tag_number (bytes "SE"))) 2 }
 {
-    let total = layout::element(s, starts, layout, 1);
-    let control = layout::element(s, starts, layout, 2);
-    value_suits(Kind::N0, 1, 10, total) & text_suits(control, true, 4, 9)
+    let total = parts.element(1);
+    let control = parts.element(2);
+    suits(Kind::N0, true, 1, 10, total) & suits(Kind::AN, true, 4, 9, control)
 }
 
 // Whether the profile wants no element of an HL absent.
 fn wants_none_absent(profile: ProfileName) -> bool
     ensures { result ≡ true → profile ≡ Report }
 {
-    match profile {
-        ProfileName::Report => true,
-        ProfileName::Reply => false,
-    }
+    matches!(profile, ProfileName::Report)
 }
 
 // Whether all elements of a segment with that tag do, where it has no more than the first few. The HL of a reply is left to the rules.
-pub(crate) fn usual(
-    s: &[u8],
-    starts: &[usize; 33],
-    layout: Layout,
-    profile: ProfileName,
-    tag: u8,
-) -> bool
-    ensures { result ≡ true → Suiting s.now starts.now layout tag × AllUsed profile tag }
+pub(crate) fn usual(parts: Parts, profile: ProfileName, tag: u8) -> bool
+    ensures { result ≡ true → Suiting parts.entry.bytes.now parts.entry.starts.now parts.entry.layout tag × AllUsed profile tag }
 {
     match tag {
-        tags::ST => (layout.count <= 2) & usual_st(s, starts, layout),
-        tags::N1 => (layout.count <= 4) & usual_n1(s, starts, layout),
-        tags::DTM => (layout.count <= 3) & usual_dtm(s, starts, layout),
-        tags::HL => wants_none_absent(profile)
-            & ((layout.count <= 4) & usual_hl(s, starts, layout)),
-        tags::NTE => (layout.count <= 2) & usual_nte(s, starts, layout),
-        tags::NCA => (layout.count <= 5) & usual_nca(s, starts, layout),
-        tags::SE => (layout.count <= 2) & usual_se(s, starts, layout),
+        tags::ST => (parts.layout.count <= 2) & usual_st(parts),
+        tags::N1 => (parts.layout.count <= 4) & usual_n1(parts),
+        tags::DTM => (parts.layout.count <= 3) & usual_dtm(parts),
+        tags::HL => wants_none_absent(profile) & ((parts.layout.count <= 4) & usual_hl(parts)),
+        tags::NTE => (parts.layout.count <= 2) & usual_nte(parts),
+        tags::NCA => (parts.layout.count <= 5) & usual_nca(parts),
+        tags::SE => (parts.layout.count <= 2) & usual_se(parts),
         _ => false,
     }
 }

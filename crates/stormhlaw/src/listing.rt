@@ -1,53 +1,38 @@
 // The listing of an accepted report, on standard output.
-use console::{codes, printing};
+use console::codes::Code;
+use console::program::Judged;
+use gate::answer::Accepted;
 use levels::widths::{LEVEL_WIDTH, SEGMENT_WIDTH};
 use std::io;
 use std::io::Write;
 
-// Numbers, each behind a space.
-fn numbers<O: Write>(out: &mut O, ns: &[u64]) -> io::Result<()> {
-    for n in ns {
-        printing::next(out, *n)?;
-    }
-    Ok(())
-}
-
-// The first line of a listing.
-pub(crate) fn head<O: Write>(
-    out: &mut O,
-    segments: usize,
-    levels: usize,
-    bytes: usize,
-) -> io::Result<()> {
-    writeln!(out, "842 segments {segments} levels {levels} bytes {bytes}")
-}
-
 // A line for each segment: its number, and the numbers of its record.
-pub(crate) fn list_segments<O: Write>(
-    out: &mut O,
-    segments: &[u64],
-    count: usize,
-) -> io::Result<()> {
-    let records = segments.chunks_exact(SEGMENT_WIDTH).take(count);
-    for (number, record) in (1u64..).zip(records) {
-        printing::number(out, number)?;
-        numbers(out, record)?;
-        printing::word(out, b"\n")?;
+fn list_segments<O: Write>(out: &mut O, segments: &[u64], count: usize) -> io::Result<()> {
+    let (records, _) = segments.as_chunks::<SEGMENT_WIDTH>();
+    for (number, [start, len, row, level]) in (1u64..).zip(records.iter().take(count)) {
+        writeln!(out, "{number} {start} {len} {row} {level}")?;
     }
     Ok(())
 }
 
-// A line for each level: its number, and the numbers of its record, the code, which is the last of them, in letters.
-pub(crate) fn list_levels<O: Write>(out: &mut O, levels: &[u64], count: usize) -> io::Result<()> {
-    let records = levels.chunks_exact(LEVEL_WIDTH).take(count);
-    for (number, record) in (1u64..).zip(records) {
-        if let Some((code, before)) = record.split_last() {
-            printing::word(out, b"level")?;
-            printing::next(out, number)?;
-            numbers(out, before)?;
-            codes::letters(out, *code)?;
-            printing::word(out, b"\n")?;
-        }
+// A line for each level: its number, and the numbers of its record, the code in letters.
+fn list_levels<O: Write>(out: &mut O, levels: &[u64], count: usize) -> io::Result<()> {
+    let (records, _) = levels.as_chunks::<LEVEL_WIDTH>();
+    for (number, [segment, parent, depth, code]) in (1u64..).zip(records.iter().take(count)) {
+        let letters = Code::of(*code).letters;
+        writeln!(out, "level {number} {segment} {parent} {depth} {letters}")?;
     }
     Ok(())
+}
+
+// How many segments, levels and bytes there are, then the segments and the levels.
+pub(crate) fn list<O: Write>(out: &mut O, judged: Judged<'_>) -> io::Result<()> {
+    let Accepted {
+        segments,
+        levels,
+        bytes,
+    } = judged.accepted;
+    writeln!(out, "842 segments {segments} levels {levels} bytes {bytes}")?;
+    list_segments(out, judged.segments, segments)?;
+    list_levels(out, judged.levels, levels)
 }

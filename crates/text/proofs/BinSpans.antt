@@ -2,22 +2,23 @@
 -- Assumes nothing.
 use Prim.Native.Nat.{ℕ, zero, suc, ◌+◌, ◌-◌, ◌≤◌, ◌<◌}
 use mathlib.Core.Path.{◌≡◌, refl, sym, ap, subst, ◌∙◌}
-use mathlib.Core.Bool.{Bool, true, false, not}
+use mathlib.Core.Bool.{Bool, true, false}
 use mathlib.Core.List.{List, [], ◌∷◌, ◌++◌}
 use native.Mathlib.Omega.{arith}
 use lib.Dec.{T}
 use lib.ListN.{length, drop, get_or, length-append}
-use borrow.Author.Tests.{not-true, ne_eqb, le-ltb}
+use borrow.Author.Tests.{ne_eqb, le-ltb}
 use Rattle.text.specs.Bytes.{Bytes, bytes, value_of}
 use Rattle.text.specs.Pieces.{joined}
 use Rattle.text.specs.Bin.{bin_mark, begins_bin, count_in, attached_in, counts, is_bin}
 use Rattle.text.specs.View.{elements_of}
 use Rattle.text.specs.Lookup.{span, span_among, element_span, attached_from}
-use Rattle.text.specs.internal.Count.{count_from}
+use Rattle.text.specs.internal.Count.{told, count_from}
 use Rattle.text.specs.internal.Spans.{piece_span, bin_span}
 use Rattle.text.specs.declared.separators.Separators.{Separators}
 use Rattle.text.specs.declared.bin.Counted.{Counted}
-use Rattle.text.specs.declared.bin.Counted.TheVariants.{Told, Open, Broken}
+use Rattle.text.specs.declared.bin.Uncounted.{Uncounted}
+use Rattle.std.specs.Prelude.{Result, Err}
 use Rattle.text.proofs.Bools.{passes, fails}
 use Rattle.text.proofs.Bins.{counts_told, counts_passes, bin_parts, begins_mark, marked_counts, count_made}
 use Rattle.text.proofs.Pieces.{joined_pieces}
@@ -47,17 +48,17 @@ module _ (e : ℕ) (g : Bytes) where
   unfolding is_bin
   no_bin h = rw h
 
-  pub unmarked : (b : Bool) → b ≡ begins_bin e g → not b ≡ true → length g ≡ attached_from e g
-  unmarked b is n = sym (attached_plain (no_bin (sym is ∙ not-true b n)))
+  pub unmarked : begins_bin e g ≡ false → length g ≡ attached_from e g
+  unmarked h = sym (attached_plain (no_bin h))
 
-  module _ (begins : T (begins_bin e g)) (r : Counted) (is : r ≡ count_from e 0 0 4 (drop 4 g)) where
+  module _ (begins : T (begins_bin e g)) (r : Result Counted Uncounted) (is : r ≡ count_from e 0 0 4 (drop 4 g)) where
     -- the count that was found
-    pub found : (number end : ℕ) → r ≡ Told number end → Found e 0 0 4 (drop 4 g) number end
+    pub found : (number end : ℕ) → r ≡ told number end → Found e 0 0 4 (drop 4 g) number end
     found number end z =
         let q : Separators = record { element = e; component = 0; terminator = 0 } in
-        subst (λ (x : Counted). Finds q 0 0 4 (drop 4 g) x) (sym is ∙ z) (count_finds q 0 0 4 (drop 4 g) (omega arith))
+        subst (λ (x : Result Counted Uncounted). Finds q 0 0 4 (drop 4 g) x) (sym is ∙ z) (count_finds q 0 0 4 (drop 4 g) (omega arith))
 
-    module _ (number end : ℕ) (z : r ≡ Told number end) where
+    module _ (number end : ℕ) (z : r ≡ told number end) where
       abbrev f : Found e 0 0 4 (drop 4 g) number end
       f = found number end z
 
@@ -90,7 +91,7 @@ module _ (e : ℕ) (g : Bytes) where
           (λ t. h (omega (arith, long, (counts_told f.count f.rest t).value, f.number_is)))))
 
     -- a whole BIN has a count
-    uncounted : ((number end : ℕ) → r ≡ Told number end → ⊥) → length g ≡ attached_from e g
+    uncounted : ((number end : ℕ) → r ≡ told number end → ⊥) → length g ≡ attached_from e g
     uncounted n =
         sym
         (attached_plain
@@ -100,19 +101,22 @@ module _ (e : ℕ) (g : Bytes) where
         let d = count_in e g in
         n (value_of d) (4 + length d) (is ∙ ap (count_from e 0 0 4) (ap (drop 4) b.whole) ∙ count_found e 0 0 4 d (attached_in e g) b.free (counts_digits b.counted)))))
 
-    pub count_open : r ≡ Open → length g ≡ attached_from e g
-    count_open z = uncounted (λ n m w. let x : ◌≡◌ {A = ℕ} 0 1 = cc in omega arith)
-
-    pub count_broken : r ≡ Broken → length g ≡ attached_from e g
-    count_broken z = uncounted (λ n m w. let x : ◌≡◌ {A = ℕ} 0 1 = cc in omega arith)
+    uncounted_err : (x : Uncounted) → r ≡ Err x → length g ≡ attached_from e g
+    uncounted_err x z = uncounted (λ n m w. let x : ◌≡◌ {A = ℕ} 0 1 = cc in omega arith)
 
   -- what is counted ends with the bytes, or not
-  pub attached_counted : (end : ℕ) → begins_bin e g ≡ true → count_from e 0 0 4 (drop 4 g) ≡ Told (length g - end - 1) end → end + 1 ≡ attached_from e g
+  pub attached_counted : (end : ℕ) → begins_bin e g ≡ true → count_from e 0 0 4 (drop 4 g) ≡ told (length g - end - 1) end → end + 1 ≡ attached_from e g
   attached_counted end b z = attached_here (rw b tt) _ refl (length g - end - 1) end z refl
 
-  pub attached_otherwise : (number end : ℕ) → begins_bin e g ≡ true → count_from e 0 0 4 (drop 4 g) ≡ Told number end
+  pub attached_otherwise : (number end : ℕ) → begins_bin e g ≡ true → count_from e 0 0 4 (drop 4 g) ≡ told number end
       → (length g - end - 1 ≡ number → ⊥) → length g ≡ attached_from e g
   attached_otherwise number end b z n = attached_elsewhere (rw b tt) _ refl number end z n
+
+  pub attached_uncounted : (x : Uncounted) → begins_bin e g ≡ true → count_from e 0 0 4 (drop 4 g) ≡ Err x → length g ≡ attached_from e g
+  attached_uncounted x b z = uncounted_err (rw b tt) _ refl x z
+
+  pub count_inside : (number end : ℕ) → begins_bin e g ≡ true → count_from e 0 0 4 (drop 4 g) ≡ told number end → end < length g
+  count_inside number end b z = end_inside (rw b tt) _ refl number end z
 
   -- the elements by that place
   pub bin_of : attached_from e g < length g → is_bin e g ≡ true

@@ -1,20 +1,23 @@
 -- What stands in a whole BIN: the mark, a count, the separator and the attached bytes; and bytes so made are a whole BIN.
 -- Assumes nothing.
-use Prim.Native.Nat.{ℕ, suc, ◌+◌, ◌≤◌, ◌<◌}
-use mathlib.Core.Path.{◌≡◌, sym, ap, ◌∙◌}
+use Prim.Native.Nat.{ℕ, ◌+◌, ◌≤◌, ◌<◌}
+use mathlib.Core.Path.{◌≡◌, refl, sym, ap, ◌∙◌}
 use mathlib.Core.Bool.{Bool, true, false, ◌&&◌}
 use mathlib.Core.List.{List, [], ◌∷◌, ◌++◌}
 use native.Mathlib.Omega.{arith}
 use lib.Dec.{T, eqb, leb, eqb→eq, leb→le}
 use lib.ListN.{length, take, drop, get_or, length-append, length-take, length-drop, take-append-drop, drop_of_length-le}
-use lib.Seq.{drop_at, drop-cons, append_snoc}
-use borrow.Author.Tests.{eq-eqb, ne_eqb, le-leb}
-use Rattle.text.specs.Bytes.{Bytes, byte, between, every, same, value_of}
+use lib.Seq.{drop_at, append_snoc}
+use borrow.Author.Tests.{eq-eqb, le-leb}
+use Rattle.std.specs.List.{slice_range, starts_with}
+use lib.Pointwise.{pointwise}
+use Rattle.text.proofs.Lists.{part_from}
+use Rattle.text.specs.Bytes.{Bytes, between, every, same, value_of}
 use Rattle.text.specs.Separators.{is_digit}
 use Rattle.text.specs.Pieces.{pieces, joined}
 use Rattle.text.specs.Bin.{bin_mark, begins_bin, count_in, attached_in, counts, is_bin}
 use Rattle.text.specs.internal.Search.{Free}
-use Rattle.text.proofs.Bools.{first_of, second_of, passes, fails, and_assoc, and_true}
+use Rattle.text.proofs.Bools.{first_of, second_of, passes, fails, eqb_swap}
 use Rattle.text.proofs.Pieces.{Clean, pieces_cut, pieces_clean, joined_pieces}
 use Rattle.text.proofs.Sames.{same_equal, same_self}
 
@@ -106,45 +109,27 @@ bin_begins e g x h =
     let w = (bin_parts e g h).whole in
     ap (λ (y : Bytes). begins_bin e (y ++ x)) w ∙ mark_begins e ((count_in e g ++ e ∷ attached_in e g) ++ x)
 
--- whether bytes begin so, byte by byte from a place on
+-- a comparison pair by pair, the one list beside the other
+pointwise_same : (s t : Bytes) → pointwise eqb t s ≡ same s t
+pointwise_same [] [] = refl
+pointwise_same [] (b ∷ t) = refl
+pointwise_same (a ∷ s) [] = refl
+pointwise_same (a ∷ s) (b ∷ t) = rw (eqb_swap b a, pointwise_same s t)
+
+-- whether bytes begin so from a place on
 short_differs : (s t : Bytes) → (length s ≡ length t → ⊥) → same s t ≡ false
 short_differs s t n = fails (same s t) (λ h. n (ap length (same_equal s t h)))
 
-pub begins_short : (e : ℕ) (s : Bytes) (at : ℕ) → length s < at + 4 → false ≡ begins_bin e (drop at s)
+pub begins_past : (e : ℕ) (s : Bytes) (at : ℕ) → length s < at → false ≡ begins_bin e (drop at s)
 unfolding begins_bin
-begins_short e s at l =
+begins_past e s at l =
     sym (short_differs (take 4 (drop at s)) (bin_mark e) (λ z. omega (arith, z, length-take 4 (drop at s), length-drop at s)))
 
-pub begins_other : (e : ℕ) (s : Bytes) (at : ℕ) → at < length s → (get_or s at 0 ≡ byte "B" → ⊥) → false ≡ begins_bin e (drop at s)
+pub begins_with : (e : ℕ) (s : Bytes) (at : ℕ) (rest : Bytes) (b : Bool) → b ≡ starts_with eqb rest (bin_mark e)
+    → rest ≡ slice_range s at (length s) → b ≡ begins_bin e (drop at s)
 unfolding begins_bin
-begins_other e s at l n = sym (rw (drop-cons s at 0 l, ne_eqb (get_or s at 0) (byte "B") n))
-
-module _ (e : ℕ) (s : Bytes) (at : ℕ) (l : at + 4 ≤ length s) where
-  four : drop at s ≡ get_or s at 0 ∷ get_or s (at + 1) 0 ∷ get_or s (at + 2) 0 ∷ get_or s (at + 3) 0 ∷ drop (at + 4) s
-  four =
-      let a : at + 1 ≡ suc at = omega arith in
-      let b : at + 2 ≡ suc (suc at) = omega arith in
-      let c : at + 3 ≡ suc (suc (suc at)) = omega arith in
-      let d : at + 4 ≡ suc (suc (suc (suc at))) = omega arith in
-      rw (
-        a,
-        b,
-        c,
-        d,
-        drop-cons s at 0 (omega arith),
-        drop-cons s (suc at) 0 (omega arith),
-        drop-cons s (suc (suc at)) 0 (omega arith),
-        drop-cons s (suc (suc (suc at))) 0 (omega arith),
-      )
-
-  pub begins_letters : get_or s at 0 ≡ byte "B"
-      → ((eqb (get_or s (at + 1) 0) (byte "I") && eqb (get_or s (at + 2) 0) (byte "N")) && eqb (get_or s (at + 3) 0) e) ≡ begins_bin e (drop at s)
-  unfolding begins_bin
-  begins_letters z =
-      let i = eqb (get_or s (at + 1) 0) (byte "I") in
-      let n = eqb (get_or s (at + 2) 0) (byte "N") in
-      let x = eqb (get_or s (at + 3) 0) e in
-      sym (rw (four, eq-eqb (get_or s at 0) (byte "B") z) (sym (and_assoc i n x ∙ ap (λ (b : Bool). i && (n && b)) (sym (and_true x)))))
+begins_with e s at rest b is w =
+    is ∙ ap (λ (x : Bytes). starts_with eqb x (bin_mark e)) (w ∙ part_from at s) ∙ pointwise_same (take 4 (drop at s)) (bin_mark e)
 
 -- whether a marked segment is a whole BIN is told by its count
 pub marked_counts : (e : ℕ) (g d p : Bytes) → g ≡ bin_mark e ++ (d ++ e ∷ p) → Free e d → is_bin e g ≡ counts d p

@@ -9,6 +9,7 @@ use native.Mathlib.Omega.{arith}
 use native.Mathlib.Decide.{dec_lt}
 use lib.Dec.{T, eqb, eqb→eq}
 use lib.ListN.{length, take, drop, get_or, get_or-eq_default}
+use Rattle.std.specs.List.{list_all}
 use Rattle.text.specs.Bytes.{every, among}
 use Rattle.text.proofs.Bools.{both, first_of, second_of, or_cases, and_assoc, and_true}
 
@@ -68,3 +69,8 @@ pub every_among : (f : ℕ → Bool) (l : List ℕ) (x : ℕ) → T (every f l) 
 every_among f [] x a m = absurd m
 every_among f (y ∷ l) x a m =
     or_cases (eqb x y) (among l x) (λ e. rw (eqb→eq x y e) (first_of (f y) (every f l) a)) (every_among f l x (second_of (f y) (every f l) a)) m
+
+-- as std tests each one of a list
+pub every_all : {A : Type 0} (f : A → Bool) (l : List A) → list_all f l ≡ every f l
+every_all f [] = refl
+every_all f (x ∷ l) = rw (every_all f l)

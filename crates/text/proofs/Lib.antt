@@ -2,7 +2,6 @@ pub mod Bools
 pub mod Tables
 pub mod Lists
 pub mod Sames
-pub mod Alike
 pub mod Everys
 pub mod Tests
 pub mod Pieces

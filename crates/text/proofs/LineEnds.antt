@@ -1,15 +1,13 @@
 -- Line ends between segments: both choices of skipping keep the law of skips, and what the bytes say of a line end.
 -- Assumes nothing.
 use Prim.Native.Nat.{ℕ, zero, suc, ◌+◌, ◌≤◌, ◌<◌}
-use mathlib.Core.Path.{◌≡◌, refl, sym, ◌∙◌}
+use mathlib.Core.Path.{◌≡◌, refl, ◌∙◌}
 use mathlib.Core.Logic.{◌⊎◌, inl, inr}
 use mathlib.Core.Bool.{Bool, true, false, not, cond, ◌&&◌}
 use mathlib.Core.List.{[], ◌∷◌, ◌++◌}
 use native.Mathlib.Omega.{arith}
 use lib.Dec.{T, eqb, leb, leb→le}
 use lib.ListN.{length, drop, get_or, length-drop, drop_of_length-le}
-use lib.Seq.{drop-cons, drop-drop}
-use mir.Val.{bool_byte}
 use borrow.Author.Tests.{ne_eqb, eqb-true}
 use Rattle.text.specs.Bytes.{Bytes, byte}
 use Rattle.text.specs.Separators.{is_capital, is_separator}
@@ -125,26 +123,7 @@ module _ (q : Separators) where
   skipped_small Skipped s k l = first_small s k l
   skipped_small Strict s k l = absurd (omega arith)
 
--- What the code asks: past the end nothing is skipped
+-- past the end nothing is skipped
 pub past_end : (q : Separators) (lines : LineEnds) (s : Bytes) (at : ℕ) → length s ≤ at → skip_of lines q (drop at s) ≡ 0
 past_end q Skipped s at l = rw (drop_of_length-le s l)
 past_end q Strict s at l = refl
-
-pub one_past_end : (q : Separators) (b : ℕ) (s : Bytes) (at : ℕ) → length s ≤ at → 0 ≡ at_most_one q b (drop at s)
-one_past_end q b s at l = rw (drop_of_length-le s l)
-
--- one byte of the bytes, as the code counts it
-pub one_there : (q : Separators) (b : ℕ) (s : Bytes) (at : ℕ) → at < length s → bool_byte (is_one q b (get_or s at 0)) ≡ at_most_one q b (drop at s)
-one_there q b s at l = rw (drop-cons s at 0 l) (by (is_one q b (get_or s at 0)))
-  where
-    by : (c : Bool) → bool_byte c ≡ cond c 1 0
-    by true = refl
-    by false = refl
-
--- none where a greater byte stands
-pub greater_there : (q : Separators) (s : Bytes) (at : ℕ) → at < length s → CR < get_or s at 0 → 0 ≡ line_end q (drop at s)
-greater_there q s at l g = rw (drop-cons s at 0 l) (sym (no_line_end q (get_or s at 0) (drop (suc at) s) g))
-
--- the two counts one after the other
-pub both_there : (q : Separators) (s : Bytes) (at m n : ℕ) → m ≡ at_most_one q CR (drop at s) → n ≡ at_most_one q LF (drop (at + m) s) → m + n ≡ line_end q (drop at s)
-both_there q s at m n e f = rw (f, drop-drop, e)

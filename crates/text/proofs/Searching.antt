@@ -1,17 +1,23 @@
 -- A search from `from` on that has passed the bytes up to i without meeting the byte; and whether a byte stands among others.
 -- Assumes nothing.
 use Prim.Native.Nat.{ℕ, suc, ◌+◌, ◌≤◌, ◌<◌}
-use mathlib.Core.Path.{◌≡◌, refl, sym, ap, ◌∙◌}
-use mathlib.Core.Bool.{Bool, true, false, ◌||◌, true≢false, or-true}
+use mathlib.Core.Path.{◌≡◌, refl, sym, ap, ◌∙◌, subst}
+use mathlib.Core.Bool.{Bool, true, false, ◌||◌, not, cond, true≢false}
 use mathlib.Core.List.{[], ◌∷◌, ◌++◌, append_assoc, append-nil}
 use native.Mathlib.Omega.{arith}
+use native.Mathlib.Decide.{dec_lt}
 use native.Mathlib.Numerals.{add-one}
-use lib.ListN.{length, drop, get_or, length-append, drop_of_length-le}
+use lib.ListN.{length, take, drop, get_or, length-append, drop_of_length-le, take-append-drop}
 use lib.Dec.{eqb}
-use lib.Seq.{drop-cons}
-use borrow.Author.Tests.{eq-eqb, ne_eqb, eqb-false}
+use lib.Seq.{drop-cons, length-take-le, take_all}
+use borrow.Author.Tests.{ne_eqb, eqb-true, eqb-false, lt-ltb, le-ltb}
 use Rattle.text.specs.Bytes.{Bytes, among}
-use Rattle.text.specs.internal.Search.{Free, FirstAt}
+use Rattle.text.specs.internal.Search.{Free, FirstAt, Finds}
+use Rattle.std.specs.Prelude.{Option, Some, None, position, option_map}
+use Rattle.std.specs.List.{position_or_len, slice_range}
+use Rattle.std.proofs.lemmas.List.Sums.{passes_at_first}
+use mathlib.Core.Logic.{by_cases}
+use Rattle.text.proofs.Lists.{part_from}
 use Rattle.text.proofs.Pieces.{free_snoc}
 
 pub record Unmet (s : Bytes) (from byte i : ℕ) : Type 0 where
@@ -59,12 +65,60 @@ among_free byte (b ∷ s) e =
     neither false y e = (refl, e)
     neither true y e = absurd (true≢false e)
 
-pub met_among : {s : Bytes} {byte j : ℕ} → FirstAt s 0 byte j → among s byte ≡ true
-met_among {s} {byte} f = ap (λ (l : Bytes). among l byte) f.whole ∙ behind f.gap
-  where
-    behind : (gap : Bytes) → among (gap ++ byte ∷ f.rest) byte ≡ true
-    behind [] = rw (eq-eqb byte byte refl)
-    behind (b ∷ gap) = rw (behind gap, or-true (eqb byte b))
-
 pub among_unfree : (byte : ℕ) (s : Bytes) → among s byte ≡ true → Free byte s → ⊥
 among_unfree byte s e f = true≢false (sym e ∙ free_among byte s f)
+
+-- before the first place of the byte there is none
+gap_free : (byte : ℕ) (s : Bytes) → Free byte (take (position_or_len (eqb byte) s) s)
+gap_free byte [] = tt
+gap_free byte (b ∷ s) = by (eqb byte b) refl (gap_free byte s)
+  where
+    by : (t : Bool) → eqb byte b ≡ t → Free byte (take (position_or_len (eqb byte) s) s)
+        → Free byte (take (cond (not t) (1 + position_or_len (eqb byte) s) 0) (b ∷ s))
+    by true e f = tt
+    by false e f =
+        let n = position_or_len (eqb byte) s in
+        let step : suc n ≡ 1 + n = omega arith in
+        let free : Free byte (b ∷ take n s) = (λ q. eqb-false byte b e (sym q), f) in
+        subst (λ (k : ℕ). Free byte (take k (b ∷ s))) step free
+
+-- what a search from `from` on hands back, by the first place of the byte in what stands there
+module _ (s : Bytes) (from byte : ℕ) where
+  abbrev t : Bytes
+  t = drop from s
+
+  abbrev m : ℕ
+  m = position_or_len (eqb byte) t
+
+  first_met : m < length t → FirstAt s from byte (from + m)
+  first_met l = record {
+    gap = take m t;
+    rest = drop (suc m) t;
+    whole =
+        sym (take-append-drop m t)
+        ∙ ap (λ (x : Bytes). take m t ++ x)
+        (drop-cons t m 0 l ∙ ap (λ (x : ℕ). x ∷ drop (suc m) t) (sym (eqb-true byte (get_or t m 0) (passes_at_first (eqb byte) t 0 l))));
+    free = gap_free byte t;
+    place = ap (λ (x : ℕ). from + x) (sym (length-take-le m t (omega arith)));
+  }
+
+  first_none : length t ≤ m → Free byte t
+  first_none l = subst (λ (x : Bytes). Free byte x) (take_all m t l) (gap_free byte t)
+
+  finds_place : (r : Option ℕ) → r ≡ position (eqb byte) t → Finds s from byte (option_map (λ gap. from + gap) r)
+  finds_place r e =
+      by_cases (dec_lt m (length t))
+      (λ l.
+      let some : position (eqb byte) t ≡ Some m = rw (lt-ltb m (length t) l) in
+      subst (λ (x : Option ℕ). Finds s from byte (option_map (λ gap. from + gap) x)) (sym (e ∙ some)) (first_met l))
+      (λ l.
+      let none : position (eqb byte) t ≡ None = rw (le-ltb m (length t) (omega arith)) in
+      subst (λ (x : Option ℕ). Finds s from byte (option_map (λ gap. from + gap) x)) (sym (e ∙ none)) (first_none (omega arith)))
+
+pub finds_behind : (s rest : Bytes) (from byte gap : ℕ) → Some gap ≡ position (eqb byte) rest → rest ≡ slice_range s from (length s)
+    → FirstAt s from byte (from + gap)
+finds_behind s rest from byte gap e r = finds_place s from byte (Some gap) (e ∙ ap (position (eqb byte)) (r ∙ part_from from s))
+
+pub finds_none : (s rest : Bytes) (from byte : ℕ) → None ≡ position (eqb byte) rest → rest ≡ slice_range s from (length s)
+    → Free byte (drop from s)
+finds_none s rest from byte e r = finds_place s from byte None (e ∙ ap (position (eqb byte)) (r ∙ part_from from s))

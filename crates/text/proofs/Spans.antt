@@ -12,7 +12,8 @@ use borrow.Author.Tests.{lt-ltb, le-ltb}
 use Rattle.text.specs.Bytes.{Bytes}
 use Rattle.text.specs.Pieces.{pieces, joined, closed}
 use Rattle.text.proofs.Pieces.{Clean, pieces_free, pieces_cut, pieces_closed, joined_pieces, closed_snoc, clean_snoc}
-use Rattle.text.specs.internal.Search.{Free, FirstAt}
+use Rattle.text.specs.internal.Search.{Free, FirstAt, Finds}
+use Rattle.std.specs.Prelude.{Option, Some, None, unwrap_or}
 use Rattle.text.specs.Lookup.{span, span_among, part_of}
 use Rattle.text.specs.internal.Spans.{piece_span}
 use Rattle.text.specs.declared.lookup.Span.{Span}
@@ -98,6 +99,12 @@ module _ {sep : ℕ} {s : Bytes} {k at : ℕ} (b : Begun sep s k at) where
     -- past the last
     pub span_past : (n : ℕ) → k < n → span (length s) 0 ≡ piece_span sep s n
     span_past n l = sym (span_beyond sep s n (rw last_here (simp length-append (omega (arith, b.count)))))
+
+-- the piece k ends at the next separator, or with the bytes
+module _ {sep : ℕ} {s : Bytes} {k at : ℕ} (b : Begun sep s k at) where
+  pub span_ends : (r : Option ℕ) → Finds s at sep r → span at (unwrap_or r (length s) - at) ≡ piece_span sep s k
+  span_ends (Some j) f = span_cut b f
+  span_ends None f = span_last b f
 
 -- a piece of the bytes with what stands around it
 record Spot (sep : ℕ) (ps : List Bytes) (n : ℕ) : Type 0 where

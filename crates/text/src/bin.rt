@@ -6,11 +6,18 @@ ghost use Rattle.text.specs.internal.Count.{count_from};
 
 use crate::separators;
 
-// What a count comes to.
-#[derive(Clone, Copy, Drop)]
-pub enum Counted {
-    // The number, 1 at least, and the place of the separator behind it.
-    Told(usize, usize),
+// A count, and where it ends.
+#[derive(Clone, Copy, Debug, PartialEq, Eq, Drop)]
+pub struct Counted {
+    // The number, 1 at least.
+    pub number: usize,
+    // The place of the separator behind it.
+    pub end: usize,
+}
+
+// Why no count stands there.
+#[derive(Clone, Copy, Debug, PartialEq, Eq, Drop)]
+pub enum Uncounted {
     // The bytes end before the separator, and nothing is wrong so far.
     Open,
     // A byte lets no count follow.
@@ -18,53 +25,47 @@ pub enum Counted {
 }
 
 // Whether `BIN` and the element separator stand from `at` on.
-#[tactic(auto, using(crate::proofs::Bins::begins_other))]
+#[tactic(auto, using(crate::proofs::Bins::begins_past))]
 pub fn begins(s: &[u8], at: usize, element: u8) -> bool
     ensures { result ≡ begins_bin element (drop at s.now) }
 {
-    if s.len() <= at {
+    let Some(rest) = s.get(at..) else {
         return false;
-    }
-    if s[at] != b'B' {
-        return false;
-    }
-    if s.len() - at < 4 {
-        return false;
-    }
-    (s[at + 1] == b'I') & (s[at + 2] == b'N') & (s[at + 3] == element)
+    };
+    rest.starts_with(&[b'B', b'I', b'N', element])
 }
 
 // The count from `from` on: 1 to 15 digits, which write 1 at least, and the element separator.
-#[tactic(auto, using(crate::proofs::Counting::count_nothing))]
-pub fn count(s: &[u8], from: usize, element: u8) -> Counted
+pub fn count(s: &[u8], from: usize, element: u8) -> Result<Counted, Uncounted>
     ensures { result ≡ count_from element 0 0 from (drop from s.now) }
 {
-    let mut digits: usize = 0;
-    let mut number: usize = 0;
-    let mut i = from;
-    while i < s.len() {
-        let b = s[i];
+    let Some(rest) = s.get(from..) else {
+        return Err(Uncounted::Open);
+    };
+    let mut number = 0;
+    for (digits, &b) in rest.iter().enumerate() {
         if b == element {
             if number == 0 {
-                return Counted::Broken;
+                return Err(Uncounted::Broken);
             }
-            return Counted::Told(number, i);
+            return Ok(Counted {
+                number,
+                end: from + digits,
+            });
         }
         if !separators::is_digit(b) {
-            return Counted::Broken;
+            return Err(Uncounted::Broken);
         }
-        digits += 1;
-        number = number * 10 + ((b - b'0') as usize);
-        if (15 < digits) | ((15 == digits) & (number == 0)) {
-            return Counted::Broken;
+        number = number * 10 + usize::from(b - b'0');
+        if (15 <= digits) | ((14 == digits) & (number == 0)) {
+            return Err(Uncounted::Broken);
         }
-        i += 1;
     }
-    Counted::Open
+    Err(Uncounted::Open)
 }
 
 // Where BIN02 of a whole BIN starts; the end of any other segment.
-#[tactic(auto, using(crate::proofs::BinSpans::attached_counted, crate::proofs::BinSpans::attached_otherwise))]
+#[tactic(auto, using(crate::proofs::BinSpans::unmarked, crate::proofs::BinSpans::count_inside, crate::proofs::BinSpans::attached_counted, crate::proofs::BinSpans::attached_otherwise, crate::proofs::BinSpans::attached_uncounted))]
 pub fn attached_from(segment: &[u8], element: u8) -> usize
     ensures { result ≡ attached_from element segment.now }
 {
@@ -72,13 +73,7 @@ pub fn attached_from(segment: &[u8], element: u8) -> usize
         return segment.len();
     }
     match count(segment, 4, element) {
-        Counted::Told(number, end) => {
-            if segment.len() - end - 1 == number {
-                return end + 1;
-            }
-            segment.len()
-        }
-        Counted::Open => segment.len(),
-        Counted::Broken => segment.len(),
+        Ok(Counted { number, end }) if segment.len() - end - 1 == number => end + 1,
+        _ => segment.len(),
     }
 }

@@ -5,7 +5,7 @@ ghost use Rattle.text.specs.Cut.{at_most_one, line_end, skip_of};
 use crate::separators::Separators;
 
 // What becomes of a line end behind a terminator.
-#[derive(Clone, Copy, Drop)]
+#[derive(Clone, Copy, Debug, PartialEq, Eq, Drop)]
 pub enum LineEnds {
     // It is skipped: at most one CR and then at most one LF.
     Skipped,
@@ -17,24 +17,20 @@ pub enum LineEnds {
 fn at_most_one(s: &[u8], at: usize, separators: Separators, byte: u8) -> usize
     ensures { result ≡ at_most_one separators byte (drop at s.now) }
 {
-    if s.len() <= at {
+    let Some(&first) = s.get(at) else {
         return 0;
-    }
-    let separator = (byte == separators.element)
-        | (byte == separators.component)
-        | (byte == separators.terminator);
-    ((s[at] == byte) & !separator) as usize
+    };
+    usize::from((first == byte) & !separators.separates(byte))
 }
 
 // The length of the line end at that place. Few bytes are so small: any other is told by one comparison.
-#[tactic(auto, using(crate::proofs::LineEnds::greater_there))]
 fn line_end(s: &[u8], at: usize, separators: Separators) -> usize
     ensures { result ≡ line_end separators (drop at s.now) }
 {
-    if s.len() <= at {
+    let Some(&first) = s.get(at) else {
         return 0;
-    }
-    if b'\r' < s[at] {
+    };
+    if b'\r' < first {
         return 0;
     }
     let returns = at_most_one(s, at, separators, b'\r');

@@ -3,11 +3,10 @@ ghost use Rattle.std.specs.Prelude.{◌≡◌, ◌+◌, ◌-◌, ◌≤◌, leng
 ghost use Rattle.text.specs.Lookup.{span_within, element_span, attached_from, part_span, part_of, PartAt};
 ghost use Rattle.text.specs.internal.Spans.{piece_span, bin_span, only_span};
 
-use crate::search::Found;
 use crate::separators::Separators;
 use crate::{bin, search};
 
-#[derive(Clone, Copy, Drop)]
+#[derive(Clone, Copy, Debug, PartialEq, Eq, Drop)]
 pub struct Span {
     pub start: usize,
     pub len: usize,
@@ -17,27 +16,20 @@ pub struct Span {
 fn piece_span(s: &[u8], separator: u8, first: usize, n: usize) -> Span
     ensures { result ≡ piece_span separator s.now (n - first) }
 {
-    let mut start: usize = 0;
-    let mut k = first;
-    while k < n {
-        let Found::At(j) = search::find(s, start, separator) else {
+    let mut start = 0;
+    'pieces: for _ in first..n {
+        let Some(end) = search::find(s, start, separator) else {
             return Span {
                 start: s.len(),
                 len: 0,
             };
         };
-        start = j + 1;
-        k += 1;
+        start = end + 1;
     }
-    match search::find(s, start, separator) {
-        Found::At(j) => {
-            let len = j - start;
-            Span { start, len }
-        }
-        Found::Nowhere => {
-            let len = s.len() - start;
-            Span { start, len }
-        }
+    let end = search::find(s, start, separator).unwrap_or(s.len());
+    Span {
+        start,
+        len: end - start,
     }
 }
 
@@ -47,24 +39,20 @@ fn bin_span(segment: &[u8], attached: usize, number: usize) -> Span
     requires attached_in_bounds { attached ≤ length segment.now }
     ensures { result ≡ bin_span attached (length segment.now) number }
 {
-    if number == 0 {
-        return Span { start: 0, len: 3 };
-    }
-    if number == 1 {
-        return Span {
+    match number {
+        0 => Span { start: 0, len: 3 },
+        1 => Span {
             start: 4,
             len: attached - 5,
-        };
-    }
-    if number == 2 {
-        return Span {
+        },
+        2 => Span {
             start: attached,
             len: segment.len() - attached,
-        };
-    }
-    Span {
-        start: segment.len(),
-        len: 0,
+        },
+        _ => Span {
+            start: segment.len(),
+            len: 0,
+        },
     }
 }
 
@@ -80,6 +68,7 @@ fn element_span(segment: &[u8], attached: usize, separator: u8, number: usize) -
 }
 
 // Where a component stands of the element at `whole`, which is one component.
+#[tactic(auto, unfolding(crate::specs::internal::Spans::only_span))]
 fn only_span(segment: &[u8], whole: Span, part: usize) -> Span
     requires { whole.start + whole.len ≤ length segment.now }
     ensures { result ≡ only_span whole part }

@@ -1,8 +1,8 @@
 // The three separators of a transaction, the standard set, and which sets are fit.
 ghost use Rattle.std.specs.Prelude.{◌≡◌};
-ghost use Rattle.text.specs.Separators.{is_digit, may_serve, fit_separators, standard};
+ghost use Rattle.text.specs.Separators.{is_digit, may_serve, fit_separators, is_separator, standard};
 
-#[derive(Clone, Copy, Drop)]
+#[derive(Clone, Copy, Debug, PartialEq, Eq, Drop)]
 pub struct Separators {
     pub element: u8,
     pub component: u8,
@@ -40,21 +40,29 @@ impl Separators {
             & (self.element != self.terminator)
             & (self.component != self.terminator)
     }
+
+    // Whether the byte is one of the three.
+    #[inline]
+    pub fn separates(self, byte: u8) -> bool
+        ensures { result ≡ is_separator self byte }
+    {
+        (byte == self.element) | (byte == self.component) | (byte == self.terminator)
+    }
 }
 
 // A digit.
 pub fn is_digit(b: u8) -> bool
     ensures { result ≡ is_digit b }
 {
-    (b'0' <= b) & (b <= b'9')
+    matches!(b, b'0'..=b'9')
 }
 
 // A byte 1 to 126 that is no letter, digit, space, '.' or '-'.
+#[tactic(auto, unfolding(crate::specs::Separators::may_serve))]
 pub fn may_serve(b: u8) -> bool
     ensures { result ≡ may_serve b }
 {
-    let letter = ((b'A' <= b) & (b <= b'Z')) | ((b'a' <= b) & (b <= b'z'));
-    let digit = (b'0' <= b) & (b <= b'9');
-    let sign = (b == b' ') | (b == b'.') | (b == b'-');
-    (1 <= b) & (b <= 126) & !(letter | digit | sign)
+    let letter = b.is_ascii_uppercase() | b.is_ascii_lowercase();
+    let sign = b" .-".contains(&b);
+    matches!(b, 1..=126) & !(letter | is_digit(b) | sign)
 }

@@ -1,8 +1,8 @@
 -- The number that digits write, digit by digit, and how large it is.
 -- Assumes nothing.
 use Prim.Native.Nat.{ℕ, suc, ◌+◌, ◌-◌, ◌*◌, ◌^◌, ◌≤◌, ◌<◌}
-use mathlib.Core.Path.{◌≡◌, refl, ap, ◌∙◌}
-use mathlib.Core.Bool.{Bool, true, false, cond, ◌&&◌}
+use mathlib.Core.Path.{◌≡◌, refl}
+use mathlib.Core.Bool.{true}
 use mathlib.Core.List.{[], ◌∷◌, ◌++◌}
 use native.Mathlib.Omega.{arith}
 use native.Mathlib.Nat.{pow-succ', pow-le-pow_right, mul_assoc, mul-le-mul_left, mul-le-mul_right}
@@ -10,14 +10,14 @@ use native.Mathlib.Numerals.{add-one}
 use lib.Dec.{leb}
 use lib.ListN.{length, take, drop, get_or, length-drop}
 use lib.Pow.{pow-add}
-use lib.Seq.{take-suc, take_all, take-length, length-take-le}
-use borrow.Author.Tests.{leb-true, le-leb, lt-leb}
+use lib.Seq.{take-suc, length-take-le}
+use borrow.Author.Tests.{leb-true}
 use Rattle.text.specs.Bytes.{Bytes, value_from, value_of}
 use Rattle.text.specs.Separators.{is_digit}
 use Rattle.text.proofs.Bools.{passes as test-passes}
 use Rattle.text.proofs.Everys.{every_at, every_take, every_drop}
 use Rattle.text.proofs.Tests.{and_first, and_second}
-use Rattle.types.specs.Types.{is_number, figures, number_of}
+use Rattle.types.specs.Types.{is_number}
 use Rattle.types.specs.internal.Parts.{Valued, Written}
 
 -- one digit more, and more digits
@@ -52,6 +52,9 @@ value_small {n} {s} v = omega (arith, value_below n s v.digits, v.small)
 -- up to fifteen digits, at once or behind one another
 pub valued : (s : Bytes) → is_number s ≡ true → length s ≤ 15 → Valued 0 s
 valued s e l = record { digits = e; small = omega (arith, pow-le-pow_right {n = 10} (omega arith) {i = length s} {j = 15} l) }
+
+pub digits_few : (s : Bytes) → is_number s ≡ true → length s ≤ 15 → value_from 0 s < 1000000000000000
+digits_few s e l = value_small (valued s e l)
 
 pub valued_behind : (s t : Bytes) → is_number s ≡ true → is_number t ≡ true → length s + length t ≤ 15 → Valued (value_of s) t
 valued_behind s t e f l = record {
@@ -95,9 +98,6 @@ module _ {first : ℕ} {s : Bytes} {i n : ℕ} (v : Valued first s) (f : Figured
         small = omega (arith, f.small, rw left at step);
       }
 
-pub figured_all : {first : ℕ} {s : Bytes} {i n : ℕ} → Figured first s i n → length s ≤ i → n ≡ value_from first s
-figured_all {first} {s} {i} f l = f.so_far ∙ ap (value_from first) (take_all i s l)
-
 -- the digits of a part of the value
 pub written : (s : Bytes) (from count : ℕ) → is_number s ≡ true → from + count ≤ length s → count ≤ 10 → Written s from count
 written s from count e l f = record { inside = l; few = f; digits = e }
@@ -107,28 +107,3 @@ written_part {s} {from} {count} w =
     valued (take count (drop from s))
     (test-passes _ (every_take is_digit count (drop from s) (every_drop is_digit from s (rw w.digits tt))))
     (rw (length-take-le count (drop from s) (rw (length-drop from s) (omega (arith, w.inside)))) (omega (arith, w.few)))
-
--- a number of one to ten digits
-pub number_none : (s : Bytes) → length s ≡ 0 → 0 ≡ number_of s
-unfolding number_of
-number_none s l = rw l
-
-pub number_long : (s : Bytes) → 10 < length s → 0 ≡ number_of s
-unfolding number_of
-number_long s l = rw (lt-leb (length s) 10 l) (other (leb 1 (length s)))
-  where
-    other : (a : Bool) → 0 ≡ cond (a && false && is_number s) (value_of s) 0
-    other true = refl
-    other false = refl
-
-pub number_other : (s : Bytes) → is_number s ≡ false → 0 ≡ number_of s
-unfolding number_of
-number_other s e = rw e (other (leb 1 (length s) && leb (length s) 10))
-  where
-    other : (a : Bool) → 0 ≡ cond (a && false) (value_of s) 0
-    other true = refl
-    other false = refl
-
-pub number_written : (s : Bytes) → (length s ≡ 0 → ⊥) → length s ≤ 10 → is_number s ≡ true → figures 0 (length s) s ≡ number_of s
-unfolding number_of
-number_written s n l e = rw (le-leb 1 (length s) (omega arith), le-leb (length s) 10 l, e, take-length s)

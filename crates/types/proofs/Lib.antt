@@ -8,7 +8,6 @@ pub mod SameNumber
 pub mod MovedPoint
 pub mod Months
 pub mod Fitting
-pub mod Days
 pub mod QuickFits
 pub mod NumberCases
 pub mod Cases

@@ -3,28 +3,32 @@
 use Prim.Native.Nat.{ℕ}
 use Prim.Native.String.{String}
 use mathlib.Core.Path.{◌≡◌, refl}
-use mathlib.Core.Bool.{true, false}
 use mathlib.Core.List.{List, [], ◌∷◌, map}
 use lib.IntN.{ℤ, pos, neg_ℤ}
+use Rattle.std.specs.Prelude.{Option, Some, None}
 use Rattle.text.specs.Bytes.{bytes}
 use Rattle.types.specs.Reals.{is_real}
-use Rattle.types.specs.Numbers.{unfit, checked}
+use Rattle.types.specs.Numbers.{checked}
 use Rattle.types.specs.Types.{fits}
 use Rattle.types.specs.Worth.{worth_at}
 use Rattle.types.specs.declared.numbers.Number.{Number}
 
 -- a number without an exponent, and one with it
-abbrev plain : ℤ → ℕ → Number
-plain value places = record { fit = true; value = value; places = places; exponent = pos 0; written = false }
+abbrev plain : ℤ → ℕ → Option Number
+plain value places = Some (record { value = value; places = places; exponent = None })
 
-abbrev raised : ℤ → ℕ → ℤ → Number
-raised value places exponent = record { fit = true; value = value; places = places; exponent = exponent; written = true }
+abbrev raised : ℤ → ℕ → ℤ → Option Number
+raised value places exponent = Some (record { value = value; places = places; exponent = Some exponent })
+
+-- no number
+abbrev unfit : Option Number
+unfit = None
 
 -- -n
 abbrev less : ℕ → ℤ
 less n = neg_ℤ (pos n)
 
-abbrev texts : List (String × Number)
+abbrev texts : List (String × Option Number)
 texts =
     ("-0.50", plain (less 50) 2) ∷ ("-0", plain (pos 0) 0) ∷ ("0", plain (pos 0) 0) ∷ ("12", plain (pos 12) 0) ∷ ("5.", plain (pos 5) 0)
     ∷ (".5", plain (pos 5) 1) ∷ ("-.5", plain (less 5) 1) ∷ ("007.250", plain (pos 7250) 3) ∷ ("999999999999999", plain (pos 999999999999999) 0)
@@ -39,7 +43,7 @@ texts =
     ∷ ("+1", unfit) ∷ ("5E+1", unfit) ∷ ("5e1", unfit) ∷ ("1.2.3", unfit) ∷ ("--5", unfit) ∷ ("5-", unfit) ∷ ("5E1E1", unfit) ∷ ("5E1.0", unfit) ∷ ("5E--1", unfit)
     ∷ (" 5", unfit) ∷ ("1,5", unfit) ∷ []
 
-pub numbers_told : map (λ (x : String × Number). checked 1 15 (bytes x.0)) texts ≡ map (λ (x : String × Number). x.1) texts
+pub numbers_told : map (λ (x : String × Option Number). checked 1 15 (bytes x.0)) texts ≡ map (λ (x : String × Option Number). x.1) texts
 unfolding checked fits is_real
 numbers_told = refl
 

@@ -3,20 +3,19 @@
 use Prim.Native.Nat.{ℕ, ◌+◌, ◌≤◌, ◌<◌}
 use mathlib.Core.Path.{◌≡◌, refl, sym, ap, ◌∙◌}
 use mathlib.Core.Bool.{Bool, true, false, not, cond, ◌&&◌, ◌||◌, true≢false}
-use mathlib.Core.List.{◌∷◌, ◌++◌, append-nil}
+use mathlib.Core.List.{◌++◌, append-nil}
 use native.Mathlib.Omega.{arith}
-use lib.Dec.{leb}
 use lib.ListN.{length, length-append}
-use borrow.Author.Tests.{leb-true, le-leb}
+use borrow.Author.Tests.{le-leb}
+use Rattle.std.specs.Prelude.{Option, Some, None, option_map, is_some, ℤ}
 use Rattle.text.specs.Bytes.{Bytes, byte, between, among, value_of}
 use Rattle.text.specs.Separators.{is_digit}
 use Rattle.text.proofs.Bools.{and_false}
 use Rattle.text.proofs.Everys.{every_both}
-use Rattle.text.proofs.Tests.{and_first, and_second}
 use Rattle.types.specs.Types.{is_number, fits}
-use Rattle.types.specs.Numbers.{checked, signed, exponent_in, number_in, unfit}
+use Rattle.types.specs.Numbers.{checked, signed, exponent_in, number_in}
 use Rattle.types.specs.Reals.{is_negative, unsigned, digits, is_written, exponent_text, is_exponent, is_real}
-use Rattle.types.specs.internal.NumberParts.{first_digits, Digits, exponent_behind, no_exponent, exponent_of_in, number_of}
+use Rattle.types.specs.internal.NumberParts.{first_digits, Digits, exponent_of_in, number_of}
 use Rattle.types.specs.internal.Parts.{Valued}
 use Rattle.types.specs.declared.kind.Kind.TheVariants.{R}
 use Rattle.types.proofs.Figures.{value_append, value_small, valued, valued_behind}
@@ -59,44 +58,22 @@ module _ {whole fraction : Bytes} (d : Digits whole fraction) where
   pub digits_small : value_of (whole ++ fraction) < 1000000000000000
   digits_small = rw (value_append 0 whole fraction) (value_small valued_second)
 
--- and so do the two of an exponent
-pub exponent_valued : (t : Bytes) → is_exponent t ≡ true → Valued 0 (unsigned t)
-exponent_valued t e =
-    let n = length (unsigned t) in
-    let few = leb-true n 2 (and_second (leb 1 n) (leb n 2) (and_second (is_number (unsigned t)) (between 1 2 n) e)) in
-    valued (unsigned t) (and_first (is_number (unsigned t)) (between 1 2 n) e) (omega (arith, few))
-
-pub exponent_valued_as : {figures : Bytes} (t : Bytes) → figures ≡ unsigned t → is_exponent t ≡ true → Valued 0 figures
-exponent_valued_as t e x = rw e (exponent_valued t x)
-
--- the tests of a count, as the code makes them
+-- the tests of a count: fifteen at most, and from least to most
 abbrev pub counted : ℕ → ℕ → ℕ → Bool
-counted least most n = leb 1 n && leb n 15 && leb least n && leb n most
+counted least most n = between 1 15 n && between least most n
 
-counted_out : (a b c d e g : Bool) → a && b && c && d ≡ false → c && d && (e && (a && b) && g) ≡ false
-counted_out a b false d e g h = refl
-counted_out a b true false e g h = refl
-counted_out a b true true false g h = refl
-counted_out true true true true true g h = absurd (true≢false h)
-counted_out true false true true true g h = refl
-counted_out false b true true true g h = refl
+counted_out : (a b d e : Bool) → a && b ≡ false → b && (d && a && e) ≡ false
+counted_out a false d e h = refl
+counted_out true true d e h = absurd (true≢false h)
+counted_out false true true e h = refl
+counted_out false true false e h = refl
 
-counted_in : (a b c d e g : Bool) → a && b && c && d ≡ true → e ≡ true → g ≡ true → c && d && (e && (a && b) && g) ≡ true
-counted_in true true true true true true h p q = refl
-counted_in true true true true false g h p q = p
-counted_in true true true true true false h p q = q
-counted_in true true true false e g h p q = absurd (true≢false (sym h))
-counted_in true true false d e g h p q = absurd (true≢false (sym h))
-counted_in true false c d e g h p q = absurd (true≢false (sym h))
-counted_in false b c d e g h p q = absurd (true≢false (sym h))
-
--- an exponent behind its `E`
-raised_fit : (t : Bytes) → (exponent_of_in (byte "E" ∷ t)).fit ≡ is_exponent t
-raised_fit t = by (is_exponent t)
-  where
-    by : (x : Bool) → (cond x (exponent_behind t) (no_exponent false)).fit ≡ x
-    by true = refl
-    by false = refl
+counted_in : (a b d e : Bool) → a && b ≡ true → d ≡ true → e ≡ true → b && (d && a && e) ≡ true
+counted_in true true true true h p q = refl
+counted_in true true true false h p q = q
+counted_in true true false e h p q = p
+counted_in true false d e h p q = absurd (true≢false (sym h))
+counted_in false b d e h p q = absurd (true≢false (sym h))
 
 -- the digits before the point, what stands behind it, the digits there, and what stands behind all digits
 abbrev pub whole_of : Bytes → Bytes
@@ -119,7 +96,7 @@ module _ (s : Bytes) (least most : ℕ) where
   count_is = length-append (whole_of s) (fraction_of s)
 
   -- what is not R is not checked to be one
-  not_real : is_real s ≡ false → unfit ≡ checked least most s
+  not_real : is_real s ≡ false → None ≡ checked least most s
   unfolding checked fits
   not_real e = rw (e, and_false (between least most (length (digits s))))
 
@@ -127,74 +104,84 @@ module _ (s : Bytes) (least most : ℕ) where
   unfolding is_real
   not_digits e = rw e
 
-  pub check_count : counted least most (count_of s) ≡ false → unfit ≡ checked least most s
+  pub check_count : counted least most (count_of s) ≡ false → None ≡ checked least most s
   unfolding checked fits is_real
   check_count h = by (parted (unsigned s))
     where
-      by : Outcome (unsigned s) (whole_of s ++ fraction_of s) (fraction_of s) (rest_of s) → unfit ≡ checked least most s
+      by : Outcome (unsigned s) (whole_of s ++ fraction_of s) (fraction_of s) (rest_of s) → None ≡ checked least most s
       by (fine p) =
           let n : length (digits s) ≡ count_of s = ap length p.digits_are ∙ count_is in
-          let out = counted_out (leb 1 (count_of s)) (leb (count_of s) 15) (leb least (count_of s)) (leb (count_of s) most) (is_number (digits s))
+          let out = counted_out (between 1 15 (count_of s)) (between least most (count_of s)) (is_number (digits s))
           (not (is_written s) || is_exponent (exponent_text s)) h in
           rw (n, out)
       by (spoilt n x) = not_real (not_digits n)
 
-  pub check_exponent : (exponent_of_in (rest_of s)).fit ≡ false → unfit ≡ checked least most s
+  pub check_exponent : exponent_of_in (rest_of s) ≡ None → None ≡ checked least most s
   unfolding is_real
   check_exponent h = not_real (by (parted (unsigned s)))
     where
       last : Ends (unsigned s) (rest_of s) → is_real s ≡ false
-      last (ended a b c) = absurd (true≢false (ap (λ (l : Bytes). (exponent_of_in l).fit) (sym a) ∙ h))
+      last (ended a b c) =
+          let none : Some None ≡ exponent_of_in (rest_of s) = ap exponent_of_in (sym a) in
+          cc
       last (raised a b) =
-          let no : is_exponent (exponent_text s) ≡ false = sym (raised_fit (exponent_text s)) ∙ ap (λ (l : Bytes). (exponent_of_in l).fit) (sym a) ∙ h in
+          let no : is_exponent (exponent_text s) ≡ false = unfit (is_exponent (exponent_text s)) (ap exponent_of_in (sym a) ∙ h) in
           rw (b, no) (and_false (is_number (digits s) && between 1 15 (length (digits s))))
+        where
+          unfit : (x : Bool) → option_map Some (cond x (Some (exponent_in s)) None) ≡ None → x ≡ false
+          unfit true e = cc
+          unfit false e = refl
 
       by : Outcome (unsigned s) (whole_of s ++ fraction_of s) (fraction_of s) (rest_of s) → is_real s ≡ false
       by (fine p) = last p.ends
       by (spoilt n x) = not_digits n
 
   -- what stands behind the digits says what is asked of it
-  pub record Tailed : Type 0 where
+  pub record Tailed (x : Option ℤ) : Type 0 where
     pub ok : not (is_written s) || is_exponent (exponent_text s) ≡ true
-    pub value : (exponent_of_in (rest_of s)).value ≡ exponent_in s
-    pub written : (exponent_of_in (rest_of s)).written ≡ is_written s
+    pub exponent : x ≡ cond (is_written s) (Some (exponent_in s)) None
 
-  tailed : Ends (unsigned s) (rest_of s) → (exponent_of_in (rest_of s)).fit ≡ true → Tailed
-  tailed (ended a b c) h = record { ok = rw b; value = rw (a, c); written = rw (a, b) }
-  tailed (raised a b) h =
-      let yes : is_exponent (exponent_text s) ≡ true = sym (raised_fit (exponent_text s)) ∙ ap (λ (l : Bytes). (exponent_of_in l).fit) (sym a) ∙ h in
-      record { ok = rw (b, yes); value = rw (a, yes); written = rw (a, b, yes) }
+  tailed : Ends (unsigned s) (rest_of s) → (x : Option ℤ) → exponent_of_in (rest_of s) ≡ Some x → Tailed x
+  tailed (ended a b c) x h =
+      let none : Some None ≡ exponent_of_in (rest_of s) = ap exponent_of_in (sym a) in
+      let same : x ≡ None = cc in
+      record { ok = rw b; exponent = rw b same }
+  tailed (raised a b) x h = by (is_exponent (exponent_text s)) refl (ap exponent_of_in (sym a) ∙ h)
+    where
+      by : (y : Bool) → is_exponent (exponent_text s) ≡ y → option_map Some (cond y (Some (exponent_in s)) None) ≡ Some x → Tailed x
+      by true e k =
+          let same : x ≡ Some (exponent_in s) = cc in
+          record { ok = rw (b, e); exponent = rw b same }
+      by false e k = cc
 
-  pub check_number : counted least most (count_of s) ≡ true → (exponent_of_in (rest_of s)).fit ≡ true
-      → number_of (is_negative s) (whole_of s) (fraction_of s) (exponent_of_in (rest_of s)) ≡ checked least most s
+  pub check_number : counted least most (count_of s) ≡ true → (x : Option ℤ) → exponent_of_in (rest_of s) ≡ Some x
+      → Some (number_of (is_negative s) (whole_of s) (fraction_of s) x) ≡ checked least most s
   unfolding checked fits is_real
-  check_number h x = by (parted (unsigned s))
+  check_number h x e = by (parted (unsigned s))
     where
       by : Outcome (unsigned s) (whole_of s ++ fraction_of s) (fraction_of s) (rest_of s)
-          → number_of (is_negative s) (whole_of s) (fraction_of s) (exponent_of_in (rest_of s)) ≡ checked least most s
+          → Some (number_of (is_negative s) (whole_of s) (fraction_of s) x) ≡ checked least most s
       by (fine p) =
-          let t = tailed p.ends x in
+          let t = tailed p.ends x e in
           let n : length (digits s) ≡ count_of s = ap length p.digits_are ∙ count_is in
           let d : is_number (digits s) ≡ true =
           ap is_number p.digits_are ∙ rw (every_both is_digit (whole_of s) (fraction_of s), run_digits (unsigned s), run_digits (behind_of s)) in
-          let fit = counted_in (leb 1 (count_of s)) (leb (count_of s) 15) (leb least (count_of s)) (leb (count_of s) most) (is_number (digits s))
+          let fit = counted_in (between 1 15 (count_of s)) (between least most (count_of s)) (is_number (digits s))
           (not (is_written s) || is_exponent (exponent_text s)) h d t.ok in
           let same = sym p.digits_are in
           let placed = sym p.places_are in
-          rw (n, fit) (λ i. record {
-            fit = true;
+          rw (n, fit) (λ i. Some (record {
             value = signed (is_negative s) (value_of (same i));
             places = placed i;
-            exponent = t.value i;
-            written = t.written i;
-          })
-      by (spoilt n y) = absurd (true≢false (sym x ∙ y))
+            exponent = t.exponent i;
+          }))
+      by (spoilt n y) = cc
 
 -- a check says whether the text fits
-pub checked_fit : (least most : ℕ) (s : Bytes) → (checked least most s).fit ≡ fits R least most s
+pub checked_fit : (least most : ℕ) (s : Bytes) → is_some (checked least most s) ≡ fits R least most s
 unfolding checked
 checked_fit least most s = by (fits R least most s)
   where
-    by : (b : Bool) → (cond b (number_in s) unfit).fit ≡ b
+    by : (b : Bool) → is_some (cond b (Some (number_in s)) None) ≡ b
     by true = refl
     by false = refl

@@ -15,6 +15,7 @@ use Rattle.text.proofs.Everys.{every_both}
 use Rattle.text.proofs.Tests.{and_first, and_second}
 use Rattle.types.specs.Types.{is_number}
 use Rattle.types.specs.Reals.{past, upto, after}
+use Rattle.std.specs.Prelude.{None}
 use Rattle.types.specs.internal.NumberParts.{first_digits, exponent_of_in}
 use Rattle.types.proofs.FirstDigits.{behind_digits, run_digits, run_whole, run_stops}
 
@@ -95,7 +96,7 @@ pub record Parted (t d f rest : Bytes) : Type 0 where
 -- either the text has these digits, of which f stand behind the point, and ends so; or another byte stands among them
 pub data Outcome (t d f rest : Bytes) : Type 0 where
   fine : Parted t d f rest → Outcome t d f rest
-  spoilt : is_number (digits_in t) ≡ false → (exponent_of_in rest).fit ≡ false → Outcome t d f rest
+  spoilt : is_number (digits_in t) ≡ false → exponent_of_in rest ≡ None → Outcome t d f rest
 
 -- digits in front
 pub digits_front : (w r : Bytes) → is_number w ≡ true → digits_in (w ++ r) ≡ w ++ digits_in r

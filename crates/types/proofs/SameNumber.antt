@@ -8,10 +8,11 @@ use native.Mathlib.Omega.{arith}
 use lib.Dec.{leb, eqb}
 use lib.ListN.{length, drop, replicate, length-append, length-replicate}
 use borrow.Author.Tests.{ne_eqb, eqb-false, le-leb, leb-true}
+use Rattle.std.specs.Prelude.{Option, Some, None}
 use Rattle.text.specs.Bytes.{Bytes, byte, between, every, among, value_of}
 use Rattle.text.specs.Separators.{is_digit}
 use Rattle.types.specs.Reals.{upto, after, is_negative, unsigned, mantissa, digits, places, is_written, exponent_text, is_exponent, is_real}
-use Rattle.types.specs.Numbers.{signed, whole_in, unfit, checked}
+use Rattle.types.specs.Numbers.{signed, whole_in, checked}
 use Rattle.types.specs.Types.{is_number, fits}
 use Rattle.text.proofs.Everys.{every_both}
 use Rattle.text.proofs.Tests.{and_first, and_second}
@@ -23,17 +24,15 @@ use Rattle.types.specs.Worth.{padded, ZerosTellNothing, pointed, PointTellsNothi
 -- the number and the check of a text by its parts: sign, digits, places, whether an exponent is written, and its text
 abbrev number_by : Bool → ℕ → ℕ → Bool → Bytes → Number
 number_by negative size behind written t = record {
-  fit = true;
   value = signed negative size;
   places = behind;
-  exponent = whole_in t;
-  written = written;
+  exponent = cond written (Some (whole_in t)) None;
 }
 
-abbrev checked_by : ℕ → ℕ → Bool → Bytes → ℕ → Bool → Bytes → Number
+abbrev checked_by : ℕ → ℕ → Bool → Bytes → ℕ → Bool → Bytes → Option Number
 checked_by least most negative ds behind written t =
     cond (between least most (length ds) && (every is_digit ds && between 1 15 (length ds) && (not written || is_exponent t)))
-    (number_by negative (value_of ds) behind written t) unfit
+    (Some (number_by negative (value_of ds) behind written t)) None
 
 by_parts : (least most : ℕ) (s : Bytes) → checked least most s ≡ checked_by least most (is_negative s) (digits s) (places s) (is_written s) (exponent_text s)
 unfolding checked fits is_real
@@ -63,7 +62,7 @@ zeros_positive (suc k) s e = refl
 
 -- one to fifteen digits, and nothing or an exponent behind them, are taken
 taken : (negative written : Bool) (ds t : Bytes) (behind : ℕ) → every is_digit ds ≡ true → 1 ≤ length ds → length ds ≤ 15
-    → not written || is_exponent t ≡ true → checked_by 1 15 negative ds behind written t ≡ number_by negative (value_of ds) behind written t
+    → not written || is_exponent t ≡ true → checked_by 1 15 negative ds behind written t ≡ Some (number_by negative (value_of ds) behind written t)
 taken negative written ds t behind a l m x = rw (le-leb 1 (length ds) l, le-leb (length ds) 15 m, a, x)
 
 -- what is asked of R, part by part
@@ -106,7 +105,7 @@ zeros_tell_nothing s k e l =
     by_parts 1 15 (padded k s)
     ∙ (λ i. checked_by 1 15 (negative i) (more i) (placed i) (written i) (raised i))
     ∙ taken (is_negative s) (is_written s) (z ++ ds) (exponent_text s) (places s) all (omega (arith, long, ask.some)) (omega (arith, long, l)) ask.ends
-    ∙ ap (λ (size : ℕ). number_by (is_negative s) size (places s) (is_written s) (exponent_text s)) (zeros_value k ds)
+    ∙ ap (λ (size : ℕ). Some (number_by (is_negative s) size (places s) (is_written s) (exponent_text s))) (zeros_value k ds)
     ∙ sym (taken (is_negative s) (is_written s) ds (exponent_text s) (places s) ask.all ask.some ask.few ask.ends)
     ∙ sym (by_parts 1 15 s)
 

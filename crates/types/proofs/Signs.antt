@@ -27,12 +27,6 @@ module _ (n : ℕ) (small : n < 1000000000000000) where
   negated : pos 0 -ℤ to_z w64 n ≡ neg_ℤ (pos n)
   negated = ap (λ (z : ℤ). pos 0 -ℤ z) positive_is ∙ +ℤ_idl (neg_ℤ (pos n))
 
-  pub negation_fits : SFits w64 (pos 0 -ℤ to_z w64 n)
-  negation_fits = rw negated (negative_fits n (omega arith))
-
-  pub negation_is : to_z w64 (of_z w64 (pos 0 -ℤ to_z w64 n)) ≡ neg_ℤ (pos n)
-  negation_is = to_z-of_z negation_fits ∙ negated
-
 -- a size with a sign comes back out of its 64 bits
 pub signed_stays : (negative : Bool) (n : ℕ) → n < 1000000000000000 → to_z w64 (of_z w64 (signed negative n)) ≡ signed negative n
 signed_stays true n small = to_z-of_z (negative_fits n (omega arith))

@@ -1,6 +1,6 @@
 -- The number that the check of type R hands back. Document 02, Item 6.
 -- Assumes nothing.
-use Rattle.std.specs.Prelude.{ℕ, Bool, true, false, cond, ℤ, pos, neg_ℤ}
+use Rattle.std.specs.Prelude.{ℕ, Bool, cond, ℤ, pos, neg_ℤ, Option, Some, None}
 use Rattle.text.specs.Bytes.{Bytes, value_of}
 use Rattle.types.specs.Reals.{is_negative, unsigned, digits, places, is_written, exponent_text}
 use Rattle.types.specs.Types.{fits}
@@ -23,14 +23,10 @@ whole_in t = signed (is_negative t) (value_of (unsigned t))
 abbrev pub exponent_in : Bytes → ℤ
 exponent_in s = whole_in (exponent_text s)
 
--- what a text that fits hands back
+-- what a text that fits writes; an exponent only where one is written
 abbrev pub number_in : Bytes → Number
-number_in s = record { fit = true; value = value_in s; places = places s; exponent = exponent_in s; written = is_written s }
+number_in s = record { value = value_in s; places = places s; exponent = cond (is_written s) (Some (exponent_in s)) None }
 
--- "unfit hands back zeros"
-abbrev pub unfit : Number
-unfit = record { fit = false; value = pos 0; places = 0; exponent = pos 0; written = false }
-
--- the check: of a text that fits, with the least and the most digits, its number, and of any other zeros
-unfoldable pub checked : ℕ → ℕ → Bytes → Number
-checked least most s = cond (fits R least most s) (number_in s) unfit
+-- the check: of a text that fits, with the least and the most digits, its number, and of any other nothing
+unfoldable pub checked : ℕ → ℕ → Bytes → Option Number
+checked least most s = cond (fits R least most s) (Some (number_in s)) None

@@ -12,6 +12,7 @@ pub(crate) fn is_leap(year: usize) -> bool
 }
 
 // The days in a month; 0 where there is no such month.
+#[tactic(auto, using(crate::proofs::Months::thirty_one, crate::proofs::Months::no_month), unfolding(crate::specs::Types::days_in))]
 pub(crate) fn days_in(year: usize, month: usize) -> usize
     ensures { result ≡ days_in year month }
 {
@@ -24,13 +25,11 @@ pub(crate) fn days_in(year: usize, month: usize) -> usize
 }
 
 // Eight digits that write a day of the calendar.
+#[tactic(auto, unfolding(crate::specs::Types::is_date))]
 pub(crate) fn is_date(value: &[u8]) -> bool
     ensures { result ≡ is_date value.now }
 {
-    if value.len() != 8 {
-        return false;
-    }
-    if !digits::is_number(value) {
+    if !(value.len() == 8 && digits::is_number(value)) {
         return false;
     }
     let last = days_in(digits::figures(value, 0, 4), digits::figures(value, 4, 2));
@@ -39,14 +38,11 @@ pub(crate) fn is_date(value: &[u8]) -> bool
 }
 
 // Four, six, seven or eight digits that write a time of day.
+#[tactic(auto, unfolding(crate::specs::Types::is_time))]
 pub(crate) fn is_time(value: &[u8]) -> bool
     ensures { result ≡ is_time value.now }
 {
-    let n = value.len();
-    if !((n == 4) | (n == 6) | (n == 7) | (n == 8)) {
-        return false;
-    }
-    if !digits::is_number(value) {
+    if !(matches!(value.len(), 4 | 6 | 7 | 8) && digits::is_number(value)) {
         return false;
     }
     if 23 < digits::figures(value, 0, 2) {
@@ -55,7 +51,7 @@ pub(crate) fn is_time(value: &[u8]) -> bool
     if 59 < digits::figures(value, 2, 2) {
         return false;
     }
-    if n == 4 {
+    if value.len() == 4 {
         return true;
     }
     digits::figures(value, 4, 2) <= 59

@@ -10,14 +10,7 @@ use text::separators;
 pub(crate) fn is_number(value: &[u8]) -> bool
     ensures { result ≡ is_number value.now }
 {
-    let mut i = 0;
-    while i < value.len() {
-        if !separators::is_digit(value[i]) {
-            return false;
-        }
-        i += 1;
-    }
-    true
+    value.iter().all(|b| separators::is_digit(*b))
 }
 
 // The number that digits write behind a first number.
@@ -26,15 +19,14 @@ pub(crate) fn value_from(first: usize, digits: &[u8]) -> usize
     ensures { result ≡ value_from first digits.now }
 {
     let mut n = first;
-    let mut i = 0;
-    while i < digits.len() {
-        n = n * 10 + ((digits[i] - b'0') as usize);
-        i += 1;
+    for digit in digits {
+        n = n * 10 + usize::from(*digit - b'0');
     }
     n
 }
 
 // The number that `count` digits from `from` on write.
+#[tactic(auto, using(crate::proofs::Figures::written_part))]
 pub(crate) fn figures(value: &[u8], from: usize, count: usize) -> usize
     requires { Written value.now from count }
     ensures { result ≡ figures from count value.now }
@@ -43,18 +35,12 @@ pub(crate) fn figures(value: &[u8], from: usize, count: usize) -> usize
 }
 
 // The number that one to ten digits write; 0 for any other value.
-#[tactic(auto, using(crate::proofs::Figures::number_long))]
+#[tactic(auto, unfolding(crate::specs::Types::number_of))]
 pub fn number_of(value: &[u8]) -> usize
     ensures { result ≡ number_of value.now }
 {
-    if value.len() == 0 {
-        return 0;
+    if matches!(value.len(), 1..=10) && is_number(value) {
+        return figures(value, 0, value.len());
     }
-    if 10 < value.len() {
-        return 0;
-    }
-    if !is_number(value) {
-        return 0;
-    }
-    figures(value, 0, value.len())
+    0
 }

@@ -1,5 +1,5 @@
 // A type of document 01; Set842 is ID that is equal to 842.
-#[derive(Clone, Copy, Drop)]
+#[derive(Clone, Copy, Debug, PartialEq, Eq, Drop)]
 pub enum Kind {
     AN,
     ID,

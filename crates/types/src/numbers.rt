@@ -1,63 +1,58 @@
 // Numbers of type R: whether a text fits, and the number that it writes.
-ghost use Rattle.std.specs.Prelude.{◌≡◌, ◌<◌};
-ghost use Rattle.types.specs.Reals.{begins, past};
-ghost use Rattle.types.specs.Numbers.{signed, unfit, checked};
-ghost use Rattle.types.specs.internal.NumberParts.{first_digits, Digits, no_exponent, exponent_of_in, number_of};
+ghost use Rattle.std.specs.Prelude.{◌≡◌, ◌<◌, ◌&&◌};
+ghost use Rattle.std.specs.List.{prefix_len};
+ghost use Rattle.text.specs.Bytes.{between};
+ghost use Rattle.text.specs.Separators.{is_digit};
+ghost use Rattle.types.specs.Reals.{is_negative, past};
+ghost use Rattle.types.specs.Numbers.{signed, checked};
+ghost use Rattle.types.specs.internal.NumberParts.{first_digits, Digits, exponent_written, exponent_of_in, number_of};
 
 use crate::digits;
 use text::separators;
 
-// What the check of a text hands back: whether it fits, its signed digits as one whole number, how many of them stand behind the point, the
-// exponent, and whether one is written. Where the text does not fit, all else is 0.
-#[derive(Clone, Copy, Drop)]
+// A number as its text writes it.
+#[derive(Clone, Copy, Debug, PartialEq, Eq, Drop)]
 pub struct Number {
-    pub fit: bool,
+    // Its signed digits as one whole number.
     pub value: i64,
+    // How many of them stand behind the point.
     pub places: u8,
-    pub exponent: i64,
-    pub written: bool,
+    // The exponent, if one is written.
+    pub exponent: Option<i64>,
 }
 
-// What stands behind the digits: whether it is an exponent or nothing, whether one is written, and the exponent.
-#[derive(Clone, Copy, Drop)]
-struct Exponent {
-    fit: bool,
-    written: bool,
-    value: i64,
-}
-
-// Whether the text begins with the byte.
-fn begins(s: &[u8], b: u8) -> bool
-    ensures { result ≡ begins b s.now }
+// Whether the text begins with a minus.
+fn is_negative(text: &[u8]) -> bool
+    ensures { result ≡ is_negative text.now }
 {
-    if s.len() == 0 {
-        return false;
-    }
-    s[0] == b
+    text.first() == Some(&b'-')
 }
 
 // The text without that first byte, where it begins with it.
-fn past(s: &[u8], b: u8) -> &[u8]
-    ensures { result.now ≡ past b s.now }
+fn past(text: &[u8], byte: u8) -> &[u8]
+    ensures { result.now ≡ past byte text.now }
 {
-    if begins(s, b) {
-        return &s[1..];
+    match text {
+        [first, rest @ ..] if *first == byte => rest,
+        _ => text,
     }
-    s
+}
+
+// How many digits the text begins with.
+fn digit_count(text: &[u8]) -> usize
+    ensures { result ≡ prefix_len is_digit text.now }
+{
+    text.iter()
+        .take_while(|b| separators::is_digit(**b))
+        .count()
 }
 
 // The digits that the text begins with.
-fn first_digits(s: &[u8]) -> &[u8]
-    ensures { result.now ≡ first_digits s.now }
+#[tactic(auto, using(crate::proofs::FirstDigits::digits_first))]
+fn first_digits(text: &[u8]) -> &[u8]
+    ensures { result.now ≡ first_digits text.now }
 {
-    let mut i = 0;
-    while i < s.len() {
-        if !separators::is_digit(s[i]) {
-            return &s[..i];
-        }
-        i += 1;
-    }
-    s
+    &text[..digit_count(text)]
 }
 
 // A number by its sign and its size.
@@ -66,77 +61,54 @@ fn signed(negative: bool, size: usize) -> i64
     ensures { result ≡ signed negative size }
 {
     let value = size as i64;
-    if negative {
-        return 0 - value;
-    }
-    value
+    if negative { -value } else { value }
 }
 
-// No exponent.
-fn no_exponent(fit: bool) -> Exponent
-    ensures { result ≡ no_exponent fit }
+// Whether a number may have so many digits: fifteen at most, and from least to most.
+fn may_have(count: usize, least: usize, most: usize) -> bool
+    ensures { result ≡ (between 1 15 count && between least most count) }
 {
-    Exponent {
-        fit,
-        written: false,
-        value: 0,
-    }
+    (1..=15).contains(&count) & (least..=most).contains(&count)
 }
 
-// What stands behind the digits: nothing, or `E` and an exponent.
-fn exponent_of(rest: &[u8]) -> Exponent
+// The exponent that the text writes: one or two digits, and a minus or none; nothing where it writes none.
+#[tactic(auto, using(crate::proofs::Figures::digits_few))]
+fn exponent(text: &[u8]) -> Option<i64>
+    ensures { result ≡ exponent_written text.now }
+{
+    let figures = past(text, b'-');
+    if !(matches!(figures.len(), 1..=2) && digits::is_number(figures)) {
+        return None;
+    }
+    Some(signed(is_negative(text), digits::value_from(0, figures)))
+}
+
+// What stands behind the digits: no exponent, or `E` and one; nothing where it belongs to no number.
+fn exponent_of(rest: &[u8]) -> Option<Option<i64>>
     ensures { result ≡ exponent_of_in rest.now }
 {
-    if rest.len() == 0 {
-        return no_exponent(true);
-    }
-    if rest[0] != b'E' {
-        return no_exponent(false);
-    }
-    let text = &rest[1..];
-    let figures = past(text, b'-');
-    if !(digits::is_number(figures) & (1 <= figures.len()) & (figures.len() <= 2)) {
-        return no_exponent(false);
-    }
-    Exponent {
-        fit: true,
-        written: true,
-        value: signed(begins(text, b'-'), digits::value_from(0, figures)),
+    match rest {
+        [] => Some(None),
+        [b'E', text @ ..] => exponent(text).map(Some),
+        _ => None,
     }
 }
 
 // The number that digits before and behind the point write, with a sign and an exponent.
-fn written(negative: bool, whole: &[u8], fraction: &[u8], exponent: Exponent) -> Number
+fn written(negative: bool, whole: &[u8], fraction: &[u8], exponent: Option<i64>) -> Number
     requires { Digits whole.now fraction.now }
     ensures { result ≡ number_of negative whole.now fraction.now exponent }
 {
     let size = digits::value_from(digits::value_from(0, whole), fraction);
-    let value = signed(negative, size);
-    let power = exponent.value;
     Number {
-        fit: true,
-        value,
+        value: signed(negative, size),
         places: fraction.len() as u8,
-        exponent: power,
-        written: exponent.written,
+        exponent,
     }
 }
 
-// What a text that does not fit hands back.
-fn unfit() -> Number
-    ensures { result ≡ unfit }
-{
-    Number {
-        fit: false,
-        value: 0,
-        places: 0,
-        exponent: 0,
-        written: false,
-    }
-}
-
-// The check of a text with at least and at most so many digits.
-pub fn check_number(text: &[u8], least: usize, most: usize) -> Number
+// The number that a text of type R writes, with at least and at most so many digits; nothing where the text does not fit.
+pub fn check_number(text: &[u8], least: usize, most: usize) -> Option<Number>
     ensures { result ≡ checked least most text.now }
 {
     let unsigned = past(text, b'-');
@@ -146,12 +118,9 @@ pub fn check_number(text: &[u8], least: usize, most: usize) -> Number
     let fraction = first_digits(behind);
     let places = fraction.len();
     let count = point + places;
-    if !((1 <= count) & (count <= 15) & (least <= count) & (count <= most)) {
-        return unfit();
+    if !may_have(count, least, most) {
+        return None;
     }
-    let exponent = exponent_of(&behind[places..]);
-    if !exponent.fit {
-        return unfit();
-    }
-    written(begins(text, b'-'), whole, fraction, exponent)
+    let exponent = exponent_of(&behind[places..])?;
+    Some(written(is_negative(text), whole, fraction, exponent))
 }

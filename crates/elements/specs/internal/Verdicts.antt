@@ -3,9 +3,8 @@
 use Rattle.std.specs.Prelude.{ℕ, suc, ◌≤◌, ◌<◌, ◌≡◌, Bool, true, cond, List, [], ◌∷◌, ◌++◌, eqb}
 use Rattle.text.specs.View.{Piece}
 use Rattle.elements.specs.Data.{Simple, Composite, Element, Rules, value, first_unit, unit_values, ruled_segments}
-use Rattle.elements.specs.Checks.{each, first_broken}
+use Rattle.elements.specs.Checks.{Verdict, each, first_broken}
 use Rattle.elements.specs.Rules.{rule_of, complete_by, suits_by}
-use Rattle.elements.specs.declared.verdict.Verdict.{Verdict}
 use Rattle.elements.specs.declared.rules.Rule.{Rule}
 
 -- the element that a rule of the code describes

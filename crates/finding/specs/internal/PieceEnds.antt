@@ -1,9 +1,8 @@
 -- Where a piece may end.
 -- Assumes nothing.
-use Rattle.std.specs.Prelude.{ℕ, ◌<◌, ◌≡◌, Bool, true, false, ◌⊎◌, length, get_or}
-use Rattle.text.specs.Bytes.{Bytes}
+use Rattle.std.specs.Prelude.{ℕ, Bool, true, Option, None, Some, eqb}
 
--- whether a piece of n bytes may end there: the bytes end with it, or the separator follows
-abbrev pub MayEnd : ℕ → Bytes → ℕ → Bool → Type 0
-MayEnd separator s n true = (length s ≡ n) ⊎ ((n < length s) × (get_or s n 0 ≡ separator))
-MayEnd separator s n false = (length s < n) ⊎ ((n < length s) × (get_or s n 0 ≡ separator → ⊥))
+-- whether a piece may end before that byte, or where there is none: the bytes end with it, or the separator follows
+abbrev pub ends_by : ℕ → Option ℕ → Bool
+ends_by separator None = true
+ends_by separator (Some b) = eqb b separator

@@ -5,6 +5,8 @@ use Rattle.text.specs.Bytes.{Bytes, bytes, any, same}
 use Rattle.text.specs.Pieces.{pieces}
 use Rattle.levels.specs.Widths.{level_width}
 use Rattle.levels.specs.Levels.{Level}
+use Rattle.finding.specs.declared.notes.Asks.{Asks}
+use Rattle.finding.specs.declared.notes.Asks.TheVariants.{Nothing, Shut, Owes}
 use Rattle.finding.specs.internal.Entries.{start_of, level_entry, deepest}
 use Rattle.finding.specs.internal.Lists.{lists, place_of, last_in}
 use Rattle.finding.specs.internal.Notes.{code_in, asks_in, link_in}
@@ -14,9 +16,9 @@ use Rattle.finding.specs.internal.Answers.{id_at}
 abbrev pub has_child : ℕ → List Level → Bool
 has_child n all = any (λ (child : Level). eqb child.parent n) all
 
--- what the mark of level n still asks, where these are all levels: 1 that none hangs under it, 2 that one does
-abbrev pub still_asks : List Level → ℕ → Bytes → ℕ
-still_asks all n mark = cond (same mark (bytes "0")) 1 (cond (same mark (bytes "1") && not (has_child n all)) 2 0)
+-- what the mark of level n still asks, where these are all levels: that none hangs under it, that one does, or nothing
+abbrev pub still_asks : List Level → ℕ → Bytes → Asks
+still_asks all n mark = cond (same mark (bytes "0")) Shut (cond (same mark (bytes "1") && not (has_child n all)) Owes Nothing)
 
 -- the tables hold the level l behind the levels ls, which are some of `all`; its segment is one of the first m
 pub record Held (s : Bytes) (separator : ℕ) (segments levels : List ℕ) (m : ℕ) (all : List Level) (l : Level) (ls : List Level) : Type 0 where

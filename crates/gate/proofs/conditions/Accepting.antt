@@ -16,11 +16,11 @@ use Rattle.rows.specs.Tags.{tag}
 use Rattle.rows.specs.Following.{Fits}
 use Rattle.gate.specs.Profile.{Profile}
 use Rattle.gate.specs.Segments.{tag_in_of, seen, onto, levels_in}
+use Rattle.gate.specs.Answers.{accepted}
 use Rattle.gate.specs.Rules.{Kept}
 use Rattle.gate.specs.Records.{Tables, Room}
 use Rattle.gate.specs.Reads.{cut_by, skip_by, Run}
 use Rattle.gate.specs.Conditions.{used_by}
-use Rattle.gate.specs.declared.answer.Answer.TheVariants.{Accepted}
 use Rattle.gate.specs.declared.how.How.{How}
 use Rattle.gate.proofs.reading.Laws.{from_at, onto_append, MeetsFrom}
 use Rattle.gate.proofs.reading.Passing.{numbers, one_each, room_fewer}
@@ -68,7 +68,7 @@ module _ (profile : Profile) (how : How) (t : Tables) (s : Bytes) where
       record { rest = i.rest; more = i.more; leads = (l.0, l.1, l.2, i.leads); next = i.next }
 
   -- an accepted reading has kept a transaction
-  pub accepted_transaction : (a b c : ℕ) (kept : List Placed) (w : List ℕ) → Run profile how t s (Accepted a b c) kept w → Transaction profile how t s kept w
+  pub accepted_transaction : (a b c : ℕ) (kept : List Placed) (w : List ℕ) → Run profile how t s (accepted a b c) kept w → Transaction profile how t s kept w
   accepted_transaction a b c kept w r =
       let x = r.ends in
       let v = view_of how.separators x.segment in
@@ -86,7 +86,7 @@ module _ (profile : Profile) (how : How) (t : Tables) (s : Bytes) where
 
   -- a transaction whose last row is 79 is read and accepted
   closing_run : (gs : List Placed) (g : Placed) (w : List ℕ) → Transaction profile how t s (gs ++ (g ∷ [])) (w ++ (79 ∷ []))
-      → Run profile how t s (Accepted (length (gs ++ (g ∷ []))) (length (levels_in profile (onto [] (seen how (gs ++ (g ∷ [])))))) (used_by (gs ++ (g ∷ []))))
+      → Run profile how t s (accepted (length (gs ++ (g ∷ []))) (length (levels_in profile (onto [] (seen how (gs ++ (g ∷ [])))))) (used_by (gs ++ (g ∷ []))))
       (gs ++ (g ∷ [])) (w ++ (79 ∷ []))
   closing_run gs g w x =
       let v = view_of how.separators g.segment in
@@ -134,7 +134,7 @@ module _ (profile : Profile) (how : How) (t : Tables) (s : Bytes) where
 
   -- every transaction is
   pub transaction_accepted : (gs : List Placed) (rows : List ℕ) → Transaction profile how t s gs rows
-      → Run profile how t s (Accepted (length gs) (length (levels_in profile (onto [] (seen how gs)))) (used_by gs)) gs rows
+      → Run profile how t s (accepted (length gs) (length (levels_in profile (onto [] (seen how gs)))) (used_by gs)) gs rows
   transaction_accepted gs rows x =
       let d = word_ended rows x.meets.word in
       let n = one_each how gs rows x.meets.tags in
@@ -142,5 +142,5 @@ module _ (profile : Profile) (how : How) (t : Tables) (s : Bytes) where
       split d.front rows gs d.whole (has_last gs k) x
     where
       split : (w rows : List ℕ) (gs : List Placed) → rows ≡ w ++ (79 ∷ []) → HasLast gs → Transaction profile how t s gs rows
-          → Run profile how t s (Accepted (length gs) (length (levels_in profile (onto [] (seen how gs)))) (used_by gs)) gs rows
+          → Run profile how t s (accepted (length gs) (length (levels_in profile (onto [] (seen how gs)))) (used_by gs)) gs rows
       split w rows gs e l x = rw (e, l.whole) (closing_run l.front l.last w (rw (e, l.whole) at x))

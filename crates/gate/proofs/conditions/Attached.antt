@@ -34,10 +34,10 @@ use Rattle.elements.specs.Checks.{Check}
 use Rattle.elements.specs.Rules.{data_checks, byte_checks, end_checks, ruled_checks}
 use Rattle.gate.specs.Profile.{Profile, profile_of}
 use Rattle.gate.specs.Segments.{tag_in_of, is_hl, is_se, claims, opening}
+use Rattle.gate.specs.Answers.{Answer}
 use Rattle.gate.specs.Rules.{tag_checks, hl_checks, se_checks, early, late}
 use Rattle.gate.specs.Records.{Tables, segment_room_of, level_room_of, recorded}
 use Rattle.gate.specs.Reads.{limit, cut_by, skip_by, Run, Read, ReadsWithin, ReadsFit, ReadsBy, Reads}
-use Rattle.gate.specs.declared.answer.Answer.{Answer}
 use Rattle.gate.specs.declared.how.How.{How}
 use Rattle.gate.proofs.reading.Once.{run_once}
 use Rattle.gate.proofs.reading.Reference.{Says, Fine, Bad, tested, says, Out, compute, computes}

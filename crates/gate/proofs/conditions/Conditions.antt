@@ -9,20 +9,19 @@ use native.Mathlib.Omega.{arith}
 use lib.Dec.{T, leb}
 use lib.ListN.{length, take, replicate, length-replicate}
 use borrow.Author.Tests.{leb-true, le-leb}
+use Rattle.std.proofs.Common.{Ok, Err}
 use Rattle.text.specs.Bytes.{Bytes}
 use Rattle.text.specs.Separators.{fit_separators}
 use Rattle.text.specs.Cut.{Placed}
 use Rattle.text.proofs.Bools.{passes}
 use Rattle.text.proofs.View.{fitted}
 use Rattle.levels.specs.Widths.{segment_width, level_width}
-use Rattle.gate.specs.Answers.{IsAccepted, Fault}
+use Rattle.gate.specs.Answers.{Answer, accepted, refused, IsAccepted, Fault}
 use Rattle.gate.specs.Profile.{profile_of}
 use Rattle.gate.specs.Segments.{seen}
 use Rattle.gate.specs.Records.{Tables, segment_room_of, level_room_of, recorded}
 use Rattle.gate.specs.Reads.{limit, Run, Read, ReadsWithin, ReadsFit, ReadsBy, Reads}
 use Rattle.gate.specs.Conditions.{Condition1, Numbering, HasRoom, Numbered, Shows, Condition2, up_to_segment, BeginsWith, Final, Continues, Condition3}
-use Rattle.gate.specs.declared.answer.Answer.{Answer}
-use Rattle.gate.specs.declared.answer.Answer.TheVariants.{Accepted, Refused}
 use Rattle.gate.specs.declared.how.How.{How}
 use Rattle.gate.proofs.reading.SideBySide.{history, history_length}
 use Rattle.gate.proofs.reading.Numbers.{refusal_of}
@@ -47,7 +46,7 @@ pub record Proper (how : How) (s : Bytes) (before : Tables) (r : Answer) (after 
   pub short : length s ≤ limit
   pub read : Read (profile_of how) how s before r after
 
-pub proper : (how : How) (s : Bytes) (before : Tables) (r : Answer) (after : Tables) → (r ≡ Refused 1 0 0 0 → ⊥) → (r ≡ Refused 2 0 0 0 → ⊥)
+pub proper : (how : How) (s : Bytes) (before : Tables) (r : Answer) (after : Tables) → (r ≡ refused 1 0 0 0 → ⊥) → (r ≡ refused 2 0 0 0 → ⊥)
     → Reads how s before r after → Proper how s before r after
 unfolding ReadsBy
 proper how s before r after not-1 not-2 x = fit (fit_separators how.separators) refl x
@@ -61,21 +60,22 @@ proper how s before r after not-1 not-2 x = fit (fit_separators how.separators) 
     fit true e y = within (leb (length s) limit) refl (rw e tt) y
     fit false e y = absurd (not-1 (refusal_of r 1 0 0 0 (omega arith) y.answer))
 
-number_of_lem : Answer → ℕ
-number_of_lem (Accepted a l b) = 0
-number_of_lem (Refused n k b e) = n
+-- the number of an answer
+number_told : Answer → ℕ
+number_told (Ok a) = 0
+number_told (Err r) = r.number
 
-fault_proper : (how : How) (s : Bytes) (before : Tables) (n k b e : ℕ) (after : Tables) → Fault n → Reads how s before (Refused n k b e) after
-    → Proper how s before (Refused n k b e) after
-unfolding number_of_lem
+fault_proper : (how : How) (s : Bytes) (before : Tables) (n k b e : ℕ) (after : Tables) → Fault n → Reads how s before (refused n k b e) after
+    → Proper how s before (refused n k b e) after
+unfolding number_told
 fault_proper how s before n k b e after f x =
-    proper how s before (Refused n k b e) after (λ q. omega (arith, ap number_of_lem q, f.from)) (λ q. omega (arith, ap number_of_lem q, f.from)) x
+    proper how s before (refused n k b e) after (λ q. omega (arith, ap number_told q, f.from)) (λ q. omega (arith, ap number_told q, f.from)) x
 
-pub accepted_proper : (how : How) (s : Bytes) (before : Tables) (a l b : ℕ) (after : Tables) → Reads how s before (Accepted a l b) after
-    → Proper how s before (Accepted a l b) after
-unfolding number_of_lem
+pub accepted_proper : (how : How) (s : Bytes) (before : Tables) (a l b : ℕ) (after : Tables) → Reads how s before (accepted a l b) after
+    → Proper how s before (accepted a l b) after
+unfolding number_told
 accepted_proper how s before a l b after x =
-    proper how s before (Accepted a l b) after (λ q. omega (arith, ap number_of_lem q)) (λ q. omega (arith, ap number_of_lem q)) x
+    proper how s before (accepted a l b) after (λ q. omega (arith, ap number_told q)) (λ q. omega (arith, ap number_told q)) x
 
 -- an answer that a run gives is the answer of every reading of those bytes
 only_answer : (how : How) (s : Bytes) (t : Tables) (r : Answer) (kept : List Placed) (w : List ℕ) → T (fit_separators how.separators) → length s ≤ limit
@@ -83,37 +83,37 @@ only_answer : (how : How) (s : Bytes) (t : Tables) (r : Answer) (kept : List Pla
 only_answer how s t r kept w fit short x r' after y = (run_once (reads_read how s fit short t r' after y).run x).0
 
 -- Condition 3: "A verdict is final". A fault stands whatever follows the segment, with any larger tables
-pub refusal_final : (how : How) (s : Bytes) (before : Tables) (n k b e : ℕ) (after : Tables) → Fault n → Reads how s before (Refused n k b e) after
-    → Final how before (up_to_segment how s b) (Refused n k b e)
+pub refusal_final : (how : How) (s : Bytes) (before : Tables) (n k b e : ℕ) (after : Tables) → Fault n → Reads how s before (refused n k b e) after
+    → Final how before (up_to_segment how s b) (refused n k b e)
 refusal_final how s before n k b e after f x more short u larger r' after' y =
     let p = fault_proper how s before n k b e after f x in
-    only_answer how (up_to_segment how s b ++ more) u (Refused n k b e) p.read.kept p.read.numbers p.fit short
+    only_answer how (up_to_segment how s b ++ more) u (refused n k b e) p.read.kept p.read.numbers p.fit short
     (refusal_stands (profile_of how) how (fitted how.separators p.fit) before u larger s n k b e p.read.kept p.read.numbers f p.read.run more) r' after' y
 
 -- an acceptance stands under more bytes within the limit and under more room
-pub acceptance_final : (how : How) (s : Bytes) (before : Tables) (a l b : ℕ) (after : Tables) → Reads how s before (Accepted a l b) after
-    → Final how before (take b s) (Accepted a l b)
+pub acceptance_final : (how : How) (s : Bytes) (before : Tables) (a l b : ℕ) (after : Tables) → Reads how s before (accepted a l b) after
+    → Final how before (take b s) (accepted a l b)
 acceptance_final how s before a l b after x more short u larger r' after' y =
     let p = accepted_proper how s before a l b after x in
-    only_answer how (take b s ++ more) u (Accepted a l b) p.read.kept p.read.numbers p.fit short
+    only_answer how (take b s ++ more) u (accepted a l b) p.read.kept p.read.numbers p.fit short
     (acceptance_stands (profile_of how) how (fitted how.separators p.fit) before u larger s a l b p.read.kept p.read.numbers p.read.run more) r' after' y
 
 -- the bytes up to a refused segment begin the input
-pub refusal_begins : (how : How) (s : Bytes) (before : Tables) (n k b e : ℕ) (after : Tables) → Fault n → Reads how s before (Refused n k b e) after
+pub refusal_begins : (how : How) (s : Bytes) (before : Tables) (n k b e : ℕ) (after : Tables) → Fault n → Reads how s before (refused n k b e) after
     → BeginsWith (up_to_segment how s b) s
 refusal_begins how s before n k b e after f x =
     let p = fault_proper how s before n k b e after f x in
     refusal_begun (profile_of how) how (fitted how.separators p.fit) before before (record { segments = omega arith; levels = omega arith }) s n k b e p.read.kept p.read.numbers f p.read.run
 
 -- a refusal comes no sooner than it must: the segments before the fault can be continued to a transaction that meets every rule
-pub refusal_not_early : (how : How) (s : Bytes) (before : Tables) (n k b e : ℕ) (after : Tables) → Fault n → Reads how s before (Refused n k b e) after
+pub refusal_not_early : (how : How) (s : Bytes) (before : Tables) (n k b e : ℕ) (after : Tables) → Fault n → Reads how s before (refused n k b e) after
     → Continues how s k b
 refusal_not_early how s before n k b e after f x =
     let p = fault_proper how s before n k b e after f x in
     fault_continues how before s n k b e p.read.kept p.read.numbers p.fit p.short f p.read.run
 
 -- Condition 2: what is accepted is a numbering that meets every rule, with room, and the tables show it
-pub accepted_numbered : (how : How) (s : Bytes) (before : Tables) (a l b : ℕ) (after : Tables) → Reads how s before (Accepted a l b) after
+pub accepted_numbered : (how : How) (s : Bytes) (before : Tables) (a l b : ℕ) (after : Tables) → Reads how s before (accepted a l b) after
     → Numbered how s before
 accepted_numbered how s before a l b after x =
     let p = accepted_proper how s before a l b after x in
@@ -176,11 +176,11 @@ answered how s before = fit (fit_separators how.separators)
           recorded (profile_of how) how before o.1 o.2,
           record { kept = o.1; numbers = o.2; run = computes (profile_of how) how before s; tables = refl },
         )
-    within false = (Refused 2 0 0 0, before, record { answer = refl; unchanged = refl })
+    within false = (refused 2 0 0 0, before, record { answer = refl; unchanged = refl })
 
     fit : (b : Bool) → (r : Answer) × (after : Tables) × ReadsFit b (profile_of how) how s before r after
     fit true = within (leb (length s) limit)
-    fit false = (Refused 1 0 0 0, before, record { answer = refl; unchanged = refl })
+    fit false = (refused 1 0 0 0, before, record { answer = refl; unchanged = refl })
 
 -- Condition 1
 pub condition_1 : Condition1
@@ -193,21 +193,18 @@ condition_1 = record {
 -- Condition 2
 accepted_when : (how : How) (s : Bytes) (before : Tables) (r : Answer) (after : Tables) → T (fit_separators how.separators) → length s ≤ limit
     → Reads how s before r after → IsAccepted r ↔ Numbered how s before
-accepted_when how s before (Accepted a l b) after fit short x = (λ _. accepted_numbered how s before a l b after x, λ _. tt)
-accepted_when how s before (Refused n k b e) after fit short x =
-    (λ refused. absurd refused, λ m. refused_accepted (meets_accepted how s before m.gs m.rows fit short m.numbering m.room (Refused n k b e) after x).answer)
-  where
-    refused_accepted : {a l c : ℕ} → Refused n k b e ≡ Accepted a l c → ⊥
-    refused_accepted p = let z : ◌≡◌ {A = ℕ} 0 1 = cc in omega arith
+accepted_when how s before (Ok a) after fit short x = (λ _. accepted_numbered how s before a.segments a.levels a.bytes after x, λ _. tt)
+accepted_when how s before (Err r) after fit short x =
+    (λ never. absurd never, λ m. let p = (meets_accepted how s before m.gs m.rows fit short m.numbering m.room (Err r) after x).answer in cc)
 
 accepted_shown : (how : How) (s : Bytes) (before : Tables) (r : Answer) (after : Tables) → Reads how s before r after → IsAccepted r
     → (gs : List Placed) (rows : List ℕ) → Numbering how s gs rows → Shows how before gs rows r after
-accepted_shown how s before (Accepted a l b) after x accepted gs rows n =
-    let p = accepted_proper how s before a l b after x in
-    let m = accepted_numbered how s before a l b after x in
+accepted_shown how s before (Ok a) after x is gs rows n =
+    let p = accepted_proper how s before a.segments a.levels a.bytes after x in
+    let m = accepted_numbered how s before a.segments a.levels a.bytes after x in
     let o = numbering_once how s m.gs gs m.rows rows m.numbering n in
-    meets_accepted how s before gs rows p.fit p.short n (rw o.0 at m.room) (Accepted a l b) after x
-accepted_shown how s before (Refused n k b e) after x refused gs rows m = absurd refused
+    meets_accepted how s before gs rows p.fit p.short n (rw o.0 at m.room) (Ok a) after x
+accepted_shown how s before (Err r) after x never gs rows m = absurd never
 
 pub condition_2 : Condition2
 condition_2 = record { exactly_when = accepted_when; shown = accepted_shown; one_numbering = numbering_once }

@@ -15,13 +15,12 @@ use Rattle.text.specs.Cut.{Cut, Whole, Placed}
 use Rattle.text.proofs.CutLaws.{Faulty, CutLaw, Front, leads_front}
 use Rattle.text.proofs.DocumentCut.{cut_law}
 use Rattle.text.proofs.LineEnds.{skip_law}
-use Rattle.gate.specs.Answers.{Fault}
+use Rattle.gate.specs.Answers.{accepted, refused, Fault}
 use Rattle.gate.specs.Profile.{Profile}
 use Rattle.gate.specs.Segments.{seen, onto}
 use Rattle.gate.specs.Records.{Tables, Room}
 use Rattle.gate.specs.Reads.{cut_by, skip_by, Passed, Run}
 use Rattle.gate.specs.Conditions.{Larger, looked_at, up_to_segment, BeginsWith}
-use Rattle.gate.specs.declared.answer.Answer.TheVariants.{Accepted, Refused}
 use Rattle.gate.specs.declared.how.How.{How}
 use Rattle.gate.proofs.reading.Numbers.{fault_room}
 use Rattle.gate.proofs.reading.Once.{Fails, refused_fails, refused_byte}
@@ -118,7 +117,7 @@ module _ (profile : Profile) (how : How) (fit : Fitted how.separators) (t u : Ta
   rests gs rows end rest n e fault (inr (inr x)) = absurd (fault_room n fault x.number_is)
 
   -- a fault, in the bytes
-  module _ (s : Bytes) (n k b e : ℕ) (kept : List Placed) (w : List ℕ) (fault : Fault n) (r : Run profile how t s (Refused n k b e) kept w) where
+  module _ (s : Bytes) (n k b e : ℕ) (kept : List Placed) (w : List ℕ) (fault : Fault n) (r : Run profile how t s (refused n k b e) kept w) where
     on : Rests r.gs r.rows r.end r.rest n e
     on = rests r.gs r.rows r.end r.rest n e fault (refused_fails profile how t r.gs r.rows r.end r.rest n k b e kept w r.ends)
 
@@ -135,7 +134,7 @@ module _ (profile : Profile) (how : How) (fit : Fitted how.separators) (t u : Ta
     refusal_begun = (on.old, there.whole ∙ rw (front_is, append_assoc))
 
     -- it stands whatever follows them
-    pub refusal_stands : (more : Bytes) → Run profile how u (up_to_segment how s b ++ more) (Refused n k b e) kept w
+    pub refusal_stands : (more : Bytes) → Run profile how u (up_to_segment how s b ++ more) (refused n k b e) kept w
     refusal_stands more =
         rw (front_is, append_assoc)
         (record {
@@ -155,8 +154,8 @@ module _ (profile : Profile) (how : How) (fit : Fitted how.separators) (t u : Ta
         })
 
   -- an acceptance stands
-  pub acceptance_stands : (s : Bytes) (a l c : ℕ) (kept : List Placed) (w : List ℕ) → Run profile how t s (Accepted a l c) kept w
-      → (more : Bytes) → Run profile how u (take c s ++ more) (Accepted a l c) kept w
+  pub acceptance_stands : (s : Bytes) (a l c : ℕ) (kept : List Placed) (w : List ℕ) → Run profile how t s (accepted a l c) kept w
+      → (more : Bytes) → Run profile how u (take c s ++ more) (accepted a l c) kept w
   acceptance_stands s a l c kept w r more =
       let x = r.ends in
       let g = x.segment in

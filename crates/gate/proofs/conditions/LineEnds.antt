@@ -8,6 +8,7 @@ use mathlib.Core.Bool.{Bool, true, false}
 use mathlib.Core.List.{List, [], ◌∷◌, ◌++◌, append_assoc}
 use lib.Dec.{leb}
 use lib.ListN.{length}
+use Rattle.std.proofs.Common.{Ok, Err}
 use Rattle.text.specs.Bytes.{Bytes}
 use Rattle.text.specs.Separators.{fit_separators}
 use Rattle.text.specs.Cut.{Cut, Whole, cut_of, skip_of, Placed, Leads, line_end}
@@ -17,10 +18,9 @@ use Rattle.text.specs.declared.separators.Separators.{Separators}
 use Rattle.text.proofs.DocumentCut.{Splits, cut_splits}
 use Rattle.rows.specs.declared.profile.ProfileName.{ProfileName}
 use Rattle.gate.specs.Profile.{profile_of}
+use Rattle.gate.specs.Answers.{Answer}
 use Rattle.gate.specs.Records.{Tables}
 use Rattle.gate.specs.Reads.{limit, Ends, Read, ReadsWithin, ReadsFit, ReadsBy, Reads}
-use Rattle.gate.specs.declared.answer.Answer.{Answer}
-use Rattle.gate.specs.declared.answer.Answer.TheVariants.{Accepted, Refused}
 use Rattle.gate.proofs.reading.Moved.{reading, recorded_same, passed_moved, room_moved, keeping_moved, fails_moved}
 
 -- The segments gs lead so from the bytes s by this choice
@@ -64,7 +64,7 @@ module _ (q : Separators) where
     ends_same : (gs : List Placed) (rows : List ℕ) (end : ℕ) (rest : Bytes) (r : Answer) (kept : List Placed) (numbers : List ℕ)
         → Ends (profile_of (reading name q lines)) (reading name q lines) before gs rows end rest r kept numbers
         → Ends (profile_of (reading name q lines')) (reading name q lines') before gs rows end rest r kept numbers
-    ends_same gs rows end rest (Accepted n l b) kept numbers x = record {
+    ends_same gs rows end rest (Ok a) kept numbers x = record {
       segment = x.segment;
       row = x.row;
       keeping = keeping_moved (profile_of (reading name q lines)) name q lines lines' before gs gs rows end end rest refl x.segment x.row x.keeping;
@@ -74,7 +74,7 @@ module _ (q : Separators) where
       numbers_is = x.numbers_is;
       counts = x.counts;
     }
-    ends_same gs rows end rest (Refused n k b e) kept numbers x = record {
+    ends_same gs rows end rest (Err r) kept numbers x = record {
       number = x.number;
       element = x.element;
       cause = fails_moved (profile_of (reading name q lines)) name q lines lines' before gs gs rows end end rest refl x.number x.element x.cause;

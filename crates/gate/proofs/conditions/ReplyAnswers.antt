@@ -19,10 +19,10 @@ use Rattle.levels.specs.Rules.{level_checks}
 use Rattle.levels.specs.internal.Everyone.{Everyone}
 use Rattle.gate.specs.Profile.{Profile, profile_named}
 use Rattle.gate.specs.Segments.{tag_in_of, is_hl, is_se, seen, onto}
+use Rattle.gate.specs.Answers.{refused}
 use Rattle.gate.specs.Rules.{as_rules, hl_checks, se_checks, closing_checks, row_rules, late, rules, FirstBroken}
 use Rattle.gate.specs.Records.{Tables}
 use Rattle.gate.specs.Reads.{Reads}
-use Rattle.gate.specs.declared.answer.Answer.TheVariants.{Refused}
 use Rattle.gate.proofs.reading.Laws.{as_rules_append}
 use Rattle.gate.proofs.reading.Moved.{reading}
 use Rattle.gate.proofs.reading.Blaming.{AllSay, either, first_says, list_says, early_says, ruled_says, rules_say, refusal_says}
@@ -83,7 +83,7 @@ module _ (w : List ℕ) (h : List View) (v : View) (alone : Everyone StandsAlone
 
 -- a refusal of a reply, by either choice of line ends
 pub reply_answers : (q : Separators) (lines : LineEnds) (s : Bytes) (before : Tables) (n k b e : ℕ) (after : Tables)
-    → Reads (reading Reply q lines) s before (Refused n k b e) after → OfReply n e
+    → Reads (reading Reply q lines) s before (refused n k b e) after → OfReply n e
 reply_answers q lines s before n k b e after x =
     let how = reading Reply q lines in
     refusal_says OfReply how s before (record {

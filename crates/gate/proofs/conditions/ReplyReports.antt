@@ -26,12 +26,11 @@ use Rattle.levels.specs.Rules.{absent, mark_fits, level_checks}
 use Rattle.levels.proofs.LevelTests.{Passes, keeps_passes, passes_keeps}
 use Rattle.gate.specs.Profile.{profile_named}
 use Rattle.gate.specs.Segments.{tag_in_of, is_hl, seen, onto, levels_in}
+use Rattle.gate.specs.Answers.{Answer, accepted}
 use Rattle.gate.specs.Rules.{hl_checks, se_checks, Kept, From}
 use Rattle.gate.specs.Records.{Tables}
 use Rattle.gate.specs.Reads.{Reads}
 use Rattle.gate.specs.Conditions.{Numbering, HasRoom}
-use Rattle.gate.specs.declared.answer.Answer.{Answer}
-use Rattle.gate.specs.declared.answer.Answer.TheVariants.{Accepted}
 use Rattle.gate.proofs.reading.Laws.{keeps_split, keeps_both}
 use Rattle.gate.proofs.reading.Moved.{reading, records_same}
 use Rattle.gate.proofs.whole.AllRules.{meets_from, from_meets}
@@ -220,8 +219,8 @@ module _ (q : Separators) (lines : LineEnds) (s : Bytes) (gs : List Placed) (row
   }
 
   -- and where the one is accepted the other is, with the same answer and the same tables
-  pub reply_is_report : (before : Tables) (a l b : ℕ) (after : Tables) → Reads (reading Reply q lines) s before (Accepted a l b) after
-      → (r : Answer) (shown : Tables) → Reads (reading Report q lines) s before r shown → (r ≡ Accepted a l b) × (shown ≡ after)
+  pub reply_is_report : (before : Tables) (a l b : ℕ) (after : Tables) → Reads (reading Reply q lines) s before (accepted a l b) after
+      → (r : Answer) (shown : Tables) → Reads (reading Report q lines) s before r shown → (r ≡ accepted a l b) × (shown ≡ after)
   reply_is_report before a l b after x r shown y =
       let how = reading Reply q lines in
       let p = accepted_proper how s before a l b after x in
@@ -229,7 +228,7 @@ module _ (q : Separators) (lines : LineEnds) (s : Bytes) (gs : List Placed) (row
       let o = numbering_once how s m.gs gs m.rows rows m.numbering n in
       let room : HasRoom how before gs = rw o.0 at m.room in
       let wider : HasRoom (reading Report q lines) before gs = record { segments_fit = room.segments_fit; levels_fit = rw (← whole.1) room.levels_fit } in
-      let first = meets_accepted how s before gs rows p.fit p.short n room (Accepted a l b) after x in
+      let first = meets_accepted how s before gs rows p.fit p.short n room (accepted a l b) after x in
       let second = meets_accepted (reading Report q lines) s before gs rows p.fit p.short numbering_wider wider r shown y in (
         second.answer ∙ rw (← whole.1) (sym first.answer),
         second.tables ∙ rw (records_same Report Reply q lines lines [] gs rows, ← whole.1) (sym first.tables),

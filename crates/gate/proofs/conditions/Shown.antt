@@ -13,9 +13,9 @@ use Rattle.text.specs.Separators.{standard, fit_separators, may_serve}
 use Rattle.text.specs.declared.lines.LineEnds.{LineEnds}
 use Rattle.rows.specs.declared.profile.ProfileName.{ProfileName}
 use Rattle.gate.specs.Profile.{profile_named}
+use Rattle.gate.specs.Answers.{Answer}
 use Rattle.gate.specs.Records.{Tables, segment_records, level_records, segment_room_of, level_room_of, over}
 use Rattle.gate.specs.Reads.{limit, Read, Reads}
-use Rattle.gate.specs.declared.answer.Answer.{Answer}
 use Rattle.gate.specs.declared.how.How.{How}
 use Rattle.gate.proofs.conditions.Conditions.{reads_read}
 use Rattle.gate.proofs.reading.Once.{run_once}

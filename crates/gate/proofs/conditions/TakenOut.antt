@@ -8,6 +8,7 @@ use native.Mathlib.Omega.{arith}
 use lib.Dec.{T}
 use lib.ListN.{length, drop, length-append, length-drop}
 use borrow.Author.Tests.{le-leb}
+use Rattle.std.proofs.Common.{Ok, Err}
 use Rattle.text.specs.Bytes.{Bytes}
 use Rattle.text.specs.Separators.{Fitted, fit_separators}
 use Rattle.text.specs.Pieces.{closed}
@@ -21,10 +22,9 @@ use Rattle.text.proofs.DocumentCut.{cut_law}
 use Rattle.rows.specs.declared.profile.ProfileName.{ProfileName}
 use Rattle.gate.specs.Profile.{Profile, profile_of}
 use Rattle.gate.specs.Segments.{seen, onto, levels_in}
+use Rattle.gate.specs.Answers.{Answer, accepted, refused}
 use Rattle.gate.specs.Records.{Tables, recorded}
 use Rattle.gate.specs.Reads.{limit, Ends, Read, ReadsBy, Reads}
-use Rattle.gate.specs.declared.answer.Answer.{Answer}
-use Rattle.gate.specs.declared.answer.Answer.TheVariants.{Accepted, Refused}
 use Rattle.gate.proofs.reading.Moved.{reading, passed_moved, room_moved, keeping_moved, fails_moved}
 use Rattle.gate.proofs.conditions.Conditions.{reads_read}
 use Rattle.gate.proofs.conditions.LineEnds.{Led, split}
@@ -40,11 +40,10 @@ closed_up at (g ∷ gs) = record { at = at; segment = g.segment } ∷ closed_up 
 
 -- the same numbers but for those of bytes
 abbrev pub SameVerdict : Answer → Answer → Type 0
-SameVerdict (Accepted segments levels bytes) (Accepted segments' levels' bytes') = (segments ≡ segments') × (levels ≡ levels')
-SameVerdict (Accepted segments levels bytes) (Refused number segment byte element) = ⊥
-SameVerdict (Refused number segment byte element) (Accepted segments levels bytes) = ⊥
-SameVerdict (Refused number segment byte element) (Refused number' segment' byte' element') =
-    (number ≡ number') × (segment ≡ segment') × (element ≡ element')
+SameVerdict (Ok a) (Ok a') = (a.segments ≡ a'.segments) × (a.levels ≡ a'.levels)
+SameVerdict (Ok a) (Err r) = ⊥
+SameVerdict (Err r) (Ok a) = ⊥
+SameVerdict (Err r) (Err r') = (r.number ≡ r'.number) × (r.segment ≡ r'.segment) × (r.element ≡ r'.element)
 
 -- what the strict reading says of bytes whose line ends are taken out
 pub record TakenOut (name : ProfileName) (q : Separators) (s : Bytes) (before : Tables) (r : Answer) (after : Tables) : Type 0 where
@@ -126,8 +125,8 @@ module _ (profile : Profile) (name : ProfileName) (q : Separators) (before : Tab
 
   ends_strictly : (r : Answer) (kept : List Placed) (numbers : List ℕ) → Ends profile (reading name q Skipped) before gs rows end rest r kept numbers
       → EndsStrictly r kept numbers
-  ends_strictly (Accepted segments levels bytes) kept numbers x = record {
-    answer = Accepted segments levels (to + length x.segment + 1);
+  ends_strictly (Ok a) kept numbers x = record {
+    answer = accepted a.segments a.levels (to + length x.segment + 1);
     ends = record {
       segment = x.segment;
       row = x.row;
@@ -138,14 +137,14 @@ module _ (profile : Profile) (name : ProfileName) (q : Separators) (before : Tab
       numbers_is = x.numbers_is;
       counts =
           let c = x.counts in
-          let n : segments ≡ length kept = cc in
-          let l : levels ≡ length (levels_in profile (onto [] (seen (reading name q Skipped) kept))) = cc in
+          let n : a.segments ≡ length kept = cc in
+          let l : a.levels ≡ length (levels_in profile (onto [] (seen (reading name q Skipped) kept))) = cc in
           rw (length-closed 0 kept, seen_closed name q 0 kept, n, l);
     };
     verdict = (refl, refl);
   }
-  ends_strictly (Refused number segment byte element) kept numbers x = record {
-    answer = Refused number segment to element;
+  ends_strictly (Err r) kept numbers x = record {
+    answer = refused r.number r.segment to r.element;
     ends = record {
       number = x.number;
       element = x.element;
@@ -154,9 +153,9 @@ module _ (profile : Profile) (name : ProfileName) (q : Separators) (before : Tab
       numbers_is = x.numbers_is;
       place =
           let c = x.place in
-          let n : number ≡ x.number = cc in
-          let k : segment ≡ length gs + 1 = cc in
-          let e : element ≡ x.element = cc in
+          let n : r.number ≡ x.number = cc in
+          let k : r.segment ≡ length gs + 1 = cc in
+          let e : r.element ≡ x.element = cc in
           rw (length-closed 0 gs, n, k, e);
     };
     verdict = (refl, refl, refl);

@@ -25,13 +25,12 @@ use Rattle.text.proofs.LineEnds.{skip_law}
 use Rattle.text.proofs.Writable.{writes, writes_writable, cut_writable, writable_cut, writable_seen}
 use Rattle.rows.specs.Tags.{tags, tag_number}
 use Rattle.rows.proofs.TagList.{tag_of_number}
-use Rattle.gate.specs.Answers.{Fault}
+use Rattle.gate.specs.Answers.{refused, Fault}
 use Rattle.gate.specs.Profile.{profile_of}
 use Rattle.gate.specs.Segments.{tag_in_of, seen}
 use Rattle.gate.specs.Records.{Tables}
 use Rattle.gate.specs.Reads.{limit, cut_by, skip_by, Passed, Run}
 use Rattle.gate.specs.Conditions.{Continues}
-use Rattle.gate.specs.declared.answer.Answer.TheVariants.{Refused}
 use Rattle.gate.specs.declared.how.How.{How}
 use Rattle.gate.proofs.reading.Numbers.{fault_room}
 use Rattle.gate.proofs.reading.Once.{Fails, refused_fails, refused_segment, refused_byte}
@@ -191,7 +190,7 @@ cut_behind [] t m = (t, m, refl)
 cut_behind (b ∷ g) t m = (b, g ++ t ∷ m, refl)
 
 fault_byte : (how : How) → Fitted how.separators → (t : Tables) (s : Bytes) (n k b e : ℕ) (kept : List Placed) (w : List ℕ) → Fault n
-    → (r : Run (profile_of how) how t s (Refused n k b e) kept w) → (x : ℕ) × (y : Bytes) × (r.rest ≡ x ∷ y)
+    → (r : Run (profile_of how) how t s (refused n k b e) kept w) → (x : ℕ) × (y : Bytes) × (r.rest ≡ x ∷ y)
 fault_byte how fit t s n k b e kept w f r = by (refused_fails (profile_of how) how t r.gs r.rows r.end r.rest n k b e kept w r.ends)
   where
     stopped : (u m : Bytes) → (n ≡ 3) ⊎ Faulty (cut_by how) r.rest n e u m → (x : ℕ) × (y : Bytes) × (r.rest ≡ x ∷ y)
@@ -211,7 +210,7 @@ fault_byte how fit t s n k b e kept w f r = by (refused_fails (profile_of how) h
 
 -- what was passed before a fault can be continued
 pub fault_continues : (how : How) (t : Tables) (s : Bytes) (n k b e : ℕ) (kept : List Placed) (w : List ℕ) → T (fit_separators how.separators)
-    → length s ≤ limit → Fault n → Run (profile_of how) how t s (Refused n k b e) kept w → Continues how s k b
+    → length s ≤ limit → Fault n → Run (profile_of how) how t s (refused n k b e) kept w → Continues how s k b
 fault_continues how t s n k b e kept w fit short f r =
     let x = fault_byte how (fitted how.separators fit) t s n k b e kept w f r in
     let p : Passed (profile_of how) how t s r.gs r.rows r.end (x.0 ∷ x.1) = rw x.2 at r.passed in

@@ -18,10 +18,10 @@ use Rattle.elements.specs.Checks.{Check, each, Keeps}
 use Rattle.elements.specs.Rules.{data_piece, data_checks, byte_checks, ends_well_of, end_checks, rule_of, few_by, is_unused, absent_if, too_many_checks, headed, missing_checks, fits_shape, unfit_checks, note_checks, checks_by, checks_among, ruled_checks, present_at}
 use Rattle.gate.specs.Profile.{Profile, profile_of}
 use Rattle.gate.specs.Segments.{seen, onto}
+use Rattle.gate.specs.Answers.{refused}
 use Rattle.gate.specs.Rules.{Rule, as_rules, tag_checks, row_rules, early, late, rules, FirstBroken}
 use Rattle.gate.specs.Records.{Tables}
 use Rattle.gate.specs.Reads.{limit, Passed, Read, Reads, ReadsBy, ReadsFit, ReadsWithin}
-use Rattle.gate.specs.declared.answer.Answer.TheVariants.{Refused}
 use Rattle.gate.specs.declared.how.How.{How}
 use Rattle.gate.proofs.reading.Once.{Fails, refused_fails}
 
@@ -111,7 +111,7 @@ module _ (P : ℕ → ℕ → Type 0) where
     pub no_room : P 17 0
 
   module _ (how : How) (s : Bytes) (before : Tables) (p : Says how before s) (n k b e : ℕ) (after : Tables) where
-    read_says : Read (profile_of how) how s before (Refused n k b e) after → P n e
+    read_says : Read (profile_of how) how s before (refused n k b e) after → P n e
     read_says x =
         by (refused_fails (profile_of how) how before x.run.gs x.run.rows x.run.end x.run.rest n k b e x.kept x.numbers x.run.ends)
       where
@@ -127,14 +127,14 @@ module _ (P : ℕ → ℕ → Type 0) where
         let element = head-eq_of_cons-eq (tail-eq_of_cons-eq (tail-eq_of_cons-eq (tail-eq_of_cons-eq z))) in
         rw (head-eq_of_cons-eq z, element) q
 
-    pub refusal_says : Reads how s before (Refused n k b e) after → P n e
+    pub refusal_says : Reads how s before (refused n k b e) after → P n e
     unfolding ReadsBy
     refusal_says x = by (fit_separators how.separators) x
       where
-        within : (short : Bool) → ReadsWithin short (profile_of how) how s before (Refused n k b e) after → P n e
+        within : (short : Bool) → ReadsWithin short (profile_of how) how s before (refused n k b e) after → P n e
         within true y = read_says y
         within false y = bare 2 p.too_long y.answer
 
-        by : (fit : Bool) → ReadsFit fit (profile_of how) how s before (Refused n k b e) after → P n e
+        by : (fit : Bool) → ReadsFit fit (profile_of how) how s before (refused n k b e) after → P n e
         by true y = within (leb (length s) limit) y
         by false y = bare 1 p.unfit y.answer

@@ -6,6 +6,7 @@ use mathlib.Core.Logic.{◌⊎◌, ⊎_elim, inl, inr}
 use mathlib.Core.Bool.{Bool, true, false, cond}
 use mathlib.Core.List.{List, [], ◌++◌}
 use native.Mathlib.Omega.{arith}
+use Rattle.std.proofs.Common.{Ok, Err}
 use Rattle.text.specs.Bytes.{Bytes, bytes, same}
 use Rattle.text.specs.View.{View, view_of}
 use Rattle.rows.specs.declared.profile.ProfileName.{ProfileName}
@@ -16,12 +17,10 @@ use Rattle.levels.specs.Levels.{claim_of, Level, level_at, parent_of}
 use Rattle.levels.specs.Rules.{level_checks, absent, root_checks, child_checks}
 use Rattle.gate.specs.Profile.{Profile, profile_named}
 use Rattle.gate.specs.Segments.{is_hl, is_se, levels_in, tag_in_of, seen, onto}
-use Rattle.gate.specs.Answers.{RowNotInProfile, Listed}
+use Rattle.gate.specs.Answers.{Answer, RowNotInProfile, Listed}
 use Rattle.gate.specs.Rules.{as_rules, hl_checks, se_checks, closing_checks, Admitted, row_rules, late, rules, FirstBroken}
 use Rattle.gate.specs.Records.{Tables}
 use Rattle.gate.specs.Reads.{Reads}
-use Rattle.gate.specs.declared.answer.Answer.{Answer}
-use Rattle.gate.specs.declared.answer.Answer.TheVariants.{Accepted, Refused}
 use Rattle.gate.specs.declared.how.How.{How}
 use Rattle.gate.proofs.reading.Blaming.{AllSay, both, either, list_says, early_says, ruled_says, rules_say, refusal_says}
 
@@ -90,8 +89,8 @@ module _ (name : ProfileName) (w : List ℕ) (h : List View) (v : View) where
 
 -- every answer that the promise allows is one of the list
 pub listed : (how : How) (s : Bytes) (before : Tables) (r : Answer) (after : Tables) → Reads how s before r after → Listed how.profile r
-listed how s before (Accepted a l b) after x = tt
-listed how s before (Refused n k b e) after x =
+listed how s before (Ok a) after x = tt
+listed how s before (Err r) after x =
     let name = how.profile in
     refusal_says (Numbered name) how s before (record {
       unfit = tested name 1 0 (omega arith) (omega arith);
@@ -99,4 +98,4 @@ listed how s before (Refused n k b e) after x =
       cut = λ n e c. ⊎_elim (λ z. tested name n e (omega (arith, z)) (omega (arith, z))) (λ z. tested name n e (omega (arith, z)) (omega (arith, z))) c;
       broken = λ gs rows end rest g n e p f. broken_says name rows (onto [] (seen how gs)) (view_of how.separators g) n e f;
       no_room = tested name 17 0 (omega arith) (omega arith);
-    }) n k b e after x
+    }) r.number r.segment r.byte r.element after x

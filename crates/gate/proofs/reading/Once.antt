@@ -8,6 +8,7 @@ use mathlib.Core.List.{List, [], ◌∷◌, ◌++◌}
 use native.Mathlib.Omega.{arith}
 use lib.Dec.{T, T_not, leb}
 use lib.ListN.{length}
+use Rattle.std.proofs.Common.{Ok, Err}
 use Rattle.text.specs.Bytes.{Bytes}
 use Rattle.text.specs.Separators.{fit_separators}
 use Rattle.text.specs.View.{view_of}
@@ -17,13 +18,12 @@ use Rattle.text.proofs.CutLaws.{whole_once, leads_longer, leads_once}
 use Rattle.rows.proofs.FittingRow.{fits_once}
 use Rattle.gate.specs.Profile.{Profile}
 use Rattle.gate.specs.Segments.{tag_in_of, is_se, seen, onto}
+use Rattle.gate.specs.Answers.{Answer, numbers_of}
 use Rattle.gate.specs.Rules.{Sound}
 use Rattle.gate.specs.Records.{Tables, Room, recorded}
 use Rattle.gate.specs.Reads.{limit, cut_by, skip_by, rules_next, Stopped, Breaks, Full, RoomWith, Accepts, Refuses, Ends, Run, Read, Untouched, ReadsWithin, ReadsFit, ReadsBy}
-use Rattle.gate.specs.declared.answer.Answer.{Answer}
-use Rattle.gate.specs.declared.answer.Answer.TheVariants.{Accepted, Refused}
 use Rattle.gate.specs.declared.how.How.{How}
-use Rattle.gate.proofs.reading.Numbers.{refusal_once}
+use Rattle.gate.proofs.reading.Numbers.{same_acceptance, same_refusal, refusal_once}
 use Rattle.gate.proofs.reading.Laws.{broken_unsound, broken_once, onto_append, same_rows}
 use Rattle.gate.proofs.reading.Passing.{numbers, next_of, room_fewer}
 
@@ -108,21 +108,21 @@ module _ (profile : Profile) (how : How) (t : Tables) (gs : List Placed) (rows :
 
   ends_once : (r r' : Answer) (k k' : List Placed) (w w' : List ℕ) → Ends profile how t gs rows end rest r k w
       → Ends profile how t gs rows end rest r' k' w' → (r ≡ r') × (k ≡ k') × (w ≡ w')
-  ends_once (Accepted s l b) (Accepted s' l' b') k k' w w' x y =
-      let o = accepts_once (0 ∷ s ∷ l ∷ b ∷ []) (0 ∷ s' ∷ l' ∷ b' ∷ []) k k' w w' x y in
-      (cc o.0, o.1, o.2)
-  ends_once (Accepted s l b) (Refused n' s' b' e') k k' w w' x y = absurd (not_both y.number y.element k w (0 ∷ s ∷ l ∷ b ∷ []) y.cause x)
-  ends_once (Refused n s b e) (Accepted s' l' b') k k' w w' x y = absurd (not_both x.number x.element k' w' (0 ∷ s' ∷ l' ∷ b' ∷ []) x.cause y)
-  ends_once (Refused n s b e) (Refused n' s' b' e') k k' w w' x y =
-      let f = fails_once x.number x.element y.number y.element x.cause y.cause in
-      (cc (f.0, f.1, x.place, y.place), x.kept_is ∙ sym y.kept_is, x.numbers_is ∙ sym y.numbers_is)
+  ends_once (Ok a) (Ok a') k k' w w' x y =
+      let o = accepts_once (numbers_of (Ok a)) (numbers_of (Ok a')) k k' w w' x y in
+      (same_acceptance a a' o.0, o.1, o.2)
+  ends_once (Ok a) (Err f') k k' w w' x y = absurd (not_both y.number y.element k w (numbers_of (Ok a)) y.cause x)
+  ends_once (Err f) (Ok a') k k' w w' x y = absurd (not_both x.number x.element k' w' (numbers_of (Ok a')) x.cause y)
+  ends_once (Err f) (Err f') k k' w w' x y =
+      let o = fails_once x.number x.element y.number y.element x.cause y.cause in
+      (same_refusal _ _ (cc (o.0, o.1, x.place, y.place)), x.kept_is ∙ sym y.kept_is, x.numbers_is ∙ sym y.numbers_is)
 
   -- whatever the answer, the next segment is not passed
   stuck : (r : Answer) (k : List Placed) (w : List ℕ) (g m : Bytes) (row : ℕ) → Ends profile how t gs rows end rest r k w → cut_by how rest ≡ Whole g m
       → SoundNext g row → RoomWith profile how t gs rows end rest g → T (not (is_se (view_of how.separators g))) → ⊥
-  stuck (Accepted s l b) k w g m row x p d o n =
+  stuck (Ok a) k w g m row x p d o n =
       T_not (is_se (view_of how.separators x.segment)) (rw (next_once p x.keeping.next) at n) x.last
-  stuck (Refused n s b e) k w g m row x p d o i = fails x.cause
+  stuck (Err f) k w g m row x p d o i = fails x.cause
     where
       fails : Fails x.number x.element → ⊥
       fails (inl y) = whole_no_stop (sym p ∙ y.stops)

@@ -23,11 +23,10 @@ use Rattle.elements.specs.Checks.{Check, Keeps}
 use Rattle.elements.specs.Rules.{byte_checks, end_checks}
 use Rattle.gate.specs.Profile.{Profile}
 use Rattle.gate.specs.Segments.{tag_in_of, is_se, seen, onto, levels_in}
+use Rattle.gate.specs.Answers.{Answer, accepted, refused}
 use Rattle.gate.specs.Rules.{tag_checks, Rule, as_rules, Admitted, row_rules, early, late, rules, Sound, FirstBroken}
 use Rattle.gate.specs.Records.{Tables, Room, segment_room_of, level_room_of}
 use Rattle.gate.specs.Reads.{cut_by, skip_by, Passed, Run}
-use Rattle.gate.specs.declared.answer.Answer.{Answer}
-use Rattle.gate.specs.declared.answer.Answer.TheVariants.{Accepted, Refused}
 use Rattle.gate.specs.declared.how.How.{How}
 use Rattle.gate.proofs.reading.Laws.{EachHolds, holds_sound, keeps_split, onto_append}
 use Rattle.gate.proofs.reading.Passing.{numbers, numbers_more}
@@ -67,10 +66,10 @@ row_said (Fine r) = r
 
 module _ (profile : Profile) (how : How) (segments levels : ℕ) where
   abbrev pub refuse : List Placed → List ℕ → ℕ → ℕ → ℕ → Out
-  refuse gs w end n e = (Refused n (length gs + 1) end e, gs, w)
+  refuse gs w end n e = (refused n (length gs + 1) end e, gs, w)
 
   abbrev pub accept : List Placed → List ℕ → ℕ → Out
-  accept gs w used = (Accepted (length gs) (length (levels_in profile (onto [] (seen how gs)))) used, gs, w)
+  accept gs w used = (accepted (length gs) (length (levels_in profile (onto [] (seen how gs)))) used, gs, w)
 
   -- the answer at the segment g, or what goes on
   abbrev pub choose : List Placed → List ℕ → ℕ → Bytes → Says → Bool → Bool → Out → Out
@@ -160,7 +159,7 @@ module _ (profile : Profile) (how : How) (t : Tables) (s : Bytes) where
 
   -- a refusal behind what was passed
   pub refused_run : (gs : List Placed) (w : List ℕ) (end : ℕ) (rest : Bytes) (n e : ℕ) → Passed profile how t s gs w end rest
-      → Fails profile how t gs w end rest n e → Run profile how t s (Refused n (length gs + 1) end e) gs w
+      → Fails profile how t gs w end rest n e → Run profile how t s (refused n (length gs + 1) end e) gs w
   refused_run gs w end rest n e p f = record {
     gs = gs;
     rows = w;

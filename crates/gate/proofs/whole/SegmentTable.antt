@@ -9,6 +9,7 @@ use native.Mathlib.Omega.{arith}
 use lib.Dec.{T, eqb→eq}
 use lib.ListN.{length, take, drop, get_or, length-append, length-take, length-map}
 use borrow.Author.Tests.{eq-eqb, ne_eqb}
+use Rattle.std.proofs.Common.{Ok, Err}
 use Rattle.text.specs.Bytes.{Bytes}
 use Rattle.text.specs.View.{View, view_of}
 use Rattle.text.specs.Cut.{Placed}
@@ -19,11 +20,10 @@ use Rattle.levels.specs.Levels.{Claim, Level, level_at, levels_of}
 use Rattle.levels.proofs.CalledLevel.{levels_length}
 use Rattle.gate.specs.Profile.{Profile}
 use Rattle.gate.specs.Segments.{tag_in_of, is_hl, is_se, seen, onto, add_claim, claims, levels_in, belongs_to}
+use Rattle.gate.specs.Answers.{Answer}
 use Rattle.gate.specs.Records.{Tables, segment_records, recorded}
 use Rattle.gate.specs.Reads.{Ends, Run, Read}
 use Rattle.gate.specs.Conditions.{level_number, SegmentShown}
-use Rattle.gate.specs.declared.answer.Answer.{Answer}
-use Rattle.gate.specs.declared.answer.Answer.TheVariants.{Accepted, Refused}
 use Rattle.gate.specs.declared.how.How.{How}
 use Rattle.gate.proofs.reading.Laws.{onto_length}
 use Rattle.gate.proofs.reading.Passing.{one_each, claim_more}
@@ -116,9 +116,9 @@ module _ {profile : Profile} {how : How} {s : Bytes} {before : Tables} where
   run_numbered r {kept} {numbers} x = ending r (one_each how x.gs x.rows x.passed.tags) x.ends
     where
       ending : (r : Answer) → length x.rows ≡ length x.gs → Ends profile how before x.gs x.rows x.end x.rest r kept numbers → length numbers ≡ length kept
-      ending (Accepted segments levels bytes) n e =
+      ending (Ok a) n e =
           rw (e.kept_is, e.numbers_is, length-append x.rows (e.row ∷ []), length-append x.gs (record { at = x.end; segment = e.segment } ∷ [])) (omega (arith, n))
-      ending (Refused number segment byte element) n e = rw (e.kept_is, e.numbers_is) n
+      ending (Err r) n e = rw (e.kept_is, e.numbers_is) n
 
   pub read_shown : {r : Answer} {after : Tables} (x : Read profile how s before r after) (k : ℕ) → k < length x.kept → SegmentShown profile (seen how x.kept) after k
   read_shown {r} x k inside = rw x.tables (segment_shown profile how before x.kept x.numbers (run_numbered r x.run) k inside)

@@ -5,6 +5,7 @@ use mathlib.Core.Path.{◌≡◌, refl, sym, ap, subst, ◌∙◌}
 use mathlib.Core.Bool.{Bool, true, false, cond}
 use mathlib.Core.List.{List, [], ◌∷◌, ◌++◌}
 use native.Mathlib.Omega.{arith}
+use Rattle.std.specs.Prelude.{Result, Ok, Err}
 use lib.Dec.{T, leb, leb→le, le→leb}
 use lib.ListN.{length, take, drop, get_or, set, length-append, length-drop, length-set}
 use lib.Seq.{drop_at, drop-drop, get_or-drop, split_at, length-take-le, append_snoc, get_or-set_same, get_or-set_other}
@@ -14,10 +15,11 @@ use Rattle.text.specs.Bin.{bin_mark, begins_bin, count_in, attached_in, is_bin}
 use Rattle.text.specs.View.{view_of, elements_of, present}
 use Rattle.text.specs.Cut.{Cut, Whole, behind, cut_attached, cut_counted, cut_of}
 use Rattle.text.specs.Lookup.{span_among}
-use Rattle.text.specs.internal.Count.{count_from}
+use Rattle.text.specs.internal.Count.{told, count_from}
 use Rattle.text.specs.declared.separators.Separators.{Separators}
 use Rattle.text.specs.declared.bin.Counted.{Counted}
-use Rattle.text.specs.declared.bin.Counted.TheVariants.{Told, Open as CountOpen, Broken as CountBroken}
+use Rattle.text.specs.declared.bin.Uncounted.{Uncounted}
+use Rattle.text.specs.declared.bin.Uncounted.TheVariants.{Open as CountOpen, Broken as CountBroken}
 use Rattle.text.proofs.Bools.{both, first_of, second_of}
 use Rattle.text.proofs.Everys.{every_weaker}
 use Rattle.text.proofs.Bins.{Counts, bin_parts, begins_mark, bin_made, count_made, attached_made}
@@ -30,8 +32,9 @@ use Rattle.elements.specs.Rules.{data_checks, byte_checks, end_checks}
 use Rattle.elements.specs.declared.layout.Layout.{Layout}
 use Rattle.reading.specs.internal.Cutting.{LaidAs, StopsWith, bin_layout, seen_up_to, BinSegment, CutsBin, CountedBin, CutsCounted}
 use Rattle.reading.specs.declared.cutting.Left.{Left}
-use Rattle.reading.specs.declared.cutting.Next.{Next}
-use Rattle.reading.specs.declared.cutting.Next.TheVariants.{Open, Bad, Broken, Segment}
+use Rattle.reading.specs.declared.cutting.Cut.{Cut as CutOff}
+use Rattle.reading.specs.declared.cutting.Uncut.{Uncut}
+use Rattle.reading.specs.declared.cutting.Uncut.TheVariants.{Open, Bad, Broken}
 
 -- rules 5 and 6 hold of every whole BIN, whatever its BIN02 holds
 digit_printable : (b : ℕ) → T (is_digit b) → T (printable b)
@@ -93,23 +96,23 @@ module _ (q : Separators) (s : Bytes) (at : ℕ) (marked : T (begins_bin q.eleme
   cut_is : cut_of q (drop at s) ≡ behind mark (cut_counted q 0 0 (drop (at + 4) s))
   cut_is = ap (cut_of q) marked_is ∙ cut_marked q (drop (at + 4) s)
 
-  module _ (r : Counted) (is : r ≡ count_from q.element 0 0 (at + 4) (drop (at + 4) s)) where
+  module _ (r : Result Counted Uncounted) (is : r ≡ count_from q.element 0 0 (at + 4) (drop (at + 4) s)) where
     finds : Finds q 0 0 (at + 4) (drop (at + 4) s) r
     finds = rw is (count_finds q 0 0 (at + 4) (drop (at + 4) s) (omega arith))
 
-    pub count_open : r ≡ CountOpen → StopsWith q s at 3 0
+    pub count_open : r ≡ Err CountOpen → StopsWith q s at 3 0
     count_open z =
-        let f = subst (λ (x : Counted). Finds q 0 0 (at + 4) (drop (at + 4) s) x) z finds in
+        let f = subst (λ (x : Result Counted Uncounted). Finds q 0 0 (at + 4) (drop (at + 4) s) x) z finds in
         record { upto = mark ++ drop (at + 4) s; more = []; stops = cut_is ∙ ap (behind mark) f }
 
-    pub count_broken : r ≡ CountBroken → StopsWith q s at 10 1
+    pub count_broken : r ≡ Err CountBroken → StopsWith q s at 10 1
     count_broken z =
-        let f = subst (λ (x : Counted). Finds q 0 0 (at + 4) (drop (at + 4) s) x) z finds in
+        let f = subst (λ (x : Result Counted Uncounted). Finds q 0 0 (at + 4) (drop (at + 4) s) x) z finds in
         record { upto = mark ++ f.0; more = f.1; stops = cut_is ∙ ap (behind mark) f.2 }
 
-    module _ (number end : ℕ) (z : r ≡ Told number end) where
+    module _ (number end : ℕ) (z : r ≡ told number end) where
       abbrev f : Found q.element 0 0 (at + 4) (drop (at + 4) s) number end
-      f = subst (λ (x : Counted). Finds q 0 0 (at + 4) (drop (at + 4) s) x) z finds
+      f = subst (λ (x : Result Counted Uncounted). Finds q 0 0 (at + 4) (drop (at + 4) s) x) z finds
 
       long : length s ≡ end + 1 + length f.rest
       long = omega (arith, ap length f.whole ∙ length-append f.count (q.element ∷ f.rest), length-drop (at + 4) s, marked_inside, f.end_is)
@@ -225,9 +228,9 @@ module _ (q : Separators) (s : Bytes) (at : ℕ) (marked : T (begins_bin q.eleme
           }
 
       -- what the jump finds is the cut
-      pub counted_cuts : (starts starts' : List ℕ) → length starts ≡ 33 → (n : Next) → CutsCounted s q.terminator at number (end + 1) starts starts' n
+      pub counted_cuts : (starts starts' : List ℕ) → length starts ≡ 33 → (n : Result CutOff Uncut) → CutsCounted s q.terminator at number (end + 1) starts starts' n
           → CutsBin q s at starts' n
-      counted_cuts starts starts' size Open c = short c
-      counted_cuts starts starts' size (Bad place) c = absurd c
-      counted_cuts starts starts' size (Broken element) c = rw c.0 (other c.1 c.2)
-      counted_cuts starts starts' size (Segment layout left) c = whole_bin c.0 c.1 starts starts' layout left size c.2
+      counted_cuts starts starts' size (Err Open) c = short c
+      counted_cuts starts starts' size (Err (Bad place)) c = absurd c
+      counted_cuts starts starts' size (Err (Broken element)) c = rw c.0 (other c.1 c.2)
+      counted_cuts starts starts' size (Ok cut) c = whole_bin c.0 c.1 starts starts' cut.layout cut.left size c.2

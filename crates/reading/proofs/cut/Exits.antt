@@ -6,6 +6,7 @@ use mathlib.Core.Logic.{by_cases}
 use mathlib.Core.Bool.{Bool, not, ◌&&◌}
 use mathlib.Core.List.{List, [], ◌∷◌, ◌++◌, append_assoc, append-nil, head-eq_of_cons-eq}
 use native.Mathlib.Omega.{arith}
+use Rattle.std.specs.Prelude.{Err}
 use native.Mathlib.Decide.{dec_lt}
 use lib.Dec.{T, T_not, eqb, eqb→eq}
 use lib.ListN.{length, take, drop, get_or, length-append, drop_of_length-le}
@@ -24,8 +25,8 @@ use Rattle.text.proofs.View.{free_append}
 use Rattle.reading.specs.internal.Cutting.{layout_of, LaidAs, PlainBad, PlainSegment, CutsPlainly, Stops}
 use Rattle.elements.specs.Rules.{data_checks, end_checks}
 use Rattle.elements.proofs.PresentPieces.{some as filled}
-use Rattle.reading.specs.declared.cutting.Next.{Next}
-use Rattle.reading.specs.declared.cutting.Next.TheVariants.{Open, Bad, Broken, Segment}
+use Rattle.reading.specs.declared.cutting.Uncut.{Uncut}
+use Rattle.reading.specs.declared.cutting.Uncut.TheVariants.{Open, Bad, Broken}
 use Rattle.reading.proofs.cut.SpecialBytes.{belongs, Permitted, refused}
 use Rattle.reading.proofs.cut.Queue.{All, left_none, used_up}
 use Rattle.reading.proofs.cut.Bytes.{all_every, data_kept, data_told}
@@ -178,11 +179,10 @@ module _ {q : Separators} {table : List Bool} {s : Bytes} {at : ℕ} {queue star
           }
 
       -- a bad byte: the next terminator decides
-      pub at_bad : (r : Next) → Stops s here q.terminator r → CutsPlainly q table s at queue starts r
+      pub at_bad : (r : Uncut) → Stops s here q.terminator r → CutsPlainly q table s at queue starts (Err r)
       at_bad Open f = rw passed_whole (free_append q.terminator passed (drop here s) passed_free f)
       at_bad (Bad end) m = spoilt end m
       at_bad (Broken element) f = absurd f
-      at_bad (Segment layout left) f = absurd f
 
   -- all bytes are seen, and the queue is used up
   pub at_last : tail ≤ head → length s ≤ seen → Free q.terminator (drop at s)

@@ -6,6 +6,7 @@ use mathlib.Core.Logic.{◌⊎◌, inl, inr}
 use mathlib.Core.Bool.{Bool, false}
 use mathlib.Core.List.{List, [], ◌∷◌, ◌++◌}
 use native.Mathlib.Omega.{arith}
+use Rattle.std.specs.Prelude.{Result, Ok, Err}
 use lib.Dec.{T}
 use lib.ListN.{length, drop, length-append, length-drop}
 use Rattle.text.specs.Bytes.{Bytes}
@@ -24,8 +25,9 @@ use Rattle.elements.specs.declared.layout.Layout.{Layout}
 use Rattle.reading.specs.internal.Queue.{left, Ready}
 use Rattle.reading.specs.internal.Cutting.{PlainBad, PlainSegment, CutsPlainly, BadSegment, CutAs, GoodSegment, Cuts, CutsBin}
 use Rattle.reading.specs.declared.cutting.Left.{Left}
-use Rattle.reading.specs.declared.cutting.Next.{Next}
-use Rattle.reading.specs.declared.cutting.Next.TheVariants.{Open, Bad, Broken, Segment}
+use Rattle.reading.specs.declared.cutting.Cut.{Cut}
+use Rattle.reading.specs.declared.cutting.Uncut.{Uncut}
+use Rattle.reading.specs.declared.cutting.Uncut.TheVariants.{Open, Bad, Broken}
 use Rattle.reading.proofs.cut.Index.{listed_none}
 
 -- where nothing ahead is seen, an empty queue is ready
@@ -83,11 +85,11 @@ module _ (q : Separators) (fit : Fitted q) (s : Bytes) (at : ℕ) (unmarked : be
         ready = b.ready;
       }
 
-  pub plain_cuts : (table : List Bool) (queue starts : List ℕ) (r : Next) → CutsPlainly q table s at queue starts r → Cuts q table s at queue starts r
-  plain_cuts table queue starts Open f = record { upto = drop at s; more = []; stops = cut_none q (drop at s) unmarked f }
-  plain_cuts table queue starts (Bad end) b = plain_bad end b
-  plain_cuts table queue starts (Broken element) b = absurd b
-  plain_cuts table queue starts (Segment layout left) b = plain_good table queue starts layout left b
+  pub plain_cuts : (table : List Bool) (queue starts : List ℕ) (r : Result Cut Uncut) → CutsPlainly q table s at queue starts r → Cuts q table s at queue starts r
+  plain_cuts table queue starts (Err Open) f = record { upto = drop at s; more = []; stops = cut_none q (drop at s) unmarked f }
+  plain_cuts table queue starts (Err (Bad end)) b = plain_bad end b
+  plain_cuts table queue starts (Err (Broken element)) b = absurd b
+  plain_cuts table queue starts (Ok cut) b = plain_good table queue starts cut.layout cut.left b
 
 module _ {q : Separators} {s : Bytes} {starts : List ℕ} {layout : Layout} {segment more : Bytes} (c : CutAs q s starts layout segment more) where
   -- the terminator is within the bytes
@@ -95,15 +97,15 @@ module _ {q : Separators} {s : Bytes} {starts : List ℕ} {layout : Layout} {seg
   end_inside = omega (arith, c.laid.place, length-drop layout.at s, simp length-append at (ap length c.laid.whole))
 
 -- bytes that do: what `next_bin` answers is the cut, and the queue is empty behind a BIN
-pub bin_cuts : (q : Separators) (s : Bytes) (at : ℕ) (starts : List ℕ) (table : List Bool) (queue : List ℕ) → length queue ≡ 72 → (r : Next)
+pub bin_cuts : (q : Separators) (s : Bytes) (at : ℕ) (starts : List ℕ) (table : List Bool) (queue : List ℕ) → length queue ≡ 72 → (r : Result Cut Uncut)
     → CutsBin q s at starts r → Cuts q table s at queue starts r
-bin_cuts q s at starts table queue size Open c = c
-bin_cuts q s at starts table queue size (Bad end) c = absurd c
-bin_cuts q s at starts table queue size (Broken element) c = c
-bin_cuts q s at starts table queue size (Segment layout left) c = record {
+bin_cuts q s at starts table queue size (Err Open) c = c
+bin_cuts q s at starts table queue size (Err (Bad end)) c = absurd c
+bin_cuts q s at starts table queue size (Err (Broken element)) c = c
+bin_cuts q s at starts table queue size (Ok cut) c = record {
   segment = c.segment;
   more = c.more;
   at_is = c.at_is;
   cut_as = c.cut_as;
-  ready = rw c.left_is (ready_none table s (layout.end + 1) queue (omega (arith, end_inside c.cut_as)) size);
+  ready = rw c.left_is (ready_none table s (cut.layout.end + 1) queue (omega (arith, end_inside c.cut_as)) size);
 }

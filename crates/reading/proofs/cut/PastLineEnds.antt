@@ -6,9 +6,9 @@ use mathlib.Core.Bool.{Bool, true, false, not, true≢false}
 use mathlib.Core.List.{List, [], ◌∷◌, ◌++◌, head-eq_of_cons-eq}
 use native.Mathlib.Omega.{arith}
 use lib.Dec.{eqb}
-use lib.ListN.{length, drop, get_or, length-drop}
+use lib.ListN.{length, drop, get_or, length-drop, drop_of_length-le}
 use lib.Seq.{drop-cons, get_or-drop}
-use borrow.Author.Tests.{lt-leb}
+use borrow.Author.Tests.{lt-leb, ne_eqb}
 use Rattle.text.specs.Bytes.{Bytes, byte}
 use Rattle.text.specs.Separators.{printable}
 use Rattle.text.specs.Bin.{begins_bin}
@@ -17,7 +17,6 @@ use Rattle.gate.specs.Reads.{skip_by}
 use Rattle.gate.specs.declared.how.How.{How}
 use Rattle.text.specs.declared.separators.Separators.{Separators}
 use Rattle.text.proofs.Bools.{passes, or_right}
-use Rattle.text.proofs.Bins.{begins_short, begins_other}
 use Rattle.text.proofs.LineEnds.{skip_law, past_end, skip_none, skipped_small}
 use Rattle.reading.specs.internal.SpecialBytes.{special, is_special_in, SpecialTable}
 use Rattle.reading.specs.internal.Queue.{SpecialPlaces, left}
@@ -31,6 +30,15 @@ low_special : (q : Separators) (b : ℕ) → b < 32 → special q b ≡ true
 unfolding special
 low_special q b l =
     passes _ (or_right (eqb b q.terminator) _ (or_right (eqb b q.component) _ (or_right (eqb b q.element) (not (printable b)) (rw (lt-leb 32 b l) tt))))
+
+-- no BIN begins at the end of the bytes, nor with another byte than B
+begins_nowhere : (e : ℕ) (s : Bytes) (at : ℕ) → length s ≤ at → false ≡ begins_bin e (drop at s)
+unfolding begins_bin
+begins_nowhere e s at l = rw (drop_of_length-le s l) refl
+
+begins_other : (e : ℕ) (s : Bytes) (at : ℕ) → at < length s → (get_or s at 0 ≡ byte "B" → ⊥) → false ≡ begins_bin e (drop at s)
+unfolding begins_bin
+begins_other e s at l n = sym (rw (drop-cons s at 0 l, ne_eqb (get_or s at 0) (byte "B") n))
 
 module _ (table : List Bool) (s : Bytes) (at : ℕ) (within : at < length s) (told : is_special_in table (get_or s at 0) ≡ true) where
   -- before a special byte there is no data
@@ -126,7 +134,7 @@ module _ (how : How) (s : Bytes) (at : ℕ) where
   stays left none told = record { start = omega (arith, none); ready = λ table queue t r. r; bin_told = told }
 
   pub stays_at_end : (left : Left) → length s ≤ at → Starts how s at left (record { at = at; left = left; bin = false })
-  stays_at_end left l = stays left (skipped_none_past how s at l) (begins_short how.separators.element s at (omega arith))
+  stays_at_end left l = stays left (skipped_none_past how s at l) (begins_nowhere how.separators.element s at l)
 
   pub stays_behind_b : (left : Left) → at < length s → byte "B" < get_or s at 0 → Starts how s at left (record { at = at; left = left; bin = false })
   stays_behind_b left l b =

@@ -1,64 +1,64 @@
 -- The table is filled right, and what an entry says of its byte.
 -- Assumes nothing.
-use Prim.Native.Nat.{ℕ, ◌+◌, ◌≤◌, ◌<◌}
-use mathlib.Core.Path.{◌≡◌, refl, ◌∙◌}
+use Prim.Native.Nat.{ℕ, ◌+◌, ◌-◌, ◌≤◌, ◌<◌}
+use mathlib.Core.Path.{◌≡◌, refl, ap, ◌∙◌}
 use mathlib.Core.Logic.{by_cases}
 use mathlib.Core.Bool.{Bool, true, false, not, cond, ◌||◌, true≢false, false≢true}
-use mathlib.Core.List.{List}
+use mathlib.Core.List.{List, ◌++◌}
 use native.Mathlib.Omega.{arith}
 use native.Mathlib.Decide.{dec_lt}
 use lib.Dec.{T, eqb}
-use lib.ListN.{length, set, length-set, get_or-eq_default}
-use lib.Seq.{get_or-set_same, get_or-set_other}
+use lib.ListN.{length, take, drop, get_or, set, replicate, length-append, length-drop, length-set, length-replicate, get_or-append, get_or-replicate, get_or-eq_default}
+use lib.Seq.{length-take-le, get_or-take, get_or-drop, get_or-set_same, get_or-set_other}
+use Rattle.std.proofs.lemmas.List.{get_or-append_right}
 use borrow.Author.Tests.{eq-eqb, ne_eqb, eqb-true, eqb-false, lt-leb, le-leb}
 use Rattle.text.specs.Separators.{Fitted, printable}
 use Rattle.text.specs.declared.separators.Separators.{Separators}
 use Rattle.text.proofs.Bools.{or_left, or_right}
 use Rattle.reading.specs.internal.SpecialBytes.{special, is_special_in, SpecialTable, Fills}
 
--- a fill that has passed the bytes from `from` up to i
-pub record Filled (old : List Bool) (from : ℕ) (entry : Bool) (table : List Bool) (i : ℕ) : Type 0 where
-  pub size : length table ≡ 256
-  pub low : from ≤ i
-  pub inside : (b : ℕ) → from ≤ b → b < i → is_special_in table b ≡ entry
-  pub under : (b : ℕ) → b < from → is_special_in table b ≡ is_special_in old b
-  pub above : (b : ℕ) → i ≤ b → is_special_in table b ≡ is_special_in old b
+-- where a part of the table has got the entry
+module _ (old : List Bool) (from last : ℕ) (entry : Bool) (size : length old ≡ 256) (forward : from ≤ last) (inside : last < 256) where
+  abbrev wide : ℕ
+  wide = last + 1 - from
 
--- none is passed yet
-pub filled_none : (old : List Bool) (from : ℕ) (entry : Bool) → length old ≡ 256 → Filled old from entry old from
-filled_none old from entry h = record {
-  size = h;
-  low = omega arith;
-  inside = λ b l u. absurd (omega arith);
-  under = λ b l. refl;
-  above = λ b l. refl;
-}
+  abbrev behind : List Bool
+  behind = drop (last + 1) old
 
-module _ {old : List Bool} {from : ℕ} {entry : Bool} {table : List Bool} {i : ℕ} (f : Filled old from entry table i) where
-  -- one byte more
-  pub filled_more : i < 256 → Filled old from entry (set table i entry) (i + 1)
-  filled_more h = record {
-    size = simp length-set f.size;
-    low = omega (arith, f.low);
-    inside = λ b l u.
-        by_cases (dec_lt b i)
-        (λ w. get_or-set_other table i b entry true (λ z. omega arith) ∙ f.inside b l w)
-        (λ w. let z : b ≡ i = omega arith in rw z (get_or-set_same table i entry true (omega (arith, f.size))));
-    under = λ b l. get_or-set_other table i b entry true (λ z. omega (arith, f.low)) ∙ f.under b l;
-    above = λ b l. get_or-set_other table i b entry true (λ z. omega arith) ∙ f.above b (omega arith);
-  }
+  abbrev filled : List Bool
+  filled = take from old ++ (replicate wide entry ++ behind)
 
-  -- all are passed
-  pub filled_all : (last : ℕ) → i ≡ last + 1 → Fills old from last entry table
-  filled_all last e = record {
-    size = f.size;
+  before : length (take from old) ≡ from
+  before = length-take-le from old (omega arith)
+
+  under : (b : ℕ) → b < from → is_special_in filled b ≡ is_special_in old b
+  under b l = get_or-append (take from old) (replicate wide entry ++ behind) true b (omega (arith, before)) ∙ get_or-take from old b true l
+
+  past : (b : ℕ) → from ≤ b → is_special_in filled b ≡ get_or (replicate wide entry ++ behind) (b - from) true
+  past b l = get_or-append_right (take from old) (replicate wide entry ++ behind) from b true before l
+
+  within : (b : ℕ) → from ≤ b → b ≤ last → is_special_in filled b ≡ entry
+  within b l u =
+      let short : b - from < wide = omega arith in
+      past b l ∙ get_or-append (replicate wide entry) behind true (b - from) (omega (arith, length-replicate wide entry))
+      ∙ get_or-replicate wide (b - from) entry true short
+
+  above : (b : ℕ) → last < b → is_special_in filled b ≡ is_special_in old b
+  above b l =
+      let place : last + 1 + (b - from - wide) ≡ b = omega arith in
+      past b (omega arith) ∙ get_or-append_right (replicate wide entry) behind wide (b - from) true (length-replicate wide entry) (omega arith)
+      ∙ get_or-drop (last + 1) old (b - from - wide) true ∙ ap (λ (n : ℕ). get_or old n true) place
+
+  pub fills_part : Fills old from last entry filled
+  fills_part = record {
+    size = simp (length-append, length-replicate, length-drop) (omega (arith, before));
     tells = λ b.
         by_cases (dec_lt b from)
-        (λ w. rw (lt-leb from b w) (f.under b w))
+        (λ w. rw (lt-leb from b w) (under b w))
         (λ w. rw (le-leb from b (omega arith))
-        (by_cases (dec_lt b i)
-        (λ u. rw (le-leb b last (omega arith)) (f.inside b (omega arith) u))
-        (λ u. rw (lt-leb b last (omega arith)) (f.above b (omega arith)))));
+        (by_cases (dec_lt last b)
+        (λ u. rw (lt-leb b last u) (above b u))
+        (λ u. rw (le-leb b last (omega arith)) (within b (omega arith) (omega arith)))));
   }
 
 -- by the first fill all are special

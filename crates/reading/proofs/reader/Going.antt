@@ -6,6 +6,7 @@ use mathlib.Core.Logic.{inl, inr}
 use mathlib.Core.Bool.{Bool, false}
 use mathlib.Core.List.{List, [], ◌∷◌}
 use native.Mathlib.Omega.{arith}
+use Rattle.std.specs.Prelude.{Result, Ok, Err}
 use native.Mathlib.Nat.{add-sub_cancel_left}
 use lib.ListN.{length, take, drop, get_or, length-append, length-drop}
 use lib.Seq.{take-append_seam}
@@ -21,25 +22,23 @@ use Rattle.levels.specs.Widths.{segment_width, level_width}
 use Rattle.gate.specs.Records.{Tables}
 use Rattle.gate.specs.Reads.{limit, Read}
 use Rattle.reading.specs.internal.Cutting.{cut_out, Cuts, BadSegment, GoodSegment}
-use Rattle.reading.specs.internal.Judgements.{Inside, JudgesNext}
-use Rattle.reading.specs.internal.Settling.{refused_by, InRoom, Stands, Settles, SettlesBy}
+use Rattle.reading.specs.internal.Judgements.{Judged, Inside, JudgesNext}
+use Rattle.reading.specs.internal.Settling.{Step, refused_by, uncut_refused, UncutWithin, InRoom, Stands, Settles, SettlesBy}
 use Rattle.reading.specs.internal.SpecialBytes.{SpecialTable}
 use Rattle.reading.specs.internal.Queue.{Ready}
 use Rattle.reading.specs.internal.Between.{start_at, Starts}
 use Rattle.reading.specs.internal.Loop.{Going}
-use Rattle.gate.specs.declared.answer.Answer.{Answer}
-use Rattle.gate.specs.declared.answer.Answer.TheVariants.{Refused}
+use Rattle.gate.specs.Answers.{Answer, refused}
 use Rattle.gate.specs.declared.how.How.{How}
 use Rattle.elements.proofs.FirstBroken.{keeps_holds}
-use Rattle.reading.specs.declared.judging.Judgement.{Judgement}
 use Rattle.elements.specs.declared.layout.Layout.{Layout}
 use Rattle.reading.specs.declared.judging.State.{State}
-use Rattle.reading.specs.declared.settling.Step.{Step}
-use Rattle.reading.specs.declared.settling.Step.TheVariants.{Done, Passed}
+use Rattle.std.specs.declared.ops.ControlFlow.TheVariants.{Continue, Break}
 use Rattle.reading.specs.declared.cutting.Onward.{Onward}
 use Rattle.reading.specs.declared.cutting.Left.{Left}
-use Rattle.reading.specs.declared.cutting.Next.{Next}
-use Rattle.reading.specs.declared.cutting.Next.TheVariants.{Open, Bad, Broken, Segment}
+use Rattle.reading.specs.declared.cutting.Cut.{Cut}
+use Rattle.reading.specs.declared.cutting.Uncut.{Uncut}
+use Rattle.reading.specs.declared.cutting.Uncut.TheVariants.{Open, Bad, Broken}
 use Rattle.reading.proofs.reader.RuleOrder.{bad_bytes}
 use Rattle.reading.proofs.cut.Facts.{ready_none, bytes_plain, plain_of, end_inside}
 use Rattle.finding.specs.internal.Lists.{lists}
@@ -90,18 +89,18 @@ module _ {how : How} {s : Bytes} {before : Tables} {segments levels lasts : List
   levels_same = levels_long stands.standing
 
   -- 3
-  pub open_refuses : (next : Next) (queue starts : List ℕ) (specials : List Bool) → Cuts how.separators specials s at queue starts next → next ≡ Open
-      → Read (profile_of how) how s before (Refused 3 (state.count + 1) at 0) (record { segments = segments; levels = cleared state.levels levels })
+  pub open_refuses : (next : Result Cut Uncut) (queue starts : List ℕ) (specials : List Bool) → Cuts how.separators specials s at queue starts next → next ≡ Err Open
+      → Read (profile_of how) how s before (refused 3 (state.count + 1) at 0) (record { segments = segments; levels = cleared state.levels levels })
   open_refuses next queue starts specials cuts is =
-      let c = subst (λ (n : Next). Cuts how.separators specials s at queue starts n) is cuts in
+      let c = subst (λ (n : Result Cut Uncut). Cuts how.separators specials s at queue starts n) is cuts in
       standing_refuses stands.standing 3 0 (inl (record { upto = c.upto; more = c.more; stops = c.stops }))
 
   -- 10, of a BIN
-  pub broken_refuses : (next : Next) (queue starts : List ℕ) (specials : List Bool) → Cuts how.separators specials s at queue starts next
-      → (element : ℕ) → next ≡ Broken element
-      → Read (profile_of how) how s before (Refused 10 (state.count + 1) at element) (record { segments = segments; levels = cleared state.levels levels })
+  pub broken_refuses : (next : Result Cut Uncut) (queue starts : List ℕ) (specials : List Bool) → Cuts how.separators specials s at queue starts next
+      → (element : ℕ) → next ≡ Err (Broken element)
+      → Read (profile_of how) how s before (refused 10 (state.count + 1) at element) (record { segments = segments; levels = cleared state.levels levels })
   broken_refuses next queue starts specials cuts element is =
-      let c = subst (λ (n : Next). Cuts how.separators specials s at queue starts n) is cuts in
+      let c = subst (λ (n : Result Cut Uncut). Cuts how.separators specials s at queue starts n) is cuts in
       standing_refuses stands.standing 10 element (inl (record { upto = c.upto; more = c.more; stops = c.stops }))
 
   -- 5
@@ -110,17 +109,17 @@ module _ {how : How} {s : Bytes} {before : Tables} {segments levels lasts : List
       let e : end - at ≡ length b.segment = ap (λ (x : ℕ). x - at) b.spoilt.place ∙ add-sub_cancel_left at (length b.segment) in
       rw e (ap (take (length b.segment)) b.spoilt.whole ∙ take-append_seam b.segment (how.separators.terminator ∷ b.more))
 
-  pub bad_within : (next : Next) (queue starts : List ℕ) (specials : List Bool) → Cuts how.separators specials s at queue starts next → (end : ℕ) → next ≡ Bad end
+  bad_within : (next : Result Cut Uncut) (queue starts : List ℕ) (specials : List Bool) → Cuts how.separators specials s at queue starts next → (end : ℕ) → next ≡ Err (Bad end)
       → (at ≤ end) × (end ≤ length s)
   bad_within next queue starts specials cuts end is =
-      let b = subst (λ (n : Next). Cuts how.separators specials s at queue starts n) is cuts in
+      let b = subst (λ (n : Result Cut Uncut). Cuts how.separators specials s at queue starts n) is cuts in
       (omega (arith, b.spoilt.place), omega (arith, b.spoilt.place, length-drop at s, ap length b.spoilt.whole ∙ length-append b.segment (how.separators.terminator ∷ b.more)))
 
-  pub bad_refuses : (next : Next) (queue starts : List ℕ) (specials : List Bool) → Cuts how.separators specials s at queue starts next → (end : ℕ) → next ≡ Bad end
+  pub bad_refuses : (next : Result Cut Uncut) (queue starts : List ℕ) (specials : List Bool) → Cuts how.separators specials s at queue starts next → (end : ℕ) → next ≡ Err (Bad end)
       → Fitted how.separators → (r : Answer) → r ≡ refused_by (first_broken (data_checks (plain_view how.separators (cut_out s at end)))) state.count at
       → Read (profile_of how) how s before r (record { segments = segments; levels = cleared state.levels levels })
   bad_refuses next queue starts specials cuts end is fit r says =
-      let b = subst (λ (n : Next). Cuts how.separators specials s at queue starts n) is cuts in
+      let b = subst (λ (n : Result Cut Uncut). Cuts how.separators specials s at queue starts n) is cuts in
       let v = view_of how.separators b.segment in
       rw (says, bad_place b, ← bytes_plain how.separators fit b.segment (plain_of how.separators fit (drop at s) b.segment b.more b.cut b.plain))
       (verdict_cases (first_broken (byte_checks v))
@@ -134,11 +133,25 @@ module _ {how : How} {s : Bytes} {before : Tables} {segments levels lasts : List
         first = bad_bytes (profile_of how) stands.rows (onto [] (seen how stands.gs)) v n k e;
       }))))))
 
+  -- any of these
+  pub uncut_within : (next : Result Cut Uncut) (queue starts : List ℕ) (specials : List Bool) → Cuts how.separators specials s at queue starts next
+      → (uncut : Uncut) → next ≡ Err uncut → UncutWithin s at uncut
+  uncut_within next queue starts specials cuts Open is = tt
+  uncut_within next queue starts specials cuts (Bad end) is = bad_within next queue starts specials cuts end is
+  uncut_within next queue starts specials cuts (Broken element) is = tt
+
+  pub uncut_refuses : (next : Result Cut Uncut) (queue starts : List ℕ) (specials : List Bool) → Cuts how.separators specials s at queue starts next
+      → (uncut : Uncut) → next ≡ Err uncut → Fitted how.separators → (r : Answer) → r ≡ uncut_refused how s at state.count uncut
+      → Read (profile_of how) how s before r (record { segments = segments; levels = cleared state.levels levels })
+  uncut_refuses next queue starts specials cuts Open is fit r says = rw says (open_refuses next queue starts specials cuts is)
+  uncut_refuses next queue starts specials cuts (Bad end) is fit r says = bad_refuses next queue starts specials cuts end is fit r says
+  uncut_refuses next queue starts specials cuts (Broken element) is fit r says = rw says (broken_refuses next queue starts specials cuts element is)
+
 -- a segment that was cut and has data bytes
 module _ {q : Separators} {s : Bytes} {specials : List Bool} {queue starts : List ℕ} {at : ℕ} where
-  pub cut_good : (next : Next) → Cuts q specials s at queue starts next
-      → {layout : Layout} {left : Left} → next ≡ Segment layout left → GoodSegment q specials s at queue starts layout left
-  cut_good next cuts is = subst (λ (n : Next). Cuts q specials s at queue starts n) is cuts
+  pub cut_good : (next : Result Cut Uncut) → Cuts q specials s at queue starts next
+      → {cut : Cut} → next ≡ Ok cut → GoodSegment q specials s at queue starts cut.layout cut.left
+  cut_good next cuts is = subst (λ (n : Result Cut Uncut). Cuts q specials s at queue starts n) is cuts
 
   module _ {layout : Layout} {left : Left} (good : GoodSegment q specials s at queue starts layout left) where
     pub good_forward : at ≤ layout.end
@@ -162,7 +175,7 @@ module _ {how : How} {s : Bytes} {specials : List Bool} {queue starts : List ℕ
     }
 
     -- `settle` on what `judge` said
-    module _ (fit : Fitted how.separators) (j : Judgement) (short : length s ≤ limit) (judged : JudgesNext how s starts layout state segments levels lasts j)
+    module _ (fit : Fitted how.separators) (j : Judged) (short : length s ≤ limit) (judged : JudgesNext how s starts layout state segments levels lasts j)
         (segments' levels' lasts' : List ℕ) (r : Step) (settles : SettlesBy j layout state segments levels lasts segments' levels' lasts' r) where
       settled : Settles how before s layout state.levels segments' levels' lasts' r
       settled =
@@ -178,9 +191,9 @@ module _ {how : How} {s : Bytes} {specials : List Bool} {queue starts : List ℕ
           })
 
       -- the answer
-      pub settled_done : (a : Answer) → r ≡ Done a → Read (profile_of how) how s before a (record { segments = segments'; levels = cleared state.levels levels' })
+      pub settled_done : (a : Answer) → r ≡ Break a → Read (profile_of how) how s before a (record { segments = segments'; levels = cleared state.levels levels' })
       settled_done a e = subst (λ (x : Step). Settles how before s layout state.levels segments' levels' lasts' x) e settled
 
       -- the next place
-      pub settled_passed : (after : State) → r ≡ Passed after → Stands how before s segments' levels' lasts' (start_at how s (layout.end + 1)) after
+      pub settled_passed : (after : State) → r ≡ Continue after → Stands how before s segments' levels' lasts' (start_at how s (layout.end + 1)) after
       settled_passed after e = subst (λ (x : Step). Settles how before s layout state.levels segments' levels' lasts' x) e settled

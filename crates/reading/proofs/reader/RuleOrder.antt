@@ -2,20 +2,18 @@
 -- segment is sound.
 -- Assumes nothing.
 use Prim.Native.Nat.{ℕ, ◌≤◌, ◌<◌}
-use mathlib.Core.Path.{◌≡◌, refl, ap}
+use mathlib.Core.Path.{◌≡◌, refl, sym}
 use mathlib.Core.Logic.{inl, inr}
 use mathlib.Core.Bool.{Bool, true, false, not, cond}
 use mathlib.Core.List.{List, [], ◌∷◌, ◌++◌, append_assoc, append-nil}
-use native.Mathlib.Omega.{arith}
 use lib.Dec.{T, lt→ltb}
 use borrow.Author.Tests.{le-ltb}
 use Rattle.text.specs.View.{View}
 use Rattle.text.proofs.Bools.{passes}
 use Rattle.rows.specs.Following.{Fits}
-use Rattle.elements.specs.Checks.{Check, Keeps, decide, first_broken}
+use Rattle.elements.specs.Checks.{Check, Keeps, decide, Holds, broken, first_broken}
 use Rattle.elements.specs.Rules.{byte_checks, end_checks, ruled_checks}
-use Rattle.elements.specs.declared.verdict.Verdict.{Verdict}
-use Rattle.elements.specs.declared.verdict.Verdict.TheVariants.{Holds, Broken}
+use Rattle.elements.proofs.FirstBroken.{broken_same}
 use Rattle.levels.specs.Levels.{claim_of}
 use Rattle.levels.specs.Rules.{level_checks}
 use Rattle.gate.specs.Profile.{Profile}
@@ -24,21 +22,17 @@ use Rattle.gate.specs.Rules.{tag_checks, hl_checks, closing_checks, se_checks, R
 use Rattle.gate.proofs.reading.Laws.{as_rules_append}
 
 -- the first of some tests that fails is the first of the rules that is broken, whatever rules follow
-pub first_here : (cs : List Check) (rest : List Rule) (n e : ℕ) → first_broken cs ≡ Broken n e → FirstBroken (as_rules cs ++ rest) n e
+pub first_here : (cs : List Check) (rest : List Rule) (n e : ℕ) → first_broken cs ≡ broken n e → FirstBroken (as_rules cs ++ rest) n e
 first_here [] rest n e q = absurd (holds_not_broken q)
   where
-    holds_not_broken : {n e : ℕ} → Holds ≡ Broken n e → ⊥
-    holds_not_broken q = let z : ◌≡◌ {A = ℕ} 0 1 = ap number q in omega (arith, z)
-      where
-        number : Verdict → ℕ
-        number Holds = 0
-        number (Broken a b) = 1
+    holds_not_broken : {n e : ℕ} → Holds ≡ broken n e → ⊥
+    holds_not_broken q = cc
 first_here (c ∷ cs) rest n e q = by c.holds q (first_here cs rest n e)
   where
-    by : (b : Bool) → decide c b (first_broken cs) ≡ Broken n e → (first_broken cs ≡ Broken n e → FirstBroken (as_rules cs ++ rest) n e)
+    by : (b : Bool) → decide c b (first_broken cs) ≡ broken n e → (first_broken cs ≡ broken n e → FirstBroken (as_rules cs ++ rest) n e)
         → FirstBroken (record { number = c.number; element = c.element; Holds = T b } ∷ (as_rules cs ++ rest)) n e
     by true q f = inr (tt, f q)
-    by false q f = inl ((λ x. x), cc, cc)
+    by false q f = let same = broken_same c.number c.element n e q in inl ((λ x. x), sym same.0, sym same.1)
 
 -- rules that hold before it do not change it
 pub first_after : (cs : List Check) (rest : List Rule) (n e : ℕ) → Keeps cs → FirstBroken rest n e → FirstBroken (as_rules cs ++ rest) n e
@@ -70,7 +64,7 @@ module _ (profile : Profile) (w : List ℕ) (h : List View) (v : View) where
       (simp append_assoc)
 
   -- 5
-  pub bad_bytes : (n e : ℕ) → first_broken (byte_checks v) ≡ Broken n e → FirstBroken (rules profile w h v) n e
+  pub bad_bytes : (n e : ℕ) → first_broken (byte_checks v) ≡ broken n e → FirstBroken (rules profile w h v) n e
   bad_bytes n e q = rw grouped (first_here (byte_checks v) _ n e q)
 
   module _ (bytes : Keeps (byte_checks v)) where
@@ -85,7 +79,7 @@ module _ (profile : Profile) (w : List ℕ) (h : List View) (v : View) where
       tags = (lt→ltb (tag_in_of v) 34 known, tt)
 
       -- 6
-      pub bad_end : (n e : ℕ) → first_broken (end_checks v) ≡ Broken n e → FirstBroken (rules profile w h v) n e
+      pub bad_end : (n e : ℕ) → first_broken (end_checks v) ≡ broken n e → FirstBroken (rules profile w h v) n e
       bad_end n e q = rw grouped (first_after (byte_checks v) _ n e bytes (first_after (tag_checks v) _ n e tags (first_here (end_checks v) _ n e q)))
 
       module _ (ends : Keeps (end_checks v)) where
@@ -106,16 +100,16 @@ module _ (profile : Profile) (w : List ℕ) (h : List View) (v : View) where
           after_row n e f = rw grouped (before_row (row_rules profile w v ++ ruled_on) n e (inr ((r, fits), inr ((r, fits, inside), f))))
 
           -- 9, 8, 10, 11
-          pub bad_element : (n e : ℕ) → first_broken ruled ≡ Broken n e → FirstBroken (rules profile w h v) n e
+          pub bad_element : (n e : ℕ) → first_broken ruled ≡ broken n e → FirstBroken (rules profile w h v) n e
           bad_element n e q = after_row n e (first_here ruled level_on n e q)
 
           module _ (elements : Keeps ruled) where
             -- 12, 13, 14, 15 of an HL
-            pub bad_level : T (is_hl v) → (n e : ℕ) → first_broken (level_checks profile.levels (levels_in profile h) (claim_of v)) ≡ Broken n e
+            pub bad_level : T (is_hl v) → (n e : ℕ) → first_broken (level_checks profile.levels (levels_in profile h) (claim_of v)) ≡ broken n e
                 → FirstBroken (rules profile w h v) n e
             unfolding hl_checks
             bad_level hl n e q =
-                let q' : first_broken (hl_checks profile h v) ≡ Broken n e = rw (passes (is_hl v) hl) q in
+                let q' : first_broken (hl_checks profile h v) ≡ broken n e = rw (passes (is_hl v) hl) q in
                 after_row n e (first_after ruled level_on n e elements (first_here (hl_checks profile h v) closing n e q'))
 
             -- no HL has no level rules, and no SE no closing rules
@@ -144,11 +138,11 @@ module _ (profile : Profile) (w : List ℕ) (h : List View) (v : View) where
             its_closing x k = rw (passes (is_se v) x) k
 
             -- 16 and 15 of an SE
-            pub bad_closing : T (not (is_hl v)) → T (is_se v) → (n e : ℕ) → first_broken (closing_checks profile h v) ≡ Broken n e
+            pub bad_closing : T (not (is_hl v)) → T (is_se v) → (n e : ℕ) → first_broken (closing_checks profile h v) ≡ broken n e
                 → FirstBroken (rules profile w h v) n e
             unfolding se_checks
             bad_closing hl se n e q =
-                let q' : first_broken (se_checks profile h v) ≡ Broken n e = rw (passes (is_se v) se) q in
+                let q' : first_broken (se_checks profile h v) ≡ broken n e = rw (passes (is_se v) se) q in
                 let f : FirstBroken level_on n e =
                 first_after (hl_checks profile h v) closing n e (no_level hl) (rw append-nil at (first_here (se_checks profile h v) [] n e q')) in
                 after_row n e (first_after ruled level_on n e elements f)

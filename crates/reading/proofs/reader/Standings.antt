@@ -30,7 +30,7 @@ use Rattle.gate.specs.Records.{Tables, segment_record, segment_records, level_re
 use Rattle.gate.specs.Reads.{limit, cut_by, skip_by, Passed, Read}
 use Rattle.reading.specs.internal.Standing.{Standing}
 use Rattle.reading.specs.internal.Between.{skipped_at, start_at}
-use Rattle.gate.specs.declared.answer.Answer.TheVariants.{Accepted, Refused}
+use Rattle.gate.specs.Answers.{accepted, refused}
 use Rattle.gate.specs.declared.how.How.{How}
 use Rattle.gate.proofs.reading.Laws.{onto_append, onto_length}
 use Rattle.gate.proofs.reading.Once.{Fails}
@@ -47,7 +47,7 @@ use Rattle.reading.specs.internal.Settling.{state_after}
 use Rattle.reading.specs.internal.Judgements.{new_level}
 use Rattle.finding.specs.internal.Entries.{count_in}
 use Rattle.finding.specs.internal.Lists.{lists, place_of}
-use Rattle.finding.specs.internal.Notes.{note_of, asks_of, code_in, child_met, plain, cleared}
+use Rattle.finding.specs.internal.Notes.{note_with, asks_of, code_in, child_met, plain, cleared}
 use Rattle.finding.proofs.PlainTable.{plain_long, plain_stored, met_long, plain_met}
 use Rattle.finding.proofs.StoredLevels.{holds_none, holds_segment, holds_level, noted_code}
 
@@ -140,7 +140,7 @@ module _ {how : How} {before : Tables} {s : Bytes} {segments levels lasts : List
 
   -- a refusal at the next segment
   pub standing_refuses : (n e : ℕ) → Fails profile how before gs rows at (drop at s) n e
-      → Read profile how s before (Refused n (state.count + 1) at e) (record { segments = segments; levels = cleared state.levels levels })
+      → Read profile how s before (refused n (state.count + 1) at e) (record { segments = segments; levels = cleared state.levels levels })
   standing_refuses n e f = record {
     kept = gs;
     numbers = rows;
@@ -281,7 +281,7 @@ module _ {how : How} {before : Tables} {s : Bytes} {segments levels lasts : List
           → plain (suc state.levels) (levels_with levels lasts state.levels (state.count + 1) level) ≡ over before.levels (records_of (new ∷ levels_in profile before_views))
       levels_more room =
           let n = state.levels in
-          let note = note_of level.code level.asks (get_or lasts (level.place % lists) 0) in
+          let note = note_with level.code level.asks (get_or lasts (level.place % lists) 0) in
           let fits : n < length (child_met levels level.parent) / level_width = rw (met_long levels level.parent) room in
           let own : code_in note ≡ level.code = noted_code level.code level.asks (get_or lasts (level.place % lists) 0) (rw code_is coded) in
           plain_stored n (child_met levels level.parent) (state.count + 1) level.parent level.depth note fits
@@ -324,7 +324,7 @@ module _ {how : How} {before : Tables} {s : Bytes} {segments levels lasts : List
 
     -- the SE closes the transaction
     pub standing_closes : (r : ℕ) → Sound profile rows before_views v r → is_hl v ≡ false → T (is_se v) → state.count < length segments / segment_width
-        → Read profile how s before (Accepted (state.count + 1) state.levels (at + length g + 1))
+        → Read profile how s before (accepted (state.count + 1) state.levels (at + length g + 1))
         (record { segments = stored r 0; levels = cleared state.levels levels })
     standing_closes r sound hl se room =
         let same : levels_in profile (onto [] (seen how gs')) ≡ levels_in profile before_views =

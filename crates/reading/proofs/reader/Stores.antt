@@ -1,18 +1,18 @@
--- Numbers stored one after the other are one record stored.
+-- A part of a table that is stored anew: what stands before it and behind it stays.
 -- Assumes nothing.
-use Prim.Native.Nat.{ℕ, suc, ◌+◌, ◌*◌, ◌/◌, ◌≤◌, ◌<◌}
-use mathlib.Core.Path.{◌≡◌, ◌∙◌}
-use mathlib.Core.List.{List, append_assoc}
+use Prim.Native.Nat.{ℕ, ◌+◌, ◌-◌, ◌≤◌}
+use mathlib.Core.Path.{◌≡◌, ap, ◌∙◌}
+use mathlib.Core.List.{List, ◌++◌}
 use native.Mathlib.Omega.{arith}
-use native.Mathlib.Nat.{mul-le-mul_right, div-mul-le_self}
-use lib.ListN.{length, take, drop}
-use lib.Seq.{sets, sets-eq}
-use Rattle.finding.specs.internal.Entries.{stored_at}
+use lib.ListN.{take, drop}
+use lib.Seq.{drop-drop}
+use borrow.Rule.Slice.PartMut.{put_mid}
 
-pub sets_stored : (width : ℕ) (t : List ℕ) (n : ℕ) (numbers : List ℕ) → length numbers ≡ width → n < length t / width
-    → sets t (n * width) numbers ≡ stored_at width t n numbers
-sets_stored width t n numbers e room =
-    let one_more : suc n * width ≤ length t / width * width = mul-le-mul_right width room in
-    let fits : n * width + width ≤ length t = omega (arith, div-mul-le_self (length t) width) in
-    sets-eq numbers t (n * width) (rw e fits) ∙ append_assoc (take (n * width) t) numbers (drop (n * width + length numbers) t)
-    ∙ rw e
+pub part_stored : {A : Type 0} (at end : ℕ) (table part : List A) → at ≤ end → put_mid at (end - at) table part ≡ take at table ++ (part ++ drop end table)
+part_stored {A} at end table part forward =
+    let behind : at + (end - at) ≡ end = omega arith in
+    ap (λ (rest : List A). take at table ++ (part ++ rest)) (drop-drop (end - at) at table ∙ ap (λ (n : ℕ). drop n table) behind)
+
+-- the four numbers of a record
+pub four_stored : (at : ℕ) (table numbers : List ℕ) → put_mid at (at + 4 - at) table numbers ≡ take at table ++ (numbers ++ drop (at + 4) table)
+four_stored at table numbers = part_stored at (at + 4) table numbers (omega arith)

@@ -1,6 +1,6 @@
 -- What the cut of the next segment answers: the segment, rules 5 and 6 of it, and where its elements start.
 -- Assumes nothing.
-use Rattle.std.specs.Prelude.{ℕ, ◌+◌, ◌-◌, ◌≤◌, ◌<◌, ◌≡◌, Bool, true, false, not, ◌&&◌, List, ◌∷◌, ◌++◌, T, eqb, length, take, drop, get_or, set}
+use Rattle.std.specs.Prelude.{ℕ, ◌+◌, ◌-◌, ◌≤◌, ◌<◌, ◌≡◌, Bool, true, false, not, ◌&&◌, List, ◌∷◌, ◌++◌, T, eqb, length, take, drop, get_or, set, Result, Ok, Err}
 use Rattle.text.specs.Bytes.{Bytes}
 use Rattle.text.specs.Pieces.{pieces}
 use Rattle.text.specs.internal.Search.{Free, FirstAt}
@@ -14,8 +14,9 @@ use Rattle.elements.specs.Checks.{Check, Keeps}
 use Rattle.elements.specs.Rules.{data_checks, byte_checks, end_checks}
 use Rattle.reading.specs.internal.Queue.{Ready}
 use Rattle.reading.specs.declared.cutting.Left.{Left}
-use Rattle.reading.specs.declared.cutting.Next.{Next}
-use Rattle.reading.specs.declared.cutting.Next.TheVariants.{Open, Bad, Broken, Segment}
+use Rattle.reading.specs.declared.cutting.Cut.{Cut}
+use Rattle.reading.specs.declared.cutting.Uncut.{Uncut}
+use Rattle.reading.specs.declared.cutting.Uncut.TheVariants.{Open, Bad, Broken}
 
 -- a segment and its terminator stand from `layout.at` on, and this is their layout: `parts` are its tag and elements, `checks` the tests of its
 -- bytes, and `ends` those of rule 6
@@ -56,11 +57,11 @@ pub record PlainSegment (q : Separators) (table : List Bool) (s : Bytes) (at : �
   pub ready : Ready table s (layout.end + 1) queue left.head left.tail left.seen
 
 -- what `next_plain` answers
-abbrev pub CutsPlainly : Separators → List Bool → Bytes → ℕ → List ℕ → List ℕ → Next → Type 0
-CutsPlainly q table s at queue starts Open = Free q.terminator (drop at s)
-CutsPlainly q table s at queue starts (Bad end) = PlainBad q s at end
-CutsPlainly q table s at queue starts (Broken element) = ⊥
-CutsPlainly q table s at queue starts (Segment layout left) = PlainSegment q table s at queue starts layout left
+abbrev pub CutsPlainly : Separators → List Bool → Bytes → ℕ → List ℕ → List ℕ → Result Cut Uncut → Type 0
+CutsPlainly q table s at queue starts (Err Open) = Free q.terminator (drop at s)
+CutsPlainly q table s at queue starts (Err (Bad end)) = PlainBad q s at end
+CutsPlainly q table s at queue starts (Err (Broken element)) = ⊥
+CutsPlainly q table s at queue starts (Ok cut) = PlainSegment q table s at queue starts cut.layout cut.left
 
 -- What any cut gives
 -- from `at` on stands a segment with its terminator at `end`, and a byte of it is neither data nor separator
@@ -91,11 +92,11 @@ pub record StopsWith (q : Separators) (s : Bytes) (at number element : ℕ) : Ty
   pub stops : cut_of q (drop at s) ≡ Stop number element upto more
 
 -- what `next_segment` answers
-abbrev pub Cuts : Separators → List Bool → Bytes → ℕ → List ℕ → List ℕ → Next → Type 0
-Cuts q table s at queue starts Open = StopsWith q s at 3 0
-Cuts q table s at queue starts (Bad end) = BadSegment q s at end
-Cuts q table s at queue starts (Broken element) = StopsWith q s at 10 element
-Cuts q table s at queue starts (Segment layout left) = GoodSegment q table s at queue starts layout left
+abbrev pub Cuts : Separators → List Bool → Bytes → ℕ → List ℕ → List ℕ → Result Cut Uncut → Type 0
+Cuts q table s at queue starts (Err Open) = StopsWith q s at 3 0
+Cuts q table s at queue starts (Err (Bad end)) = BadSegment q s at end
+Cuts q table s at queue starts (Err (Broken element)) = StopsWith q s at 10 element
+Cuts q table s at queue starts (Ok cut) = GoodSegment q table s at queue starts cut.layout cut.left
 
 -- the layout of a whole BIN with its terminator at `end`; what is seen of the bytes ends behind it
 abbrev pub bin_layout : (at end : ℕ) → Layout
@@ -113,11 +114,11 @@ pub record BinSegment (q : Separators) (s : Bytes) (at : ℕ) (starts : List ℕ
   pub left_is : left ≡ seen_up_to (layout.end + 1)
 
 -- what `next_bin` answers
-abbrev pub CutsBin : Separators → Bytes → ℕ → List ℕ → Next → Type 0
-CutsBin q s at starts Open = StopsWith q s at 3 0
-CutsBin q s at starts (Bad end) = ⊥
-CutsBin q s at starts (Broken element) = StopsWith q s at 10 element
-CutsBin q s at starts (Segment layout left) = BinSegment q s at starts layout left
+abbrev pub CutsBin : Separators → Bytes → ℕ → List ℕ → Result Cut Uncut → Type 0
+CutsBin q s at starts (Err Open) = StopsWith q s at 3 0
+CutsBin q s at starts (Err (Bad end)) = ⊥
+CutsBin q s at starts (Err (Broken element)) = StopsWith q s at 10 element
+CutsBin q s at starts (Ok cut) = BinSegment q s at starts cut.layout cut.left
 
 -- what `next_counted` answers, where `number` bytes are due from `attached` on, and the terminator behind them: fewer are there; or another byte is;
 -- or they end a BIN whose elements start so
@@ -126,13 +127,13 @@ pub record CountedBin (at number attached : ℕ) (starts starts' : List ℕ) (la
   pub left_is : left ≡ seen_up_to (attached + number + 1)
   pub starts_are : starts' ≡ set (set (set starts 0 at) 1 (at + 4)) 2 attached
 
-abbrev pub CutsCounted : Bytes → ℕ → ℕ → ℕ → ℕ → List ℕ → List ℕ → Next → Type 0
-CutsCounted s terminator at number attached starts starts' Open = length s - attached ≤ number
-CutsCounted s terminator at number attached starts starts' (Bad end) = ⊥
-CutsCounted s terminator at number attached starts starts' (Broken element) =
+abbrev pub CutsCounted : Bytes → ℕ → ℕ → ℕ → ℕ → List ℕ → List ℕ → Result Cut Uncut → Type 0
+CutsCounted s terminator at number attached starts starts' (Err Open) = length s - attached ≤ number
+CutsCounted s terminator at number attached starts starts' (Err (Bad end)) = ⊥
+CutsCounted s terminator at number attached starts starts' (Err (Broken element)) =
     (element ≡ 2) × (attached + number < length s) × (get_or s (attached + number) 0 ≡ terminator → ⊥)
-CutsCounted s terminator at number attached starts starts' (Segment layout left) =
-    (attached + number < length s) × (get_or s (attached + number) 0 ≡ terminator) × CountedBin at number attached starts starts' layout left
+CutsCounted s terminator at number attached starts starts' (Ok cut) =
+    (attached + number < length s) × (get_or s (attached + number) 0 ≡ terminator) × CountedBin at number attached starts starts' cut.layout cut.left
 
 -- the bytes from `at` up to `end`
 abbrev pub cut_out : Bytes → ℕ → ℕ → Bytes
@@ -154,8 +155,7 @@ layout_of at end count start behind ended = record {
 }
 
 -- what `stop` answers: the first terminator from `from` on, or that there is none
-abbrev pub Stops : Bytes → ℕ → ℕ → Next → Type 0
+abbrev pub Stops : Bytes → ℕ → ℕ → Uncut → Type 0
 Stops s from terminator Open = Free terminator (drop from s)
 Stops s from terminator (Bad end) = FirstAt s from terminator end
 Stops s from terminator (Broken element) = ⊥
-Stops s from terminator (Segment layout left) = ⊥

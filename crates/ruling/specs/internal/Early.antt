@@ -4,10 +4,9 @@ use Rattle.std.specs.Prelude.{ℕ, Bool, not, ◌&&◌, List, ◌++◌, length}
 use Rattle.text.specs.View.{Piece}
 use Rattle.rows.specs.declared.profile.ProfileName.{ProfileName}
 use Rattle.elements.specs.Data.{Rules, element_profile}
-use Rattle.elements.specs.Checks.{Check, each, first_broken}
+use Rattle.elements.specs.Checks.{Check, Verdict, each, first_broken}
 use Rattle.elements.specs.Rules.{few_by, is_unused}
 use Rattle.elements.specs.internal.Verdicts.{rules_of, complete_at_of, suits_at_of}
-use Rattle.elements.specs.declared.verdict.Verdict.{Verdict}
 
 -- 9 of the elements from 1 to `count` that must be absent, where `there` tells which are present
 abbrev pub unused_verdict : (unused there : ℕ → Bool) → ℕ → Verdict

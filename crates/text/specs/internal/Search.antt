@@ -1,9 +1,7 @@
 -- What a search for a byte finds.
 -- Assumes nothing.
-use Rattle.std.specs.Prelude.{ℕ, ◌+◌, ◌≡◌, [], ◌∷◌, ◌++◌, length, drop}
+use Rattle.std.specs.Prelude.{ℕ, ◌+◌, ◌≡◌, [], ◌∷◌, ◌++◌, length, drop, Option, Some, None}
 use Rattle.text.specs.Bytes.{Bytes}
-use Rattle.text.specs.declared.search.Found.{Found}
-use Rattle.text.specs.declared.search.Found.TheVariants.{At, Nowhere}
 
 -- the byte does not stand in the bytes
 abbrev pub Free : ℕ → Bytes → Type 0
@@ -18,6 +16,6 @@ pub record FirstAt (s : Bytes) (from byte j : ℕ) : Type 0 where
   pub free : Free byte gap
   pub place : j ≡ from + length gap
 
-abbrev pub Finds : Bytes → ℕ → ℕ → Found → Type 0
-Finds s from byte (At j) = FirstAt s from byte j
-Finds s from byte Nowhere = Free byte (drop from s)
+abbrev pub Finds : Bytes → ℕ → ℕ → Option ℕ → Type 0
+Finds s from byte (Some j) = FirstAt s from byte j
+Finds s from byte None = Free byte (drop from s)

@@ -1,12 +1,11 @@
 -- The parts of a text of type R, as they are passed one behind the other.
 -- Assumes nothing.
-use Rattle.std.specs.Prelude.{◌+◌, ◌≤◌, ◌≡◌, Bool, true, false, cond, ◌&&◌, [], ◌∷◌, ◌++◌, eqb, pos, length}
+use Rattle.std.specs.Prelude.{◌+◌, ◌≤◌, ◌≡◌, Bool, true, cond, [], ◌∷◌, ◌++◌, eqb, length, ℤ, Option, Some, None, option_map}
 use Rattle.text.specs.Bytes.{Bytes, byte, value_of}
 use Rattle.text.specs.Separators.{is_digit}
 use Rattle.types.specs.Reals.{is_exponent}
 use Rattle.types.specs.Numbers.{signed, whole_in}
 use Rattle.types.specs.Types.{is_number}
-use Rattle.types.specs.declared.numbers.Exponent.{Exponent}
 use Rattle.types.specs.declared.numbers.Number.{Number}
 
 -- the digits that the text begins with
@@ -20,23 +19,19 @@ pub record Digits (whole fraction : Bytes) : Type 0 where
   pub behind : is_number fraction ≡ true
   pub few : length whole + length fraction ≤ 15
 
--- what stands behind the digits: nothing, or `E` and an exponent
-abbrev pub no_exponent : Bool → Exponent
-no_exponent fit = record { fit = fit; written = false; value = pos 0 }
+-- the exponent that a text writes; None where it writes none
+abbrev pub exponent_written : Bytes → Option ℤ
+exponent_written t = cond (is_exponent t) (Some (whole_in t)) None
 
-abbrev pub exponent_behind : Bytes → Exponent
-exponent_behind t = record { fit = true; written = true; value = whole_in t }
-
-abbrev pub exponent_of_in : Bytes → Exponent
-exponent_of_in [] = no_exponent true
-exponent_of_in (b ∷ t) = cond (eqb b (byte "E") && is_exponent t) (exponent_behind t) (no_exponent false)
+-- what stands behind the digits: no exponent, or `E` and one; None where it belongs to no number
+abbrev pub exponent_of_in : Bytes → Option (Option ℤ)
+exponent_of_in [] = Some None
+exponent_of_in (b ∷ t) = cond (eqb b (byte "E")) (option_map Some (exponent_written t)) None
 
 -- the number that digits before and behind the point write, with a sign and an exponent
-abbrev pub number_of : Bool → Bytes → Bytes → Exponent → Number
+abbrev pub number_of : Bool → Bytes → Bytes → Option ℤ → Number
 number_of negative whole fraction exponent = record {
-  fit = true;
   value = signed negative (value_of (whole ++ fraction));
   places = length fraction;
-  exponent = exponent.value;
-  written = exponent.written;
+  exponent = exponent;
 }

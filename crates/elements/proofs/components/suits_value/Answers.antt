@@ -1,12 +1,9 @@
--- `suits_value` meets its contract: one component, several, or one since no separator stands in it.
+-- `suits_value` meets its contract: several components, or one since no separator stands in it.
 -- Assumes nothing.
 use mathlib.Core.Path.{sym, ◌∙◌}
 use Rattle.elements.specs.Data.{value}
 use Rattle.elements.proofs.ComponentPass.{simple_free, simple_cut}
 use Rattle.elements.proofs.components.suits_value.Goals as goal
-
-pub returns-then-single : goal.returns-then-single
-returns-then-single c = rw c.if-single.true c.fits.ensures
 
 pub returns-then-holds : goal.returns-then-holds
 returns-then-holds c = rw c.if-single.false

@@ -32,7 +32,7 @@ near c = omega (arith, last c, c.reach-upto.ensures.near (within c))
 enough : (c : After-reach-upto) → last_must (rules_of c.args.tag).elements ≤ c.reach-upto.result
 enough c = omega (arith, needed c, c.reach-upto.ensures.enough (within c))
 
-far : (c : After-reach-upto) → c.reach-upto.result < length (rules_of c.args.tag).elements → c.args.layout.count ≤ c.reach-upto.result
+far : (c : After-reach-upto) → c.reach-upto.result < length (rules_of c.args.tag).elements → c.args.parts.layout.count ≤ c.reach-upto.result
 far c l = c.reach-upto.ensures.far (omega (arith, last c))
 
 pub elements_verdict-requires : goal.elements_verdict-requires
@@ -42,4 +42,4 @@ pub returns : goal.returns
 returns c =
     let there = (goal.at.returns c).After-reach-upto in
     c.elements_verdict.ensures
-    ∙ elements_reached c.args.tag c.args.layout.count _ (components_in c.args.s.now c.args.starts.now c.args.layout c.args.component) (at_past _ _ _ _) (far there) (enough there) (near there)
+    ∙ elements_reached c.args.tag c.args.parts.layout.count _ (components_in c.args.parts.bytes.now c.args.parts.starts.now c.args.parts.layout c.args.component) (at_past _ _ _ _) (far there) (enough there) (near there)

@@ -1,7 +1,7 @@
 -- `rule_of` meets its contract: LIN's rule, no rule, or the table's.
 -- Assumes nothing.
 use Rattle.rows.specs.Tags.{tag_number}
-use Rattle.elements.proofs.RuleTable.{outside_renders, place_small, place_some, table_renders}
+use Rattle.elements.proofs.RuleTable.{outside_renders, place_small, table_renders}
 use native.Mathlib.Omega.{arith}
 use Rattle.elements.proofs.rules.rule_of.Goals as goal
 
@@ -15,10 +15,7 @@ returns-then-k-extent c = outside_renders c.args.tag c.args.k _ _ c.extent_of-ex
 pub overflow_add-extent : goal.overflow_add-extent
 overflow_add-extent c = omega (arith, place_small c.args.tag c.args.k _ c.extent_of-extent.ensures c.if-k-extent.false)
 
-pub overflow_sub-extent : goal.overflow_sub-extent
-overflow_sub-extent c = place_some c.args.tag c.args.k _ c.extent_of-extent.ensures c.if-k-extent.false
-
 pub returns : goal.returns
 unfolding tag_number
 returns c = table_renders c.args.tag c.args.k _ c.extent_of-extent.ensures c.if-k-extent.false c.if-tag-eq-LIN.false _ _ c.entry_at.ensures
-    c.rule_by.ensures
+    c.from.ensures

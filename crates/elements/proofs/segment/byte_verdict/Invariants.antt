@@ -1,12 +1,7 @@
--- `byte_verdict` meets its contract: the bytes up to i are right, and k element separators stand among them.
+-- `byte_verdict` meets its contract: the bytes before b are right, and k element separators stand among them.
 -- Assumes nothing.
-use Prim.Native.Nat.{◌-◌}
-use lib.ListN.{length}
 use Rattle.elements.proofs.Bytewise.{Scanned}
 use Rattle.elements.proofs.segment.byte_verdict.Given as goal
 
-abbrev pub invariant-loop-i : goal.invariant-loop-i
-invariant-loop-i l = Scanned l.element l.component l.segment l.i l.k
-
-abbrev pub decreases-loop-i : goal.decreases-loop-i
-decreases-loop-i l = length l.segment - l.i
+abbrev pub invariant-loop-b : goal.invariant-loop-b
+invariant-loop-b l = Scanned l.element l.component l.segment l.b-index l.k

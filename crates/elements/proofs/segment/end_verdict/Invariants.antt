@@ -1,12 +1,7 @@
--- `end_verdict` meets its contract: the elements that end before i end well.
+-- `end_verdict` meets its contract: the elements that end before b end well.
 -- Assumes nothing.
-use Prim.Native.Nat.{◌-◌}
-use lib.ListN.{length}
 use Rattle.elements.proofs.Endings.{Ended}
 use Rattle.elements.proofs.segment.end_verdict.Given as goal
 
-abbrev pub invariant-loop-i : goal.invariant-loop-i
-invariant-loop-i l = Ended l.element l.component l.segment l.i l.k l.bare l.hollow
-
-abbrev pub decreases-loop-i : goal.decreases-loop-i
-decreases-loop-i l = length l.segment - l.i
+abbrev pub invariant-loop-b : goal.invariant-loop-b
+invariant-loop-b l = Ended l.element l.component l.segment l.b-index l.k l.bare l.hollow

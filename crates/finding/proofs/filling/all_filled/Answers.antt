@@ -1,24 +1,17 @@
--- `all_filled` meets its contract, from what its loop keeps.
+-- `all_filled` meets its contract: each level is asked, from the first one on.
 -- Assumes nothing.
-use mathlib.Core.Path.{ap, ◌∙◌}
+use Rattle.std.proofs.Common.{rules, tests}
+use Prim.Native.Nat.{◌+◌}
+use native.Mathlib.Omega.{arith}
+use mathlib.Core.Path.{refl, ap, ◌∙◌}
+use Rattle.std.proofs.lemmas.Iterator.{YieldsList-from_range}
+use Rattle.std.proofs.lemmas.Iterator.Search.{all_from_yields_List}
 use Rattle.finding.specs.internal.Answers.{none_owes}
-use Rattle.finding.proofs.NoteLaws.{owes_one, owes_none, owes_nobody}
+use Rattle.finding.proofs.NoteLaws.{owes_none, each_owes_none}
 use Rattle.finding.proofs.filling.all_filled.Goals as goal
 
-pub loop-left-init : goal.loop-left-init
-loop-left-init c = ap (none_owes c.args.levels.now) c.level_count-left.ensures
-
-pub returns-then-level_note-eq-OWES : goal.returns-then-level_note-eq-OWES
-returns-then-level_note-eq-OWES c =
-    let note = c.level_note in
-    owes_one c.args.levels.now c.loop-left.left note.result c.loop-left-test.true note.ensures c.if-level_note-eq-OWES.true
-    ∙ c.loop-left.invariant
-
-pub loop-left-preserved : goal.loop-left-preserved
-loop-left-preserved c =
-    let note = c.level_note in
-    owes_none c.args.levels.now c.loop-left.left note.result c.loop-left-test.true note.ensures c.if-level_note-eq-OWES.false
-    ∙ c.loop-left.invariant
-
 pub returns : goal.returns
-returns c = owes_nobody c.args.levels.now c.loop-left.left c.loop-left-test.false ∙ c.loop-left.invariant
+returns c =
+    let n = c.level_count-total.result in
+    all_from_yields_List (owes_none c.args.levels.now) _ _ _ c.all.ensures.ran (YieldsList-from_range 1 (n + 1) n refl (omega arith)) (λ x b q k. search (rules, tests))
+    ∙ each_owes_none c.args.levels.now n ∙ ap (none_owes c.args.levels.now) c.level_count-total.ensures

@@ -1,18 +1,13 @@
--- `find` meets its contract: the levels of the list behind `left` have other HL01s, and the first i bytes of level n's HL01 agree.
+-- `find` meets its contract: what is sought is sought from `left` on.
 -- Assumes nothing.
-use Prim.Native.Nat.{◌-◌}
-use lib.ListN.{length}
-use Rattle.finding.proofs.LevelSearch.{Seeks, Compares}
+use mathlib.Core.Path.{◌≡◌}
+use Rattle.finding.specs.internal.Answers.{sought, sought_from}
 use Rattle.finding.proofs.search.find.Given as goal
 
-abbrev pub invariant-loop-i : goal.invariant-loop-i
-invariant-loop-i l = Compares l.s l.separator l.segments l.levels l.lasts l.place l.id l.left l.n l.from l.i
+abbrev pub invariant-loop-left : goal.invariant-loop-left
+invariant-loop-left l =
+    sought l.known.bytes.now l.known.separator l.known.segments.now l.known.levels.now l.known.lasts.now l.place l.id
+    ≡ sought_from l.known.bytes.now l.known.separator l.known.segments.now l.known.levels.now l.id l.left l.left
 
-abbrev pub decreases-loop-i : goal.decreases-loop-i
-decreases-loop-i l = length l.id - l.i
-
-abbrev pub invariant-levels : goal.invariant-levels
-invariant-levels l = Seeks l.s l.separator l.segments l.levels l.lasts l.place l.id l.left
-
-abbrev pub decreases-levels : goal.decreases-levels
-decreases-levels l = l.left
+abbrev pub decreases-loop-left : goal.decreases-loop-left
+decreases-loop-left l = l.left

@@ -4,7 +4,7 @@ use mathlib.Core.Path.{sym, ◌∙◌}
 use mathlib.Core.Logic.{⊎_elim}
 use native.Mathlib.Omega.{arith}
 use Prim.Native.Nat.{◌≤◌, ◌<◌}
-use Rattle.numbering.proofs.Lookup.{start_st, start_other, row_outside, tag_outside, no_row, third_refused, goes_on}
+use Rattle.numbering.proofs.Lookup.{start_st, start_other, row_outside, tag_outside, no_row, no_row_there, third_refused, goes_on}
 use Rattle.numbering.proofs.next.row_after.Goals as goal
 use Rattle.numbering.proofs.next.row_after.Goals.{Else-tag-ge-NO_TAG}
 
@@ -21,25 +21,25 @@ tag_in c = c.if-tag-ge-NO_TAG.false
 pub returns-then-tag-eq-ST : goal.returns-then-tag-eq-ST
 returns-then-tag-eq-ST c = start_st c.if-row-eq0.true c.if-tag-eq-ST.true
 
-pub returns-then-row-eq0 : goal.returns-then-row-eq0
-returns-then-row-eq0 c = start_other c.if-row-eq0.true c.if-tag-eq-ST.false
+pub returns-else-tag-eq-ST : goal.returns-else-tag-eq-ST
+returns-else-tag-eq-ST c = start_other c.if-row-eq0.true c.if-tag-eq-ST.false
 
 pub returns-then-row-gt-LAST : goal.returns-then-row-gt-LAST
 returns-then-row-gt-LAST c =
     ⊎_elim (λ h. row_outside c.if-row-eq0.false h) (λ w. tag_outside w.1) c.then-row-gt-LAST.either
 
-pub returns-then-next-ge-NONE : goal.returns-then-next-ge-NONE
-returns-then-next-ge-NONE c =
-    let s = (goal.at.returns-then-next-ge-NONE c).Else-tag-ge-NO_TAG in
-    no_row (low s) (high s) (tag_in s) c.if-next-ge-NONE.true
+pub returns-then-next-eq0 : goal.returns-then-next-eq0
+returns-then-next-eq0 c =
+    let s = (goal.at.returns-then-next-eq0 c).Else-tag-ge-NO_TAG in
+    ⊎_elim (no_row (low s) (high s) (tag_in s)) (λ w. no_row_there (low s) (high s) (tag_in s) w.1) c.then-next-eq0.either
 
 pub returns-then-at_most_two : goal.returns-then-at_most_two
 returns-then-at_most_two c =
     let s = (goal.at.returns-then-at_most_two c).Else-tag-ge-NO_TAG in
-    third_refused (low s) (high s) (tag_in s) c.if-next-ge-NONE.false c.if-again.true (omega arith)
+    third_refused (low s) (high s) (tag_in s) c.if-next-eq0.false c.if-next-ge-NONE.false c.if-again.true (omega arith)
     (sym c.at_most_two.ensures ∙ c.if-at_most_two.true)
 
 pub returns : goal.returns
 returns c =
     let s = (goal.at.returns c).Else-tag-ge-NO_TAG in
-    goes_on (low s) (high s) (tag_in s) c.if-next-ge-NONE.false (λ a n m. grind arith)
+    goes_on (low s) (high s) (tag_in s) c.if-next-eq0.false c.if-next-ge-NONE.false (λ a n m. grind arith)

@@ -1,4 +1,4 @@
--- `walk_under` meets its contract: each call goes one deeper, and depth 4 is the last.
+-- `walk_under` meets its contract: each call goes one deeper, and depth 4 is the last. The levels before the one that comes are listed.
 -- Assumes nothing.
 use Prim.Native.Nat.{◌-◌}
 use Rattle.outline.proofs.WalkSteps.{Visited}
@@ -8,7 +8,4 @@ abbrev pub decreases-walk_under : goal.decreases-walk_under
 decreases-walk_under l = 4 - l.depth
 
 abbrev pub invariant-loop-level : goal.invariant-loop-level
-invariant-loop-level l = Visited l.levels l.forest.count l.of l.depth l.fn.output l.at l.output l.next l.level
-
-abbrev pub decreases-loop-level : goal.decreases-loop-level
-decreases-loop-level l = l.forest.count - l.level
+invariant-loop-level l = Visited l.levels l.forest.count l.of l.depth l.fn.output l.at l.output l.next (l.level - 1)

@@ -13,6 +13,3 @@ pub returns-then-s-at-gt66 : goal.returns-then-s-at-gt66
 returns-then-s-at-gt66 c =
     let a = c.args in
     stays_behind_b a.how a.s.now a.at a.left (omega arith) (omega arith)
-
-pub returns : goal.returns
-returns c = c.past_line_end.ensures

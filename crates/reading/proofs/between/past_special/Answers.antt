@@ -5,6 +5,3 @@ use Rattle.reading.proofs.between.past_special.Goals as goal
 
 pub returns-then-head-tail : goal.returns-then-head-tail
 returns-then-head-tail c = past_entry _ _ _ _ c.if-head-tail.true
-
-pub returns : goal.returns
-returns c = past_used_up _ _

@@ -1,14 +1,21 @@
--- `fill` meets its contract: each byte passed has got the entry, as `SpecialBytes` says.
+-- `fill` meets its contract: the bytes of the part have got the entry, and the others stay.
 -- Assumes nothing.
+use Prim.Native.Nat.{ℕ, ◌+◌, ◌-◌}
+use mathlib.Core.Path.{◌≡◌, ap, ◌∙◌}
 use native.Mathlib.Omega.{arith}
-use Rattle.reading.proofs.cut.SpecialBytes.{filled_none, filled_more, filled_all}
+use lib.ListN.{drop, replicate, length-drop}
+use lib.Seq.{length-take-le}
+use Rattle.reading.proofs.reader.Stores.{part_stored}
+use Rattle.reading.proofs.cut.SpecialBytes.{fills_part}
 use Rattle.reading.proofs.cutting.fill.Goals as goal
 
-pub loop-i-init : goal.loop-i-init
-loop-i-init c = (omega arith, filled_none _ _ _ c.requires.specials_len)
-
-pub loop-i-preserved : goal.loop-i-preserved
-loop-i-preserved c = (omega arith, filled_more c.loop-i.invariant.1 (omega arith))
-
 pub returns : goal.returns
-returns c = filled_all c.loop-i.invariant.1 _ (omega arith)
+returns c =
+    let a = c.args in
+    let r = c.requires in
+    let wide = a.last + 1 - a.from in
+    let part : c.fill.new.self ≡ replicate wide a.entry =
+    c.fill.ensures.after (λ y same. same)
+    ∙ ap (λ (n : ℕ). replicate n a.entry) (length-take-le wide (drop a.from a.specials.now) (omega (arith, length-drop a.from a.specials.now))) in
+    rw (part_stored a.from (a.last + 1) a.specials.now c.fill.new.self (omega arith), part)
+    (fills_part a.specials.now a.from a.last a.entry r.specials_len r.from_le_last r.last_bound)

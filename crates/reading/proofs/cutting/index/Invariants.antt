@@ -5,10 +5,7 @@ use Rattle.reading.proofs.cut.Index.{Counted}
 use Rattle.reading.proofs.cutting.index.Given as goal
 
 abbrev pub invariant-loop-j : goal.invariant-loop-j
-invariant-loop-j l = (l.j ≤ 8) × Counted l.specials l.s l.from (l.i + l.j) l.number l.queue
-
-abbrev pub decreases-loop-j : goal.decreases-loop-j
-decreases-loop-j l = 8 - l.j
+invariant-loop-j l = Counted l.specials l.s l.from (l.i + l.j) l.number l.queue
 
 abbrev pub invariant-loop-i : goal.invariant-loop-i
 invariant-loop-i l = (l.i ≤ l.to) × Counted l.specials l.s l.from l.i l.number l.queue
@@ -16,8 +13,5 @@ invariant-loop-i l = (l.i ≤ l.to) × Counted l.specials l.s l.from l.i l.numbe
 abbrev pub decreases-loop-i : goal.decreases-loop-i
 decreases-loop-i l = l.to - l.i
 
-abbrev pub invariant-loop-i-2 : goal.invariant-loop-i-2
-invariant-loop-i-2 l = (l.i ≤ l.to) × Counted l.specials l.s l.from l.i l.number l.queue
-
-abbrev pub decreases-loop-i-2 : goal.decreases-loop-i-2
-decreases-loop-i-2 l = l.to - l.i
+abbrev pub invariant-loop-place : goal.invariant-loop-place
+invariant-loop-place l = Counted l.specials l.s l.from l.place l.number l.queue

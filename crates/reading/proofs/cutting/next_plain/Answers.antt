@@ -30,6 +30,9 @@ pub returns-then-byte-separators-2 : goal.returns-then-byte-separators-2
 returns-then-byte-separators-2 c =
     rw c.layout_of-layout.ensures (at_end c.loop-head-2.invariant c.loop-head-2-test.true c.if-byte-separators-2.true)
 
+pub stop-requires : goal.stop-requires
+stop-requires c = omega (arith, inside c.loop-head-2.invariant c.loop-head-2-test.true)
+
 pub returns-then-byte-separators-3 : goal.returns-then-byte-separators-3
 returns-then-byte-separators-3 c =
     at_bad c.loop-head-2.invariant

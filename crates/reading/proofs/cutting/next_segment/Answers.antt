@@ -4,27 +4,10 @@ use mathlib.Core.Path.{sym, ◌∙◌}
 use Rattle.reading.proofs.cut.Facts.{plain_cuts, bin_cuts}
 use Rattle.reading.proofs.cutting.next_segment.Goals as goal
 
-pub next_bin-requires : goal.next_bin-requires
-next_bin-requires c =
-    record {
-      fitted = c.requires.fitted;
-      t = rw (sym c.requires.bin_value ∙ c.if-onward.true) tt;
-      starts_len = c.requires.starts_len;
-    }
-
 pub returns-then-onward : goal.returns-then-onward
 returns-then-onward c =
     let a = c.args in
     bin_cuts a.separators a.s.now a.onward.at _ a.specials.now a.queue.now c.requires.serves.size c.next_bin.result c.next_bin.ensures
-
-pub next_plain-requires : goal.next_plain-requires
-next_plain-requires c =
-    record {
-      special_table = c.requires.special_table;
-      fitted = c.requires.fitted;
-      ready = c.requires.serves;
-      starts_len = c.requires.starts_len;
-    }
 
 pub returns : goal.returns
 returns c =

@@ -5,10 +5,10 @@ use lib.ListN.{length}
 use Rattle.reading.specs.internal.Loop.{Going}
 use Rattle.reading.proofs.reading.read_on.Given as goal
 
-abbrev pub invariant-loop-end : goal.invariant-loop-end
-invariant-loop-end l =
+abbrev pub invariant-loop-cut : goal.invariant-loop-cut
+invariant-loop-cut l =
     Going l.how l.s l.specials (record { segments = l.initial.segments; levels = l.initial.levels }) l.segments l.levels l.lasts l.queue l.starts l.behind l.left l.state
 
-abbrev pub decreases-loop-end : goal.decreases-loop-end
-decreases-loop-end l =
+abbrev pub decreases-loop-cut : goal.decreases-loop-cut
+decreases-loop-cut l =
     length l.s - l.behind

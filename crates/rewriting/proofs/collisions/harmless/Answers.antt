@@ -1,14 +1,20 @@
--- The goals of `harmless`: the bytes from `from` up to `to`, each tested in turn.
+-- `harmless` meets its contract: the fold asks every byte.
 -- Assumes nothing.
-use Rattle.rewriting.proofs.HarmlessBytes.{tested_none, tested_more, tested_all}
+use mathlib.Core.Path.{◌∙◌}
+use mathlib.Core.Bool.{Bool, true, ◌&&◌}
+use Prim.Native.Nat.{ℕ}
+use Rattle.std.proofs.lemmas.Iterator.{YieldsList-from_slice}
+use Rattle.std.proofs.lemmas.Iterator.Consumers.{fold_from_yields_List}
+use borrow.Author.Rules.{rules}
+use Rattle.rewriting.specs.internal.QuickTest.{harmless_byte}
+use Rattle.rewriting.proofs.HarmlessBytes.{fold_every}
 use Rattle.rewriting.proofs.collisions.harmless.Goals as goal
 
-pub loop-i-init : goal.loop-i-init
-loop-i-init c = tested_none _ _ _ _ _ c.requires
-
-pub loop-i-preserved : goal.loop-i-preserved
-loop-i-preserved c =
-    rw (c.separates.ensures, c.separates-in-loop-i.ensures) (tested_more _ _ _ _ _ c.loop-i.invariant c.loop-i-test.true)
-
 pub returns : goal.returns
-returns c = tested_all _ _ _ _ _ c.loop-i.invariant c.loop-i-test.false
+returns c =
+    let f = harmless_byte c.args.change.old c.args.change.new in
+    let bytes = c.args.bytes.now in
+    fold_from_yields_List _ (λ (so_far : Bool) (b : ℕ). so_far && f b) true c.fold.result c.fold.ensures.ran
+    (YieldsList-from_slice bytes c.iter.ensures.rest)
+    (λ a x b q k. search rules)
+    ∙ fold_every f true bytes

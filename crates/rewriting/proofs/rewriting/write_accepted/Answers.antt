@@ -1,35 +1,25 @@
 -- `write_accepted` meets its contract.
 -- Assumes nothing.
 use mathlib.Core.Path.{sym, ◌∙◌}
+use native.Mathlib.Omega.{arith}
 use Rattle.rewriting.proofs.Outcomes.{collided, too_short, put}
 use Rattle.rewriting.proofs.rewriting.write_accepted.Goals as goal
 
-pub returns-then-output-bytes : goal.returns-then-output-bytes
-returns-then-output-bytes c =
-    let a = c.args in
+pub returns-in-Some : goal.returns-in-Some
+returns-in-Some c =
+    let r = c.args.reading in
+    collided r.change.old r.change.new r.bytes.now r.segments.now r.accepted c.args.output.now c.in-Some.clash
+    (sym c.in-Some.is ∙ c.find_clash.ensures)
+
+pub returns-then-output-reading : goal.returns-then-output-reading
+returns-then-output-reading c =
+    let r = c.args.reading in
     rw c.refused.ensures
-    (too_short a.change.old a.change.new a.s.now a.segments.now a.count a.levels a.bytes a.output.now
-    (sym c.in-Nowhere.is ∙ c.find_clash.ensures) c.if-output-bytes.true)
+    (too_short r.change.old r.change.new r.bytes.now r.segments.now r.accepted c.args.output.now
+    (sym c.in_default.is ∙ c.find_clash.ensures) c.if-output-reading.true)
 
-pub write_segments-requires : goal.write_segments-requires
-write_segments-requires c =
-    let pre = c.requires in
-    record {
-      names_from = pre.names_from;
-      cut_off = pre.cut_off;
-      bytes_value = pre.bytes_value;
-      bytes_in_bounds = c.if-output-bytes.false;
-    }
-
-pub returns-in-At : goal.returns-in-At
-returns-in-At c =
-    let a = c.args in
-    collided a.change.old a.change.new a.s.now a.segments.now a.count a.levels a.bytes a.output.now _ _ _
-    (sym c.in-At.is ∙ c.find_clash.ensures)
-
-pub returns-else-output-bytes : goal.returns-else-output-bytes
-returns-else-output-bytes c =
-    let a = c.args in
-    put a.change.old a.change.new a.s.now a.segments.now a.count a.levels a.bytes a.output.now
-    (sym c.in-Nowhere.is ∙ c.find_clash.ensures) c.if-output-bytes.false _
-    c.write_segments.ensures
+pub returns : goal.returns
+returns c =
+    let r = c.args.reading in
+    put r.change.old r.change.new r.bytes.now r.segments.now r.accepted c.args.output.now
+    (sym c.in_default.is ∙ c.find_clash.ensures) c.if-output-reading.false _ c.write_segments.ensures

@@ -14,7 +14,7 @@ use Rattle.ruling.proofs.ruled.is_few.Goals as goal
 use Rattle.ruling.proofs.ruled.is_few.Goals.{Start}
 
 abbrev at : Start → ℕ → Piece
-at c = components_in c.args.s.now c.args.starts.now c.args.layout c.args.component
+at c = components_in c.args.parts.bytes.now c.args.parts.starts.now c.args.parts.layout c.args.component
 
 pub returns-then-tag-ne-NCA : goal.returns-then-tag-ne-NCA
 unfolding tag_number

@@ -3,8 +3,9 @@
 use Prim.Native.Nat.{ℕ}
 use mathlib.Core.Path.{sym, ◌∙◌}
 use mathlib.Core.Bool.{Bool}
+use Rattle.std.proofs.lemmas.Result.{err_from_is_err_and}
 use Rattle.elements.specs.internal.Layouts.{there_in}
-use Rattle.ruling.proofs.Pairings.{pairs_none, pairs_inside, pairs_broken, pairs_more, pairs_all}
+use Rattle.ruling.proofs.Pairings.{note_found, note_silent, pairs_none, pairs_broken, pairs_more, pairs_all}
 use Rattle.ruling.proofs.RuleOrder.{there_past}
 use native.Mathlib.Omega.{arith}
 use Rattle.ruling.proofs.ruled.item_notes.Goals as goal
@@ -12,23 +13,32 @@ use Rattle.ruling.proofs.ruled.item_notes.Goals.{Start}
 
 -- which elements are present
 abbrev there : Start → ℕ → Bool
-there c = there_in c.args.s.now c.args.starts.now c.args.layout
+there c = there_in c.args.parts.bytes.now c.args.parts.starts.now c.args.parts.layout
 
-pub loop-k-init : goal.loop-k-init
-loop-k-init c = pairs_none _
+pub loop-pair-init : goal.loop-pair-init
+loop-pair-init c = pairs_none _
 
-pub is_paired-requires : goal.is_paired-requires
-is_paired-requires c = pairs_inside (there (goal.at.is_paired-requires c).Start) c.loop-k.invariant (omega arith)
+pub returns-in_err-note : goal.returns-in_err-note
+returns-in_err-note c =
+    let p = err_from_is_err_and c.from_residual.result c.from_residual.ensures.1 in
+    let found = note_found _ c.is_paired.result _ (sym c.in_err-note.ensures) in
+    rw (p.1, p.2)
+    (sym found.1
+    ∙ pairs_broken (there (goal.at.returns-in_err-note c).Start) c.loop-pair.invariant (omega arith) (sym c.is_paired.ensures ∙ found.0))
 
-pub returns-then-not-is_paired : goal.returns-then-not-is_paired
-returns-then-not-is_paired c = pairs_broken (there (goal.at.returns-then-not-is_paired c).Start) c.loop-k.invariant (omega arith)
-    (sym c.is_paired.ensures ∙ c.if-not-is_paired.true)
-
-pub loop-k-preserved : goal.loop-k-preserved
-loop-k-preserved c = pairs_more (there (goal.at.loop-k-preserved c).Start) c.loop-k.invariant (omega arith)
-    (sym c.is_paired.ensures ∙ c.if-not-is_paired.false)
+pub loop-pair-preserved : goal.loop-pair-preserved
+loop-pair-preserved c =
+    pairs_more (there (goal.at.loop-pair-preserved c).Start) c.loop-pair.invariant (omega arith)
+    (sym c.is_paired.ensures ∙ note_silent _ c.is_paired.result (sym c.in_ok-note.ensures))
 
 pub returns : goal.returns
 returns c =
-    pairs_all (there (goal.at.returns c).Start) c.loop-k.invariant
-    (λ j l. there_past c.args.s.now c.args.starts.now c.args.layout j (omega arith))
+    pairs_all (there (goal.at.returns c).Start) c.loop-pair.invariant
+    (λ j l. there_past c.args.parts.bytes.now c.args.parts.starts.now c.args.parts.layout j (omega arith))
+
+pub returns-in_ok-note : goal.returns-in_ok-note
+returns-in_ok-note c =
+    pairs_all (there (goal.at.returns-in_ok-note c).Start)
+    (pairs_more (there (goal.at.returns-in_ok-note c).Start) c.loop-pair.invariant (omega arith)
+    (sym c.is_paired.ensures ∙ note_silent _ c.is_paired.result (sym c.in_ok-note.ensures)))
+    (λ j l. there_past c.args.parts.bytes.now c.args.parts.starts.now c.args.parts.layout j (omega arith))

@@ -12,35 +12,37 @@ use Rattle.ruling.proofs.ruled.unused_verdict.Goals as goal
 use Rattle.ruling.proofs.ruled.unused_verdict.Goals.{Start}
 
 abbrev there : Start → ℕ → Bool
-there c = there_in c.args.s.now c.args.starts.now c.args.layout
+there c = there_in c.args.parts.bytes.now c.args.parts.starts.now c.args.parts.layout
 
 pub returns-then-tag-ne-HL : goal.returns-then-tag-ne-HL
 unfolding tag_number
 returns-then-tag-ne-HL c =
     rw c.in-Reply.is
-    (used_silent Reply c.args.tag (there (goal.at.returns-then-tag-ne-HL c).Start) c.args.layout.count (others_used Reply c.args.tag c.if-tag-ne-HL.true))
+    (used_silent Reply c.args.tag (there (goal.at.returns-then-tag-ne-HL c).Start) c.args.parts.layout.count (others_used Reply c.args.tag c.if-tag-ne-HL.true))
 
 pub returns-then-is_there : goal.returns-then-is_there
 unfolding tag_number
 returns-then-is_there c =
-    rw c.in-Reply.is
-    (second_there (there (goal.at.returns-then-is_there c).Start) c.args.layout.count c.args.tag c.if-tag-ne-HL.false (there_past _ _ _)
-    (sym c.is_there.ensures ∙ c.if-is_there.true))
+    let second =
+    second_there (there (goal.at.returns-then-is_there c).Start) c.args.parts.layout.count c.args.tag c.if-tag-ne-HL.false (there_past _ _ _)
+    (sym c.is_there.ensures ∙ c.if-is_there.true) in
+    rw c.in-Reply.is (cc second)
 
 pub returns-then-is_there-2 : goal.returns-then-is_there-2
 unfolding tag_number
 returns-then-is_there-2 c =
-    rw c.in-Reply.is
-    (fourth_there (there (goal.at.returns-then-is_there-2 c).Start) c.args.layout.count c.args.tag c.if-tag-ne-HL.false (there_past _ _ _)
-    (sym c.is_there.ensures ∙ c.if-is_there.false) (sym c.is_there-in-Reply.ensures ∙ c.if-is_there-2.true))
+    let fourth =
+    fourth_there (there (goal.at.returns-then-is_there-2 c).Start) c.args.parts.layout.count c.args.tag c.if-tag-ne-HL.false (there_past _ _ _)
+    (sym c.is_there.ensures ∙ c.if-is_there.false) (sym c.is_there-in-Reply.ensures ∙ c.if-is_there-2.true) in
+    rw c.in-Reply.is (cc fourth)
 
 pub returns-in-Report : goal.returns-in-Report
 returns-in-Report c =
-    rw c.in-Report.is (used_silent Report c.args.tag (there (goal.at.returns-in-Report c).Start) c.args.layout.count (report_used c.args.tag))
+    rw c.in-Report.is (used_silent Report c.args.tag (there (goal.at.returns-in-Report c).Start) c.args.parts.layout.count (report_used c.args.tag))
 
 pub returns-else-is_there-2 : goal.returns-else-is_there-2
 unfolding tag_number
 returns-else-is_there-2 c =
     rw c.in-Reply.is
-    (neither_there (there (goal.at.returns-else-is_there-2 c).Start) c.args.layout.count c.args.tag c.if-tag-ne-HL.false (there_past _ _ _)
+    (neither_there (there (goal.at.returns-else-is_there-2 c).Start) c.args.parts.layout.count c.args.tag c.if-tag-ne-HL.false (there_past _ _ _)
     (sym c.is_there.ensures ∙ c.if-is_there.false) (sym c.is_there-in-Reply.ensures ∙ c.if-is_there-2.false))

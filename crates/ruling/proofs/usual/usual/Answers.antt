@@ -1,7 +1,6 @@
 -- `usual` meets its contract, tag by tag: how far the rules reach is computed.
 -- Assumes nothing.
-use mathlib.Core.Path.{refl, sym}
-use mathlib.Core.Bool.{true≢false}
+use mathlib.Core.Path.{refl}
 use Rattle.rows.specs.Tags.{tag_number}
 use Rattle.elements.specs.internal.Verdicts.{rules_of}
 use Rattle.text.proofs.Tests.{and_first, and_second}
@@ -60,6 +59,3 @@ returns-in-33 c e = (
   rw c.in-33.is (suiting _ _ _ _ 2 c.usual_se.result refl c.usual_se.ensures e),
   others_used c.args.profile c.args.tag (λ z. omega (arith, c.in-33.is, z)),
 )
-
-pub returns-in_default : goal.returns-in_default
-returns-in_default c e = absurd (true≢false (sym e))

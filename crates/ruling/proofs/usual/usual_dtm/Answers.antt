@@ -10,12 +10,12 @@ use Rattle.ruling.proofs.usual.usual_dtm.Goals as goal
 use Rattle.ruling.proofs.usual.usual_dtm.Goals.{Start}
 
 abbrev Suited : Start → ℕ → Type 0
-Suited c = SuitsAt c.args.s.now c.args.starts.now c.args.layout (tag "DTM")
+Suited c = SuitsAt c.args.parts.bytes.now c.args.parts.starts.now c.args.parts.layout (tag "DTM")
 
 pub returns : goal.returns
 unfolding rules_of tag_number
-returns c = one_more (Suited (goal.at.returns c).Start) 2 (c.id_suits.result && c.date_suits.result) c.time_suits.result
-    (one_more (Suited (goal.at.returns c).Start) 1 c.id_suits.result c.date_suits.result
-    (λ f. (tt, rw c.element-code.ensures at (c.id_suits.ensures f)))
-    (λ f. rw c.element-date.ensures at (c.date_suits.ensures f)))
-    (λ f. rw c.element-time.ensures at (c.time_suits.ensures f))
+returns c = one_more (Suited (goal.at.returns c).Start) 2 (c.suits.result && c.suits-2.result) c.suits-3.result
+    (one_more (Suited (goal.at.returns c).Start) 1 c.suits.result c.suits-2.result
+    (λ f. (tt, rw c.element-code.ensures at (c.suits.ensures f)))
+    (λ f. rw c.element-date.ensures at (c.suits-2.ensures f)))
+    (λ f. rw c.element-time.ensures at (c.suits-3.ensures f))

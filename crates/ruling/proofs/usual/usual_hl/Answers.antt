@@ -10,14 +10,14 @@ use Rattle.ruling.proofs.usual.usual_hl.Goals as goal
 use Rattle.ruling.proofs.usual.usual_hl.Goals.{Start}
 
 abbrev Suited : Start → ℕ → Type 0
-Suited c = SuitsAt c.args.s.now c.args.starts.now c.args.layout (tag "HL")
+Suited c = SuitsAt c.args.parts.bytes.now c.args.parts.starts.now c.args.parts.layout (tag "HL")
 
 pub returns : goal.returns
 unfolding rules_of tag_number
-returns c = one_more (Suited (goal.at.returns c).Start) 3 (c.text_suits.result && c.text_suits-2.result && c.id_suits.result) c.id_suits-2.result
-    (one_more (Suited (goal.at.returns c).Start) 2 (c.text_suits.result && c.text_suits-2.result) c.id_suits.result
-    (one_more (Suited (goal.at.returns c).Start) 1 c.text_suits.result c.text_suits-2.result
-    (λ f. (tt, rw c.element-id.ensures at (c.text_suits.ensures f)))
-    (λ f. rw c.element-parent.ensures at (c.text_suits-2.ensures f)))
-    (λ f. rw c.element-code.ensures at (c.id_suits.ensures f)))
-    (λ f. rw c.element-mark.ensures at (c.id_suits-2.ensures f))
+returns c = one_more (Suited (goal.at.returns c).Start) 3 (c.suits.result && c.suits-2.result && c.suits-3.result) c.suits-4.result
+    (one_more (Suited (goal.at.returns c).Start) 2 (c.suits.result && c.suits-2.result) c.suits-3.result
+    (one_more (Suited (goal.at.returns c).Start) 1 c.suits.result c.suits-2.result
+    (λ f. (tt, rw c.element-id.ensures at (c.suits.ensures f)))
+    (λ f. rw c.element-parent.ensures at (c.suits-2.ensures f)))
+    (λ f. rw c.element-code.ensures at (c.suits-3.ensures f)))
+    (λ f. rw c.element-mark.ensures at (c.suits-4.ensures f))

@@ -10,14 +10,14 @@ use Rattle.ruling.proofs.usual.usual_n1.Goals as goal
 use Rattle.ruling.proofs.usual.usual_n1.Goals.{Start}
 
 abbrev Suited : Start → ℕ → Type 0
-Suited c = SuitsAt c.args.s.now c.args.starts.now c.args.layout (tag "N1")
+Suited c = SuitsAt c.args.parts.bytes.now c.args.parts.starts.now c.args.parts.layout (tag "N1")
 
 pub returns : goal.returns
 unfolding rules_of tag_number
-returns c = one_more (Suited (goal.at.returns c).Start) 3 (c.id_suits.result && c.text_suits.result && c.id_suits-2.result) c.text_suits-2.result
-    (one_more (Suited (goal.at.returns c).Start) 2 (c.id_suits.result && c.text_suits.result) c.id_suits-2.result
-    (one_more (Suited (goal.at.returns c).Start) 1 c.id_suits.result c.text_suits.result
-    (λ f. (tt, rw c.element-party.ensures at (c.id_suits.ensures f)))
-    (λ f. rw c.element-name.ensures at (c.text_suits.ensures f)))
-    (λ f. rw c.element-kind.ensures at (c.id_suits-2.ensures f)))
-    (λ f. rw c.element-code.ensures at (c.text_suits-2.ensures f))
+returns c = one_more (Suited (goal.at.returns c).Start) 3 (c.suits.result && c.suits-2.result && c.suits-3.result) c.suits-4.result
+    (one_more (Suited (goal.at.returns c).Start) 2 (c.suits.result && c.suits-2.result) c.suits-3.result
+    (one_more (Suited (goal.at.returns c).Start) 1 c.suits.result c.suits-2.result
+    (λ f. (tt, rw c.element-party.ensures at (c.suits.ensures f)))
+    (λ f. rw c.element-name.ensures at (c.suits-2.ensures f)))
+    (λ f. rw c.element-kind.ensures at (c.suits-3.ensures f)))
+    (λ f. rw c.element-code.ensures at (c.suits-4.ensures f))

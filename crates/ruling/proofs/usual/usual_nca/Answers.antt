@@ -10,16 +10,16 @@ use Rattle.ruling.proofs.usual.usual_nca.Goals as goal
 use Rattle.ruling.proofs.usual.usual_nca.Goals.{Start}
 
 abbrev Suited : Start → ℕ → Type 0
-Suited c = SuitsAt c.args.s.now c.args.starts.now c.args.layout (tag "NCA")
+Suited c = SuitsAt c.args.parts.bytes.now c.args.parts.starts.now c.args.parts.layout (tag "NCA")
 
 pub returns : goal.returns
 unfolding rules_of tag_number
-returns c = one_more (Suited (goal.at.returns c).Start) 4 (c.text_suits.result && c.id_suits.result && c.text_suits-2.result && c.real_suits.result) c.unit_suits.result
-    (one_more (Suited (goal.at.returns c).Start) 3 (c.text_suits.result && c.id_suits.result && c.text_suits-2.result) c.real_suits.result
-    (one_more (Suited (goal.at.returns c).Start) 2 (c.text_suits.result && c.id_suits.result) c.text_suits-2.result
-    (one_more (Suited (goal.at.returns c).Start) 1 c.text_suits.result c.id_suits.result
-    (λ f. (tt, rw c.element-number.ensures at (c.text_suits.ensures f)))
-    (λ f. rw c.element-code.ensures at (c.id_suits.ensures f)))
-    (λ f. rw c.element-text.ensures at (c.text_suits-2.ensures f)))
-    (λ f. rw c.element-quantity.ensures at (c.real_suits.ensures f)))
+returns c = one_more (Suited (goal.at.returns c).Start) 4 (c.suits.result && c.suits-2.result && c.suits-3.result && c.suits-4.result) c.unit_suits.result
+    (one_more (Suited (goal.at.returns c).Start) 3 (c.suits.result && c.suits-2.result && c.suits-3.result) c.suits-4.result
+    (one_more (Suited (goal.at.returns c).Start) 2 (c.suits.result && c.suits-2.result) c.suits-3.result
+    (one_more (Suited (goal.at.returns c).Start) 1 c.suits.result c.suits-2.result
+    (λ f. (tt, rw c.element-number.ensures at (c.suits.ensures f)))
+    (λ f. rw c.element-code.ensures at (c.suits-2.ensures f)))
+    (λ f. rw c.element-text.ensures at (c.suits-3.ensures f)))
+    (λ f. rw c.element-quantity.ensures at (c.suits-4.ensures f)))
     (λ f. rw c.element-unit.ensures at (c.unit_suits.ensures f))

@@ -9,10 +9,10 @@ use Rattle.ruling.proofs.usual.usual_se.Goals as goal
 use Rattle.ruling.proofs.usual.usual_se.Goals.{Start}
 
 abbrev Suited : Start → ℕ → Type 0
-Suited c = SuitsAt c.args.s.now c.args.starts.now c.args.layout (tag "SE")
+Suited c = SuitsAt c.args.parts.bytes.now c.args.parts.starts.now c.args.parts.layout (tag "SE")
 
 pub returns : goal.returns
 unfolding rules_of tag_number
-returns c = one_more (Suited (goal.at.returns c).Start) 1 c.value_suits.result c.text_suits.result
-    (λ f. (tt, rw c.element-total.ensures at (c.value_suits.ensures f)))
-    (λ f. rw c.element-control.ensures at (c.text_suits.ensures f))
+returns c = one_more (Suited (goal.at.returns c).Start) 1 c.suits.result c.suits-2.result
+    (λ f. (tt, rw c.element-total.ensures at (c.suits.ensures f)))
+    (λ f. rw c.element-control.ensures at (c.suits-2.ensures f))

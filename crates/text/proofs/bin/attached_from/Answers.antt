@@ -1,35 +1,21 @@
--- `attached_from` meets its contract: the mark, and a count that ends with the segment.
+-- `attached_from` meets its contract: a count lies within the segment. The attribute's lemmas answer for what it counts.
 -- Assumes nothing.
+use Prim.Native.Nat.{◌<◌}
 use mathlib.Core.Path.{sym, ◌∙◌}
 use native.Mathlib.Omega.{arith}
-use lib.Dec.{T}
-use borrow.Author.Tests.{not-false}
-use Rattle.text.specs.Bin.{begins_bin}
-use Rattle.text.proofs.BinSpans.{unmarked, end_inside, count_open, count_broken}
+use lib.ListN.{length}
+use Rattle.text.proofs.BinSpans.{count_inside}
 use Rattle.text.proofs.bin.attached_from.Goals as goal
-use Rattle.text.proofs.bin.attached_from.Goals.{Else-not-begins}
+use Rattle.text.proofs.bin.attached_from.Goals.{In-Ok}
 
--- the mark is there
-marked : (c : Else-not-begins) → T (begins_bin c.args.element c.args.segment.now)
-marked c = rw (sym c.begins.ensures ∙ not-false c.begins.result c.if-not-begins.false-raw) tt
-
-pub returns-then-not-begins : goal.returns-then-not-begins
-returns-then-not-begins c = unmarked _ _ c.begins.result c.begins.ensures c.if-not-begins.true-raw
+inside : (c : In-Ok) → c.in-Ok.field-0.end < length c.args.segment.now
+inside c = count_inside c.args.element c.args.segment.now c.in-Ok.field-0.number c.in-Ok.field-0.end (sym c.begins.ensures ∙ c.if-not-begins.false) (sym c.in-Ok.ensures)
 
 pub overflow_sub-segment : goal.overflow_sub-segment
-overflow_sub-segment c =
-    omega (arith, end_inside _ _ (marked (goal.at.overflow_sub-segment c).Else-not-begins) _ c.count.ensures _ _ c.in-Told.is)
+overflow_sub-segment c = omega (arith, inside (goal.at.overflow_sub-segment c).In-Ok)
 
-pub overflow_sub-segment-in-Told : goal.overflow_sub-segment-in-Told
-overflow_sub-segment-in-Told c =
-    omega (arith, end_inside _ _ (marked (goal.at.overflow_sub-segment-in-Told c).Else-not-begins) _ c.count.ensures _ _ c.in-Told.is)
+pub overflow_sub-segment-in-Ok-1 : goal.overflow_sub-segment-in-Ok-1
+overflow_sub-segment-in-Ok-1 c = omega (arith, inside (goal.at.overflow_sub-segment-in-Ok-1 c).In-Ok)
 
 pub overflow_add-result : goal.overflow_add-result
-overflow_add-result c =
-    omega (arith, end_inside _ _ (marked (goal.at.overflow_add-result c).Else-not-begins) _ c.count.ensures _ _ c.in-Told.is)
-
-pub returns-in-Open : goal.returns-in-Open
-returns-in-Open c = count_open _ _ (marked (goal.at.returns-in-Open c).Else-not-begins) _ c.count.ensures c.in-Open.is
-
-pub returns-in-Broken : goal.returns-in-Broken
-returns-in-Broken c = count_broken _ _ (marked (goal.at.returns-in-Broken c).Else-not-begins) _ c.count.ensures c.in-Broken.is
+overflow_add-result c = omega (arith, inside (goal.at.overflow_add-result c).In-Ok)

@@ -10,9 +10,6 @@ use Rattle.text.proofs.BinSpans.{plain_of, lies_element}
 use Rattle.text.proofs.Parts.{span_pieced}
 use Rattle.text.proofs.lookup.part_span.Goals as goal
 
-pub element_span-whole-requires : goal.element_span-whole-requires
-element_span-whole-requires c = c.attached_from-attached.ensures
-
 pub only_span-requires : goal.only_span-requires
 only_span-requires c = rw c.element_span-whole.ensures (lies_element _ _ _).inside
 

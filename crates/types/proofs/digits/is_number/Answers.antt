@@ -1,17 +1,15 @@
-use mathlib.Core.Path.{sym, ◌∙◌}
-use Rattle.text.proofs.Tests.{passing_none, passing_more, every_fails, every_passes}
+-- `is_number` meets its contract: it tests each byte.
+-- Assumes nothing.
+use mathlib.Core.Path.{◌∙◌}
+use borrow.Author.Rules.{rules}
+use Rattle.std.proofs.Common.{tests}
+use Rattle.std.proofs.lemmas.Iterator.{YieldsList-from_slice}
+use Rattle.std.proofs.lemmas.Iterator.Search.{all_from_yields_List}
+use Rattle.text.specs.Separators.{is_digit}
+use Rattle.text.proofs.Everys.{every_all}
 use Rattle.types.proofs.digits.is_number.Goals as goal
 
-pub loop-i-init : goal.loop-i-init
-loop-i-init c = passing_none _ _
-
-pub returns-then-not-is_digit : goal.returns-then-not-is_digit
-returns-then-not-is_digit c = every_fails 0 c.loop-i.invariant c.loop-i-test.true
-    (sym c.is_digit.ensures ∙ c.if-not-is_digit.true)
-
-pub loop-i-preserved : goal.loop-i-preserved
-loop-i-preserved c = passing_more 0 c.loop-i.invariant c.loop-i-test.true
-    (sym c.is_digit.ensures ∙ c.if-not-is_digit.false)
-
 pub returns : goal.returns
-returns c = every_passes 0 c.loop-i.invariant c.loop-i-test.false
+returns c =
+    all_from_yields_List is_digit _ _ c.all.result c.all.ensures.ran (YieldsList-from_slice c.args.value.now cc) (λ x b q k. search (rules, tests))
+    ∙ every_all is_digit c.args.value.now

@@ -1,26 +1,17 @@
-use Rattle.types.proofs.Figures.{figured_none, room, figured_more, figured_all}
 use native.Mathlib.Omega.{arith}
+use Rattle.types.proofs.Figures.{figured_none, figured_more, room}
 use Rattle.types.proofs.digits.value_from.Goals as goal
 
-pub loop-i-init : goal.loop-i-init
-loop-i-init c = figured_none c.requires
+pub loop-digit-init : goal.loop-digit-init
+loop-digit-init c = figured_none c.requires
 
 pub overflow_mul-n : goal.overflow_mul-n
-overflow_mul-n c = omega (arith, (room c.requires c.loop-i.invariant c.loop-i-test.true).small)
-
-pub overflow_sub-n : goal.overflow_sub-n
-overflow_sub-n c = (room c.requires c.loop-i.invariant c.loop-i-test.true).low
-
-pub overflow_cast-n : goal.overflow_cast-n
-overflow_cast-n c = omega (arith, (room c.requires c.loop-i.invariant c.loop-i-test.true).high)
+overflow_mul-n c = omega (arith, (room c.requires c.loop-digit.invariant c.loop-digit-test.true).small)
 
 pub overflow_add-n : goal.overflow_add-n
 overflow_add-n c =
-    let fit = room c.requires c.loop-i.invariant c.loop-i-test.true in
-    omega (arith, fit.small, fit.high)
+    let r = room c.requires c.loop-digit.invariant c.loop-digit-test.true in
+    omega (arith, c.from.ensures, r.small, r.high)
 
-pub loop-i-preserved : goal.loop-i-preserved
-loop-i-preserved c = figured_more c.requires c.loop-i.invariant c.loop-i-test.true
-
-pub returns : goal.returns
-returns c = figured_all c.loop-i.invariant c.loop-i-test.false
+pub loop-digit-preserved : goal.loop-digit-preserved
+loop-digit-preserved c = rw c.from.ensures (figured_more c.requires c.loop-digit.invariant c.loop-digit-test.true)

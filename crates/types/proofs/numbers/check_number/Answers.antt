@@ -2,19 +2,18 @@
 -- Assumes nothing.
 use Prim.Native.Nat.{ℕ, ◌+◌, ◌≤◌}
 use mathlib.Core.Path.{◌≡◌, sym, ap, ◌∙◌}
-use mathlib.Core.Bool.{true, ◌&&◌}
+use mathlib.Core.Bool.{true}
 use lib.Dec.{leb}
 use lib.ListN.{length}
-use borrow.Author.Tests.{not-true, not-false, leb-true}
-use Rattle.text.specs.Bytes.{byte}
+use borrow.Author.Tests.{leb-true}
+use Rattle.text.specs.Bytes.{byte, between}
 use Rattle.text.proofs.Tests.{and_first, and_second}
 use Rattle.types.specs.Reals.{past, unsigned}
 use Rattle.types.specs.internal.NumberParts.{first_digits, exponent_of_in}
-use Rattle.types.specs.declared.numbers.Exponent.{Exponent}
 use Rattle.types.proofs.FirstDigits.{run_digits, run_inside, rest_part}
 use Rattle.types.proofs.NumberChecks.{counted, whole_of, behind_of, fraction_of, rest_of, count_of, check_count, check_exponent, check_number}
 use Rattle.types.proofs.numbers.check_number.Goals as goal
-use Rattle.types.proofs.numbers.check_number.Goals.{After-exponent_of-exponent, After-first_digits-fraction, After-first_digits-whole, Else-not-count-least}
+use Rattle.types.proofs.numbers.check_number.Goals.{After-exponent_of, After-first_digits-fraction, After-first_digits-whole, Else-not-may_have}
 
 -- what each call hands back, read off the text
 whole_is : (c : After-first_digits-fraction) → c.first_digits-whole.result.now ≡ whole_of c.args.text.now
@@ -26,9 +25,9 @@ behind-is c = c.past-behind.ensures ∙ ap (past (byte ".")) (rest_part c.past-u
 fraction-is : (c : After-first_digits-fraction) → c.first_digits-fraction.result.now ≡ fraction_of c.args.text.now
 fraction-is c = c.first_digits-fraction.ensures ∙ ap first_digits (behind-is c)
 
-exponent-is : (c : After-exponent_of-exponent) → c.past-behind.result.now ≡ behind_of c.args.text.now
-    → c.exponent_of-exponent.result ≡ exponent_of_in (rest_of c.args.text.now)
-exponent-is c b = c.exponent_of-exponent.ensures ∙ ap exponent_of_in (rest_part b c.first_digits-fraction.ensures)
+exponent-is : (c : After-exponent_of) → c.past-behind.result.now ≡ behind_of c.args.text.now
+    → c.exponent_of.result ≡ exponent_of_in (rest_of c.args.text.now)
+exponent-is c b = c.exponent_of.ensures ∙ ap exponent_of_in (rest_part b c.first_digits-fraction.ensures)
 
 -- the digits stand within what they were taken from
 inside : (c : After-first_digits-whole) → length c.first_digits-whole.result.now ≤ length c.past-unsigned.result.now
@@ -44,15 +43,11 @@ number c = length c.first_digits-whole.result.now + length c.first_digits-fracti
 count_is : (c : After-first_digits-fraction) → number c ≡ count_of c.args.text.now
 count_is c = rw (whole_is c, fraction-is c)
 
-counted_is : (c : After-first_digits-fraction) → counted c.args.least c.args.most (number c) ≡ true
-    → counted c.args.least c.args.most (count_of c.args.text.now) ≡ true
-counted_is c e = rw (← count_is c) e
-
-few : (c : Else-not-count-least) → length c.first_digits-whole.result.now + length c.first_digits-fraction.result.now ≤ 15
+few : (c : Else-not-may_have) → length c.first_digits-whole.result.now + length c.first_digits-fraction.result.now ≤ 15
 few c =
     let n = length c.first_digits-whole.result.now + length c.first_digits-fraction.result.now in
-    let tested = and_first (leb 1 n && leb n 15 && leb c.args.least n) (leb n c.args.most) c.if-not-count-least.false in
-    leb-true n 15 (and_second (leb 1 n) (leb n 15) (and_first (leb 1 n && leb n 15) (leb c.args.least n) tested))
+    let told = sym c.may_have.ensures ∙ c.if-not-may_have.false in
+    leb-true n 15 (and_second (leb 1 n) (leb n 15) (and_first (between 1 15 n) (between c.args.least c.args.most n) told))
 
 pub slice_bounds-past-count : goal.slice_bounds-past-count
 slice_bounds-past-count c = inside (goal.at.slice_bounds-past-count c).After-first_digits-whole
@@ -60,10 +55,10 @@ slice_bounds-past-count c = inside (goal.at.slice_bounds-past-count c).After-fir
 pub slice_bounds-past-start : goal.slice_bounds-past-start
 slice_bounds-past-start c = inside (goal.at.slice_bounds-past-start c).After-first_digits-whole
 
-pub returns-then-not-count-least : goal.returns-then-not-count-least
-returns-then-not-count-least c =
-    c.unfit.ensures
-    ∙ check_count c.args.text.now _ _ (rw (← count_is (goal.at.returns-then-not-count-least c).After-first_digits-fraction) c.if-not-count-least.true)
+pub returns-then-not-may_have : goal.returns-then-not-may_have
+returns-then-not-may_have c =
+    let read = (goal.at.returns-then-not-may_have c).After-first_digits-fraction in
+    check_count c.args.text.now _ _ (rw (← count_is read) (sym c.may_have.ensures ∙ c.if-not-may_have.true))
 
 pub slice_bounds-exponent_of-count : goal.slice_bounds-exponent_of-count
 slice_bounds-exponent_of-count c = inside-behind (goal.at.slice_bounds-exponent_of-count c).After-first_digits-fraction
@@ -71,12 +66,11 @@ slice_bounds-exponent_of-count c = inside-behind (goal.at.slice_bounds-exponent_
 pub slice_bounds-exponent_of-start : goal.slice_bounds-exponent_of-start
 slice_bounds-exponent_of-start c = inside-behind (goal.at.slice_bounds-exponent_of-start c).After-first_digits-fraction
 
-pub returns-then-not-exponent : goal.returns-then-not-exponent
-returns-then-not-exponent c =
-    let told = (goal.at.returns-then-not-exponent c).After-exponent_of-exponent in
-    let behind = behind-is (goal.at.returns-then-not-exponent c).After-first_digits-fraction in
-    c.unfit-then-not-exponent.ensures
-    ∙ check_exponent c.args.text.now _ _ (ap (λ (e : Exponent). e.fit) (sym (exponent-is told behind)) ∙ not-true _ c.if-not-exponent.true)
+pub returns-in_err-exponent : goal.returns-in_err-exponent
+returns-in_err-exponent c =
+    let read = (goal.at.returns-in_err-exponent c).After-first_digits-fraction in
+    let exponent = exponent-is (goal.at.returns-in_err-exponent c).After-exponent_of (behind-is read) in
+    c.from_residual.ensures ∙ check_exponent c.args.text.now _ _ (sym exponent ∙ c.in_err-exponent.was)
 
 pub written-requires : goal.written-requires
 written-requires c =
@@ -84,14 +78,14 @@ written-requires c =
     record {
       before = rw (whole_is read) (run_digits (unsigned c.args.text.now));
       behind = rw (fraction-is read) (run_digits (behind_of c.args.text.now));
-      few = few (goal.at.written-requires c).Else-not-count-least;
+      few = few (goal.at.written-requires c).Else-not-may_have;
     }
 
 pub returns : goal.returns
 returns c =
     let read = (goal.at.returns c).After-first_digits-fraction in
-    let exponent = exponent-is (goal.at.returns c).After-exponent_of-exponent (behind-is read) in
-    let fit = ap (λ (e : Exponent). e.fit) (sym exponent) ∙ not-false _ c.if-not-exponent.false in
-    c.written.ensures
-    ∙ rw (c.begins.ensures, whole_is read, fraction-is read, exponent)
-    (check_number c.args.text.now _ _ (counted_is read c.if-not-count-least.false) fit)
+    let exponent = exponent-is (goal.at.returns c).After-exponent_of (behind-is read) in
+    let number : counted c.args.least c.args.most (count_of c.args.text.now) ≡ true =
+    rw (← count_is read) (sym c.may_have.ensures ∙ c.if-not-may_have.false) in
+    rw (c.written.ensures, c.is_negative.ensures, whole_is read, fraction-is read)
+    (check_number c.args.text.now _ _ number _ (sym exponent ∙ c.in_ok-exponent.was))

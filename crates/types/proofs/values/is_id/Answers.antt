@@ -1,18 +1,15 @@
-use Rattle.text.proofs.Tests.{passing_none, passing_more, every_fails, every_passes}
+-- `is_id` meets its contract: it tests each byte.
+-- Assumes nothing.
+use mathlib.Core.Path.{◌∙◌}
+use borrow.Author.Rules.{rules}
+use Rattle.std.proofs.Common.{tests}
+use Rattle.std.proofs.lemmas.Iterator.{YieldsList-from_slice}
+use Rattle.std.proofs.lemmas.Iterator.Search.{all_from_yields_List}
+use Rattle.text.specs.Separators.{is_id_byte}
+use Rattle.text.proofs.Everys.{every_all}
 use Rattle.types.proofs.values.is_id.Goals as goal
 
-pub loop-i-init : goal.loop-i-init
-loop-i-init c = passing_none _ _
-
-pub returns-then-not-is_capital-is_digit : goal.returns-then-not-is_capital-is_digit
-returns-then-not-is_capital-is_digit c = every_fails 0 c.loop-i.invariant c.loop-i-test.true
-    (rw (← c.is_capital.ensures, ← c.is_digit.ensures)
-    c.if-not-is_capital-is_digit.true)
-
-pub loop-i-preserved : goal.loop-i-preserved
-loop-i-preserved c = passing_more 0 c.loop-i.invariant c.loop-i-test.true
-    (rw (← c.is_capital.ensures, ← c.is_digit.ensures)
-    c.if-not-is_capital-is_digit.false)
-
 pub returns : goal.returns
-returns c = every_passes 0 c.loop-i.invariant c.loop-i-test.false
+returns c =
+    all_from_yields_List is_id_byte _ _ c.all.result c.all.ensures.ran (YieldsList-from_slice c.args.value.now cc) (λ x b q k. search (rules, tests))
+    ∙ every_all is_id_byte c.args.value.now

@@ -1,6 +1,0 @@
-use Rattle.std.proofs.Common.{◌≡◌, length}
-use Rattle.vectors.proofs.fill.Given as goal
-
--- The table keeps its length.
-abbrev pub invariant-loop-i : goal.invariant-loop-i
-invariant-loop-i l = length l.table ≡ 120
