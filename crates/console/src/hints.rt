@@ -1,5 +1,6 @@
 // One line on standard error that says what was sent, where the bytes show it. It changes no verdict.
 use crate::warning;
+use elements::verdict::Reason;
 use gate::answer::Refusal;
 use std::io::Write;
 use text::separators;
@@ -39,9 +40,9 @@ fn sent(report: &[u8], refusal: Refusal) -> Option<&'static str> {
         Some(
             "its separators are not the standard * : ~ that this program reads; a caller of the library can name others",
         )
-    } else if refusal.number == 2 {
+    } else if refusal.reason == Reason::TooLong {
         Some("longer than the 65,536 bytes that this program reads; the library reads 1,048,576")
-    } else if refusal.number == 17 {
+    } else if refusal.reason == Reason::NoRoom {
         Some(
             "more than the 1,000 segments or 200 levels that this program has room for; a caller of the library can lend more",
         )

@@ -3,6 +3,7 @@ ghost use Rattle.std.specs.Prelude.{◌≡◌, ◌≤◌, length, IfOk, IfSome};
 ghost use Rattle.std.specs.Io.{ReadsAtMost};
 
 use crate::{files, refusing, warning};
+use elements::verdict::Reason;
 use gate::answer::Refusal;
 use std::alloc::{AllocError, Global};
 use std::env::FillError;
@@ -15,7 +16,7 @@ const NAME_TOO_LONG: i32 = 36;
 
 // The refusal of a report that is longer than a program reads.
 const TOO_LONG: Refusal = Refusal {
-    number: 2,
+    reason: Reason::TooLong,
     segment: 0,
     byte: 0,
     element: 0,

@@ -13,11 +13,12 @@ pub fn refuse<O: Write, E: Write>(
     refusal: Refusal,
 ) -> io::Result<()> {
     let Refusal {
-        number,
+        reason,
         segment,
         byte,
         element,
     } = refusal;
+    let number = reason.number();
     writeln!(
         out,
         "refused {number} segment {segment} byte {byte} element {element}"

@@ -19,6 +19,7 @@ use Rattle.elements.specs.internal.Verdicts.{element_by, rules_of, last_must, co
 use Rattle.elements.specs.declared.rules.Rule.{Rule}
 use Rattle.elements.proofs.FirstBroken.{and_then, broken_append, each_holds, each_broken, each_upto}
 use Rattle.elements.proofs.EveryTag.{unneeded}
+use Rattle.elements.specs.declared.verdict.Reason.TheVariants.{Missing, Unfit}
 
 -- the element is behind none that does not suit
 abbrev pub Before : Option ℕ → ℕ → Type 0
@@ -87,28 +88,28 @@ judged_on_behind (Some n) q w c = judged_behind w c
 
 module _ (t u : ℕ → Bool) (upto : ℕ) where
   abbrev both : Verdict
-  both = first_broken (each 8 1 upto t ++ each 10 1 upto u)
+  both = first_broken (each Missing 1 upto t ++ each Unfit 1 upto u)
 
   -- an element that is incomplete decides
-  pub judged_missing : {k : ℕ} {unfit : Option ℕ} → Judged t u k unfit → k ≤ upto → t k ≡ false → broken 8 k ≡ both
+  pub judged_missing : {k : ℕ} {unfit : Option ℕ} → Judged t u k unfit → k ≤ upto → t k ≡ false → broken Missing k ≡ both
   judged_missing {k} w l e =
       sym
-      (broken_append (each 8 1 upto t) (each 10 1 upto u)
-      ∙ ap (λ (v : Verdict). and_then v (first_broken (each 10 1 upto u))) (each_broken 8 1 upto k t w.complete w.start (omega arith) e))
+      (broken_append (each Missing 1 upto t) (each Unfit 1 upto u)
+      ∙ ap (λ (v : Verdict). and_then v (first_broken (each Unfit 1 upto u))) (each_broken Missing 1 upto k t w.complete w.start (omega arith) e))
 
-  all_there : {k : ℕ} {unfit : Option ℕ} → Judged t u k unfit → upto < k → both ≡ first_broken (each 10 1 upto u)
+  all_there : {k : ℕ} {unfit : Option ℕ} → Judged t u k unfit → upto < k → both ≡ first_broken (each Unfit 1 upto u)
   all_there w over =
-      broken_append (each 8 1 upto t) (each 10 1 upto u)
-      ∙ ap (λ (v : Verdict). and_then v (first_broken (each 10 1 upto u))) (each_holds 8 1 upto t (λ j l m. w.complete j l (omega arith)))
+      broken_append (each Missing 1 upto t) (each Unfit 1 upto u)
+      ∙ ap (λ (v : Verdict). and_then v (first_broken (each Unfit 1 upto u))) (each_holds Missing 1 upto t (λ j l m. w.complete j l (omega arith)))
 
-  pub judged_unfit : {k n : ℕ} → Judged t u k (Some n) → upto < k → k ≤ upto + 1 → broken 10 n ≡ both
+  pub judged_unfit : {k n : ℕ} → Judged t u k (Some n) → upto < k → k ≤ upto + 1 → broken Unfit n ≡ both
   judged_unfit {k} {n} w over near =
       sym
       (all_there w over
-      ∙ each_broken 10 1 upto n u (λ j l m. w.suited j l (omega (arith, w.found.2)) m) w.found.1 (omega (arith, w.found.2)) w.found.0)
+      ∙ each_broken Unfit 1 upto n u (λ j l m. w.suited j l (omega (arith, w.found.2)) m) w.found.1 (omega (arith, w.found.2)) w.found.0)
 
   pub judged_all : {k : ℕ} → Judged t u k None → upto < k → Holds ≡ both
-  judged_all w over = sym (all_there w over ∙ each_holds 10 1 upto u (λ j l m. w.suited j l (omega arith) tt))
+  judged_all w over = sym (all_there w over ∙ each_holds Unfit 1 upto u (λ j l m. w.suited j l (omega arith) tt))
 
 -- what the code finds of element k
 module _ (rules : Rules) (at : ℕ → Piece) (k : ℕ) (rule : Rule) (p : Piece) (e : element_by rule ≡ rule_of rules k) (f : p ≡ at k) where
@@ -141,10 +142,10 @@ module _ (tag count upto : ℕ) (at : ℕ → Piece) (past : (k : ℕ) → count
       let last = length (rules_of tag).elements in
       let t = complete_at_of (rules_of tag) at in
       let u = suits_at_of (rules_of tag) at in
-      broken_append (each 8 1 last t) (each 10 1 last u)
-      ∙ ap₂ and_then (each_upto 8 1 upto last t near (λ k l m. complete_past enough k (omega arith)))
-      (each_upto 10 1 upto last u near (λ k l m. suits_past k (omega arith)))
-      ∙ sym (broken_append (each 8 1 upto t) (each 10 1 upto u))
+      broken_append (each Missing 1 last t) (each Unfit 1 last u)
+      ∙ ap₂ and_then (each_upto Missing 1 upto last t near (λ k l m. complete_past enough k (omega arith)))
+      (each_upto Unfit 1 upto last u near (λ k l m. suits_past k (omega arith)))
+      ∙ sym (broken_append (each Missing 1 upto t) (each Unfit 1 upto u))
 
 -- the pass ends there, or at the last element with a rule
 pub elements_reached : (tag count upto : ℕ) (at : ℕ → Piece) → ((k : ℕ) → count < k → at k ≡ empty)

@@ -14,14 +14,15 @@ use Rattle.text.proofs.Bools.{both, and_true, and_false}
 use Rattle.elements.specs.Checks.{Check, check, each, Keeps, decide, first_broken, Verdict, Holds, broken}
 use Rattle.std.specs.Prelude.{Err}
 use Rattle.elements.specs.declared.verdict.Fault.{Fault}
+use Rattle.elements.specs.declared.verdict.Reason.{Reason}
 
--- two faults that are the same have the same number, and name the same element
-pub broken_same : (n e m k : ℕ) → broken n e ≡ broken m k → (n ≡ m) × (e ≡ k)
+-- two faults that are the same have the same reason, and name the same element
+pub broken_same : (n : Reason) (e : ℕ) (m : Reason) (k : ℕ) → broken n e ≡ broken m k → (n ≡ m) × (e ≡ k)
 broken_same n e m k d =
-    let first : Fault = record { number = n; element = e } in
-    let second : Fault = record { number = m; element = k } in
+    let first : Fault = record { reason = n; element = e } in
+    let second : Fault = record { reason = m; element = k } in
     let same : first ≡ second = cc in
-    (ap (λ (f : Fault). f.number) same, ap (λ (f : Fault). f.element) same)
+    (ap (λ (f : Fault). f.reason) same, ap (λ (f : Fault). f.element) same)
 
 -- every test holds exactly if none is the first that fails
 module _ (c : Check) (cs : List Check) where
@@ -49,17 +50,17 @@ pub keeps_holds : (cs : List Check) → (first_broken cs ≡ Holds) ↔ Keeps cs
 keeps_holds cs = (holds_kept cs, kept_holds cs)
 
 -- the test that decides, with those before it, which hold
-pub record First (cs : List Check) (n e : ℕ) : Type 0 where
+pub record First (cs : List Check) (n : Reason) (e : ℕ) : Type 0 where
   pub ahead : List Check
   pub found : Check
   pub behind : List Check
   pub split : cs ≡ ahead ++ (found ∷ behind)
   pub kept : Keeps ahead
   pub fails : found.holds ≡ false
-  pub number : found.number ≡ n
+  pub reason : found.reason ≡ n
   pub element : found.element ≡ e
 
-first_here : (c : Check) (cs : List Check) (b : Bool) (n e : ℕ) → c.holds ≡ b → (first_broken cs ≡ broken n e → First cs n e)
+first_here : (c : Check) (cs : List Check) (b : Bool) (n : Reason) (e : ℕ) → c.holds ≡ b → (first_broken cs ≡ broken n e → First cs n e)
     → decide c b (first_broken cs) ≡ broken n e → First (c ∷ cs) n e
 first_here c cs true n e h later d =
     let f = later d in
@@ -70,14 +71,14 @@ first_here c cs true n e h later d =
       split = ap (λ (l : List Check). c ∷ l) f.split;
       kept = (rw h tt, f.kept);
       fails = f.fails;
-      number = f.number;
+      reason = f.reason;
       element = f.element;
     }
 first_here c cs false n e h later d =
-    let same = broken_same c.number c.element n e d in
-    record { ahead = []; found = c; behind = cs; split = refl; kept = tt; fails = h; number = same.0; element = same.1 }
+    let same = broken_same c.reason c.element n e d in
+    record { ahead = []; found = c; behind = cs; split = refl; kept = tt; fails = h; reason = same.0; element = same.1 }
 
-pub broken_first : (cs : List Check) (n e : ℕ) → first_broken cs ≡ broken n e → First cs n e
+pub broken_first : (cs : List Check) (n : Reason) (e : ℕ) → first_broken cs ≡ broken n e → First cs n e
 broken_first [] n e d = let z : ◌≡◌ {A = ℕ} 0 1 = cc in absurd (omega arith)
 broken_first (c ∷ cs) n e d = first_here c cs c.holds n e refl (broken_first cs n e) d
 
@@ -95,18 +96,18 @@ broken_append [] ys = refl
 broken_append (c ∷ xs) ys = ap (decide c c.holds) (broken_append xs ys) ∙ decide_then c c.holds (first_broken xs) (first_broken ys)
 
 -- the same test of several elements depends on those elements alone
-pub each_same : (n a m : ℕ) (f g : ℕ → Bool) → ((k : ℕ) → a ≤ k → k < a + m → f k ≡ g k) → each n a m f ≡ each n a m g
+pub each_same : (n : Reason) (a m : ℕ) (f g : ℕ → Bool) → ((k : ℕ) → a ≤ k → k < a + m → f k ≡ g k) → each n a m f ≡ each n a m g
 each_same n a zero f g h = refl
 each_same n a (suc m) f g h =
     ap₂ (λ (t : Bool) (l : List Check). check n a t ∷ l) (h a (omega arith) (omega arith))
     (each_same n (suc a) m f g (λ k l u. h k (omega arith) (omega arith)))
 
-pub each_holds : (n a m : ℕ) (f : ℕ → Bool) → ((k : ℕ) → a ≤ k → k < a + m → f k ≡ true) → first_broken (each n a m f) ≡ Holds
+pub each_holds : (n : Reason) (a m : ℕ) (f : ℕ → Bool) → ((k : ℕ) → a ≤ k → k < a + m → f k ≡ true) → first_broken (each n a m f) ≡ Holds
 each_holds n a zero f h = refl
 each_holds n a (suc m) f h = rw (h a (omega arith) (omega arith)) (each_holds n (suc a) m f (λ k l u. h k (omega arith) (omega arith)))
 
 -- the least element that fails decides
-pub each_broken : (n a m k : ℕ) (f : ℕ → Bool) → ((j : ℕ) → a ≤ j → j < k → f j ≡ true) → a ≤ k → k < a + m → f k ≡ false
+pub each_broken : (n : Reason) (a m k : ℕ) (f : ℕ → Bool) → ((j : ℕ) → a ≤ j → j < k → f j ≡ true) → a ≤ k → k < a + m → f k ≡ false
     → first_broken (each n a m f) ≡ broken n k
 each_broken n a zero k f h l u e = absurd (omega arith)
 each_broken n a (suc m) k f h l u e =
@@ -115,7 +116,7 @@ each_broken n a (suc m) k f h l u e =
     (λ not-less. let same : a ≡ k = omega arith in let fails : f a ≡ false = ap f same ∙ e in rw fails (ap (broken n) same))
 
 -- elements that pass at the end do not matter
-pub each_upto : (n a m t : ℕ) (f : ℕ → Bool) → m ≤ t → ((k : ℕ) → a + m ≤ k → k < a + t → f k ≡ true)
+pub each_upto : (n : Reason) (a m t : ℕ) (f : ℕ → Bool) → m ≤ t → ((k : ℕ) → a + m ≤ k → k < a + t → f k ≡ true)
     → first_broken (each n a t f) ≡ first_broken (each n a m f)
 each_upto n a zero t f l h = each_holds n a t f (λ k p u. h k (omega arith) u)
 each_upto n a (suc m) zero f l h = absurd (omega arith)
@@ -123,7 +124,7 @@ each_upto n a (suc m) (suc t) f l h =
     ap (decide (check n a (f a)) (f a)) (each_upto n (suc a) m t f (omega arith) (λ k p u. h k (omega arith) (omega arith)))
 
 -- where the test of several is silent, each passes
-pub holds_each : (n a m : ℕ) (f : ℕ → Bool) → first_broken (each n a m f) ≡ Holds → (k : ℕ) → a ≤ k → k < a + m → f k ≡ true
+pub holds_each : (n : Reason) (a m : ℕ) (f : ℕ → Bool) → first_broken (each n a m f) ≡ Holds → (k : ℕ) → a ≤ k → k < a + m → f k ≡ true
 holds_each n a zero f e k l u = absurd (omega arith)
 holds_each n a (suc m) f e k l u =
     by_cases (dec_lt a k)
@@ -135,7 +136,7 @@ holds_each n a (suc m) f e k l u =
     truth false t = absurd t
 
 -- the one that decides fails, and is none before the first
-pub each_decides : (n a m : ℕ) (f : ℕ → Bool) (x e : ℕ) → first_broken (each n a m f) ≡ broken x e → (a ≤ e) × (f e ≡ false)
+pub each_decides : (n : Reason) (a m : ℕ) (f : ℕ → Bool) (x : Reason) (e : ℕ) → first_broken (each n a m f) ≡ broken x e → (a ≤ e) × (f e ≡ false)
 each_decides n a zero f x e d = let z : ◌≡◌ {A = ℕ} 0 1 = cc in absurd (omega arith)
 each_decides n a (suc m) f x e d = by (f a) refl (each_decides n (suc a) m f x e) d
   where
@@ -145,7 +146,7 @@ each_decides n a (suc m) f x e d = by (f a) refl (each_decides n (suc a) m f x e
     by false h later d = let z : a ≡ e = (broken_same n a x e d).1 in (omega arith, rw z at h)
 
 -- of two tests together the second decides, where the first passes so far
-pub each_under : (n a m : ℕ) (f g : ℕ → Bool) (x e : ℕ) → first_broken (each n a m g) ≡ broken x e → ((j : ℕ) → a ≤ j → j ≤ e → f j ≡ true)
+pub each_under : (n : Reason) (a m : ℕ) (f g : ℕ → Bool) (x : Reason) (e : ℕ) → first_broken (each n a m g) ≡ broken x e → ((j : ℕ) → a ≤ j → j ≤ e → f j ≡ true)
     → first_broken (each n a m (λ (k : ℕ). f k && g k)) ≡ broken x e
 each_under n a zero f g x e d all = d
 each_under n a (suc m) f g x e d all = by (g a) refl (each_under n (suc a) m f g x e) d
@@ -161,7 +162,7 @@ each_under n a (suc m) f g x e d all = by (g a) refl (each_under n (suc a) m f g
     by false h later d = rw (h, and_false (f a)) d
 
 -- and the first, where the second is silent
-pub each_silent : (n a m : ℕ) (f g : ℕ → Bool) → first_broken (each n a m g) ≡ Holds
+pub each_silent : (n : Reason) (a m : ℕ) (f g : ℕ → Bool) → first_broken (each n a m g) ≡ Holds
     → first_broken (each n a m (λ (k : ℕ). f k && g k)) ≡ first_broken (each n a m f)
 each_silent n a m f g e =
     ap first_broken (each_same n a m (λ (k : ℕ). f k && g k) f (λ k l u. rw (holds_each n a m g e k l u) (and_true (f k))))
@@ -176,11 +177,11 @@ first_holds Holds w e = refl
 first_holds (Err f) w e = e
 
 -- the same test along a list
-abbrev pub each_of : {A : Type 0} → ℕ → ℕ → (A → Bool) → List A → List Check
+abbrev pub each_of : {A : Type 0} → Reason → ℕ → (A → Bool) → List A → List Check
 each_of n a f [] = []
 each_of n a f (x ∷ l) = check n a (f x) ∷ each_of n (suc a) f l
 
-pub each_of_lem : {A : Type 0} (n a : ℕ) (f : A → Bool) (d : A) (l : List A) (test : ℕ → Bool) → ((k : ℕ) → k < length l → test (a + k) ≡ f (get_or l k d))
+pub each_of_lem : {A : Type 0} (n : Reason) (a : ℕ) (f : A → Bool) (d : A) (l : List A) (test : ℕ → Bool) → ((k : ℕ) → k < length l → test (a + k) ≡ f (get_or l k d))
     → each n a (length l) test ≡ each_of n a f l
 each_of_lem n a f d [] test h = refl
 each_of_lem n a f d (x ∷ l) test h =
@@ -189,13 +190,13 @@ each_of_lem n a f d (x ∷ l) test h =
     (each_of_lem n (suc a) f d l test (λ k u. let on : suc a + k ≡ a + suc k = omega arith in ap test on ∙ h (suc k) (omega arith)))
 
 -- where it is silent, every one of the list passes
-of_every : {A : Type 0} (n a : ℕ) (f : A → Bool) (l : List A) → first_broken (each_of n a f l) ≡ Holds → T (every f l)
+of_every : {A : Type 0} (n : Reason) (a : ℕ) (f : A → Bool) (l : List A) → first_broken (each_of n a f l) ≡ Holds → T (every f l)
 of_every n a f [] e = tt
 of_every n a f (x ∷ l) e =
     both (f x) (every f l) (test_by (check n a (f x)) (each_of n (suc a) f l) (f x) e)
     (of_every n (suc a) f l (rest_by (check n a (f x)) (each_of n (suc a) f l) (f x) e))
 
-pub each_every : {A : Type 0} (n : ℕ) (f : A → Bool) (d : A) (l : List A) → first_broken (each n 0 (length l) (λ (k : ℕ). f (get_or l k d))) ≡ Holds
+pub each_every : {A : Type 0} (n : Reason) (f : A → Bool) (d : A) (l : List A) → first_broken (each n 0 (length l) (λ (k : ℕ). f (get_or l k d))) ≡ Holds
     → T (every f l)
 each_every n f d l e =
     of_every n 0 f l

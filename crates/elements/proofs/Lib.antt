@@ -1,4 +1,5 @@
 pub mod FirstBroken
+pub mod Reasons
 pub mod Bytewise
 pub mod PresentPieces
 pub mod Endings

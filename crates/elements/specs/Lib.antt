@@ -1,3 +1,4 @@
+pub mod Reasons
 pub mod Data
 pub mod Checks
 pub mod Rules

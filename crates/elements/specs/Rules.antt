@@ -8,6 +8,7 @@ use Rattle.types.specs.Types.{fits}
 use Rattle.elements.specs.Data.{Value, Shape, Simple, Composite, Element, Note, Paired, Required, Conditional, Rules, ElementProfile, may}
 use Rattle.elements.specs.Checks.{Check, check, each}
 use Rattle.types.specs.declared.kind.Kind.TheVariants.{AN}
+use Rattle.elements.specs.declared.verdict.Reason.TheVariants.{BadByte, BadEnd, Missing, TooMany, Unfit, BrokenNote}
 
 -- 5, a byte that is neither data nor a separator; the tag is element 0. Where a view is looked into it holds no separator, so its bytes are data
 -- exactly if they are printable
@@ -15,7 +16,7 @@ abbrev pub data_piece : Piece → Bool
 data_piece p = every (every printable) p
 
 unfoldable pub data_checks : View → List Check
-data_checks v = each 5 0 (length v) (λ (k : ℕ). data_piece (element_of v k))
+data_checks v = each BadByte 0 (length v) (λ (k : ℕ). data_piece (element_of v k))
 
 -- BIN02 is not looked into
 unfoldable pub byte_checks : View → List Check
@@ -33,7 +34,7 @@ ends_well_of v k = cond (present (element_of v k)) (last_filled (element_of v k)
 
 -- 6: there is no element, or the last element is empty, or an element ends with an empty component
 unfoldable pub end_checks : View → List Check
-end_checks v = check 6 0 (leb 1 (element_count v)) ∷ each 6 1 (element_count v) (ends_well_of v)
+end_checks v = check BadEnd 0 (leb 1 (element_count v)) ∷ each BadEnd 1 (element_count v) (ends_well_of v)
 
 -- the rule of element k; of a number without a rule, one that nothing is asked of
 abbrev pub unruled : Element
@@ -62,7 +63,7 @@ absent_if unused p = not (unused && present p)
 
 -- 9: an element past the last ruled one, or a component too many, or an element that must be absent
 abbrev pub too_many_checks : Rules → (unused : ℕ → Bool) → View → List Check
-too_many_checks rules unused v = each 9 1 (element_count v) (λ (k : ℕ). few_by rules k (element_of v k) && absent_if (unused k) (element_of v k))
+too_many_checks rules unused v = each TooMany 1 (element_count v) (λ (k : ℕ). few_by rules k (element_of v k) && absent_if (unused k) (element_of v k))
 
 -- the first component has a byte
 abbrev pub first_filled : Piece → Bool
@@ -80,7 +81,7 @@ complete_by e p = (not e.must || present p) && headed e.shape p
 
 -- 8: an element that must be there is not
 abbrev pub missing_checks : Rules → View → List Check
-missing_checks rules v = each 8 1 (length rules.elements) (λ (k : ℕ). complete_by (rule_of rules k) (element_of v k))
+missing_checks rules v = each Missing 1 (length rules.elements) (λ (k : ℕ). complete_by (rule_of rules k) (element_of v k))
 
 -- a ruled element that is no composite has one component
 abbrev pub fits_simple : Value → Piece → Bool
@@ -104,7 +105,7 @@ suits_by e p = not (present p) || fits_shape e.shape p
 
 -- 10: an element that is there and does not fit its type or length; ST01 has one value, `842`
 abbrev pub unfit_checks : Rules → View → List Check
-unfit_checks rules v = each 10 1 (length rules.elements) (λ (k : ℕ). suits_by (rule_of rules k) (element_of v k))
+unfit_checks rules v = each Unfit 1 (length rules.elements) (λ (k : ℕ). suits_by (rule_of rules k) (element_of v k))
 
 -- whether the note holds, where `there` tells which elements are present
 abbrev pub note_holds : (ℕ → Bool) → Note → Bool
@@ -121,7 +122,7 @@ named_first (Conditional k ks) = k
 -- 11: the first note, as they are listed, that does not hold
 abbrev pub note_checks : List Note → (ℕ → Bool) → List Check
 note_checks [] there = []
-note_checks (n ∷ ns) there = check 11 (named_first n) (note_holds there n) ∷ note_checks ns there
+note_checks (n ∷ ns) there = check BrokenNote (named_first n) (note_holds there n) ∷ note_checks ns there
 
 -- whether element k is present
 abbrev pub present_at : View → ℕ → Bool

@@ -4,7 +4,7 @@ ghost use Rattle.elements.specs.internal.Layouts.{components_in};
 ghost use Rattle.elements.specs.internal.Verdicts.{rules_of, elements_verdict, Reached};
 
 use crate::layout::Parts;
-use crate::verdict::{Fault, Verdict};
+use crate::verdict::{Reason, Verdict};
 use crate::{components, rules};
 
 // Answers 8 and 10 of the elements up to `upto`: the first that is incomplete, or else the first that does not suit.
@@ -18,7 +18,7 @@ fn elements_verdict(parts: Parts, component: u8, tag: u8, upto: usize) -> Verdic
         let rule = rules::rule_of(tag, k);
         let p = parts.element(k);
         if !components::is_complete(rule, single, component, p) {
-            return Err(Fault::missing(k));
+            return Err(Reason::Missing.at_element(k));
         }
         if unfit.is_none() && !components::is_suited(rule, single, component, p) {
             unfit = Some(k);
@@ -26,7 +26,7 @@ fn elements_verdict(parts: Parts, component: u8, tag: u8, upto: usize) -> Verdic
     }
     match unfit {
         None => Ok(()),
-        Some(k) => Err(Fault::unfit(k)),
+        Some(k) => Err(Reason::Unfit.at_element(k)),
     }
 }
 
@@ -38,6 +38,8 @@ fn reach(count: usize, needed: usize, last: usize) -> usize
 }
 
 // Answers 8 and 10 of a segment with that tag.
+// Not inlined: it is seldom asked, and the reader's loop keeps more in registers without it.
+#[inline(never)]
 pub fn fitting_verdict(parts: Parts, component: u8, tag: u8) -> Verdict
     ensures { result ≡ elements_verdict (rules_of tag)
         (components_in parts.entry.bytes.now parts.entry.starts.now parts.entry.layout component) (length (rules_of tag).elements) }

@@ -4,7 +4,7 @@ ghost use Rattle.text.specs.View.{plain_view};
 ghost use Rattle.elements.specs.Checks.{first_broken};
 ghost use Rattle.elements.specs.Rules.{data_checks, end_checks};
 
-use crate::verdict::{Fault, Verdict};
+use crate::verdict::{Reason, Verdict};
 use text::separators::Separators;
 
 // Answer 5: the first element with a byte that is neither data nor a separator; the tag is 0.
@@ -22,7 +22,7 @@ pub fn byte_verdict(segment: &[u8], separators: Separators) -> Verdict
         if b == element {
             k += 1;
         } else if !((b == component) | ((32 <= b) & (b <= 126))) {
-            return Err(Fault::byte(k));
+            return Err(Reason::BadByte.at_element(k));
         }
     }
     Ok(())
@@ -45,7 +45,7 @@ pub fn end_verdict(segment: &[u8], separators: Separators) -> Verdict
         let b = *b;
         if b == element {
             if (k != 0) & hollow & !bare {
-                return Err(Fault::ending(k));
+                return Err(Reason::BadEnd.at_element(k));
             }
             k += 1;
             bare = true;
@@ -56,7 +56,7 @@ pub fn end_verdict(segment: &[u8], separators: Separators) -> Verdict
         }
     }
     if (k == 0) | bare | hollow {
-        return Err(Fault::ending(k));
+        return Err(Reason::BadEnd.at_element(k));
     }
     Ok(())
 }

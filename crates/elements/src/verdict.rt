@@ -1,62 +1,76 @@
-// What the rules of a segment find, and the answers that tell it.
+// What the rules of a segment find, and why a transaction is refused.
 ghost use Rattle.std.specs.Prelude.{◌≡◌};
+ghost use Rattle.elements.specs.Reasons.{number_of};
+// Why a transaction is refused: the answers but 0, by their numbers.
+#[derive(Clone, Copy, Debug, Drop, PartialEq, Eq)]
+pub enum Reason {
+    // A separator may not serve as one, or two are the same.
+    UnfitSeparators = 1,
+    // The input is longer than a reading takes.
+    TooLong = 2,
+    // The bytes end before the segment does.
+    Unended = 3,
+    // The tag is none of the list.
+    UnknownTag = 4,
+    // A byte is neither data nor a separator.
+    BadByte = 5,
+    // No element, or the last element or a last component is empty.
+    BadEnd = 6,
+    // No row may follow with this tag.
+    NoRow = 7,
+    // A mandatory element is missing.
+    Missing = 8,
+    // An element or a component too many.
+    TooMany = 9,
+    // An element's type or length does not fit.
+    Unfit = 10,
+    // A note on elements that belong together is broken.
+    BrokenNote = 11,
+    // An earlier level has this HL01.
+    RepeatedName = 12,
+    // No earlier level has the HL01 that HL02 names.
+    UnknownParent = 13,
+    // The code is unknown, or the level may not stand or hang so.
+    BadCode = 14,
+    // A mark does not fit.
+    BadMark = 15,
+    // The SE closes another transaction.
+    BadClose = 16,
+    // A table has no room for a record.
+    NoRoom = 17,
+    // A data byte equals a new separator.
+    Collision = 18,
+    // The output is shorter than the transaction.
+    ShortOutput = 19,
+    // The profile does not admit the row.
+    ForeignRow = 24,
+}
 
-// The first rule that does not hold: the answer's number, and the element it names.
+impl Reason {
+    // The number of the answer.
+    pub fn number(self) -> usize
+        ensures { result ≡ number_of self }
+    {
+        self as usize
+    }
+
+    // The fault for this reason that names the element; 0 is the tag, or that none is named.
+    pub fn at_element(self, element: usize) -> Fault
+        ensures { result ≡ record { reason = self; element = element } }
+    {
+        Fault {
+            reason: self,
+            element,
+        }
+    }
+}
+
+// The first rule that does not hold: the answer's reason, and the element it names.
 #[derive(Clone, Copy, Debug, Drop, PartialEq, Eq)]
 pub struct Fault {
-    pub number: usize,
+    pub reason: Reason,
     pub element: usize,
 }
 
 // What a group of rules says of a segment.
 pub type Verdict = Result<(), Fault>;
-
-impl Fault {
-    // A byte that is neither data nor a separator.
-    pub(crate) fn byte(element: usize) -> Fault
-        ensures { result ≡ record { number = 5; element = element } }
-    {
-        Fault { number: 5, element }
-    }
-
-    // An element that ends with an empty component, or an empty last element.
-    pub(crate) fn ending(element: usize) -> Fault
-        ensures { result ≡ record { number = 6; element = element } }
-    {
-        Fault { number: 6, element }
-    }
-
-    // An element that has to be there, or its first component.
-    pub(crate) fn missing(element: usize) -> Fault
-        ensures { result ≡ record { number = 8; element = element } }
-    {
-        Fault { number: 8, element }
-    }
-
-    // An element that must not be there, or a component too many.
-    pub fn surplus(element: usize) -> Fault
-        ensures { result ≡ record { number = 9; element = element } }
-    {
-        Fault { number: 9, element }
-    }
-
-    // An element that does not fit its type or length.
-    pub(crate) fn unfit(element: usize) -> Fault
-        ensures { result ≡ record { number = 10; element = element } }
-    {
-        Fault {
-            number: 10,
-            element,
-        }
-    }
-
-    // A note that does not hold, by the element it names first.
-    pub fn note(element: usize) -> Fault
-        ensures { result ≡ record { number = 11; element = element } }
-    {
-        Fault {
-            number: 11,
-            element,
-        }
-    }
-}

@@ -16,7 +16,7 @@ use Rattle.gate.specs.Records.{Tables}
 use Rattle.gate.specs.Reads.{Reads}
 use Rattle.gate.specs.declared.how.How.{How}
 use Rattle.rewriting.specs.Rewrites.{Rewrites}
-use Rattle.outline.specs.Walks.{Walked, Walks}
+use Rattle.outline.specs.Walks.{Walked, number_of, Walks}
 
 -- three bytes as separators
 abbrev pub separators_of : ℕ → ℕ → ℕ → Separators
@@ -54,7 +54,7 @@ pub record ToldAgain (profile : ProfileName) (old new : Separators) (s : Bytes) 
 -- the two numbers of a walk's answer: 0 with the count of levels, or the refusal with the level
 abbrev pub walk_numbers : Walked → List ℕ
 walk_numbers (Ok levels) = 0 ∷ levels ∷ []
-walk_numbers (Err u) = u.number ∷ u.level ∷ []
+walk_numbers (Err u) = number_of u.reason ∷ u.level ∷ []
 
 -- a walk, told by the two numbers of its answer
 pub record ToldWalk (levels : List ℕ) (count : ℕ) (before after : List ℕ) (two : List ℕ) : Type 0 where

@@ -75,7 +75,7 @@ fn four(answer: Answer) -> [u64; 4]
             accepted.bytes as u64,
         ],
         Err(refusal) => [
-            refusal.number as u64,
+            refusal.reason.number() as u64,
             refusal.segment as u64,
             refusal.byte as u64,
             refusal.element as u64,
@@ -89,7 +89,7 @@ fn pair(walked: Walked) -> [u64; 2]
 {
     match walked {
         Ok(levels) => [0, levels as u64],
-        Err(unlisted) => [unlisted.number as u64, unlisted.level as u64],
+        Err(unlisted) => [unlisted.reason.number() as u64, unlisted.level as u64],
     }
 }
 

@@ -1,6 +1,8 @@
 -- The answers, as document 01 numbers them.
 -- Assumes nothing.
 use Rattle.std.specs.Prelude.{ℕ, ◌≤◌, ◌≡◌, ◌⊎◌, List, [], ◌∷◌, Result, Ok, Err}
+use Rattle.elements.specs.declared.verdict.Reason.{Reason}
+use Rattle.elements.specs.Reasons.{number_of}
 use Rattle.rows.specs.declared.profile.ProfileName.{ProfileName}
 use Rattle.rows.specs.declared.profile.ProfileName.TheVariants.{Reply}
 use Rattle.gate.specs.declared.answer.Accepted.{Accepted}
@@ -14,15 +16,15 @@ Answer = Result Accepted Refusal
 abbrev pub accepted : ℕ → ℕ → ℕ → Answer
 accepted segments levels bytes = Ok (record { segments = segments; levels = levels; bytes = bytes })
 
--- the refusal with this number, at this place
-abbrev pub refused : ℕ → ℕ → ℕ → ℕ → Answer
-refused number segment byte element = Err (record { number = number; segment = segment; byte = byte; element = element })
+-- the refusal for this reason, at this place
+abbrev pub refused : Reason → ℕ → ℕ → ℕ → Answer
+refused reason segment byte element = Err (record { reason = reason; segment = segment; byte = byte; element = element })
 
 -- the four numbers of an answer: 0 with segments, levels and bytes; or the refusal with the segment, the byte where it starts, and the
 -- element
 abbrev pub numbers_of : Answer → List ℕ
 numbers_of (Ok a) = 0 ∷ a.segments ∷ a.levels ∷ a.bytes ∷ []
-numbers_of (Err r) = r.number ∷ r.segment ∷ r.byte ∷ r.element ∷ []
+numbers_of (Err r) = number_of r.reason ∷ r.segment ∷ r.byte ∷ r.element ∷ []
 
 -- an acceptance
 abbrev pub IsAccepted : Answer → Type 0
@@ -42,4 +44,4 @@ pub record RowNotInProfile (profile : ProfileName) (number : ℕ) : Type 0 where
 -- the list of a reading's answers: acceptance, and refusals 1 to 17, of a reply 24 too
 abbrev pub Listed : ProfileName → Answer → Type 0
 Listed profile (Ok a) = Unit {0}
-Listed profile (Err r) = (1 ≤ r.number) × ((r.number ≤ 17) ⊎ RowNotInProfile profile r.number)
+Listed profile (Err r) = (1 ≤ number_of r.reason) × ((number_of r.reason ≤ 17) ⊎ RowNotInProfile profile (number_of r.reason))

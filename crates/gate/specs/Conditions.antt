@@ -6,6 +6,8 @@ use Rattle.text.specs.Bytes.{Bytes}
 use Rattle.text.specs.Separators.{fit_separators}
 use Rattle.text.specs.View.{View}
 use Rattle.text.specs.Cut.{Cut, Whole, Stop, Placed, Leads}
+use Rattle.elements.specs.Reasons.{number_of}
+use Rattle.elements.specs.declared.verdict.Reason.{Reason}
 use Rattle.levels.specs.Widths.{segment_width}
 use Rattle.levels.specs.Levels.{level_at}
 use Rattle.gate.specs.Profile.{Profile, profile_of}
@@ -134,14 +136,14 @@ pub record Continues (how : How) (s : Bytes) (k b : ℕ) : Type 0 where
 pub record Condition3 : Type 0 where
   -- when segment k is refused for a fault, the same refusal stands whatever bytes follow that segment within the length limit and with any larger
   -- tables,
-  pub refusal_final : (how : How) (s : Bytes) (before : Tables) (number k byte element : ℕ) (after : Tables) → Fault number
-      → Reads how s before (refused number k byte element) after → Final how before (up_to_segment how s byte) (refused number k byte element)
+  pub refusal_final : (how : How) (s : Bytes) (before : Tables) (reason : Reason) (k byte element : ℕ) (after : Tables) → Fault (number_of reason)
+      → Reads how s before (refused reason k byte element) after → Final how before (up_to_segment how s byte) (refused reason k byte element)
   -- the input being one of those that begin so;
-  pub refusal_begins : (how : How) (s : Bytes) (before : Tables) (number k byte element : ℕ) (after : Tables) → Fault number
-      → Reads how s before (refused number k byte element) after → BeginsWith (up_to_segment how s byte) s
+  pub refusal_begins : (how : How) (s : Bytes) (before : Tables) (reason : Reason) (k byte element : ℕ) (after : Tables) → Fault (number_of reason)
+      → Reads how s before (refused reason k byte element) after → BeginsWith (up_to_segment how s byte) s
   -- and the segments before k can be continued to a transaction that meets every rule, with length and room set aside;
-  pub refusal_not_early : (how : How) (s : Bytes) (before : Tables) (number k byte element : ℕ) (after : Tables) → Fault number
-      → Reads how s before (refused number k byte element) after → Continues how s k byte
+  pub refusal_not_early : (how : How) (s : Bytes) (before : Tables) (reason : Reason) (k byte element : ℕ) (after : Tables) → Fault (number_of reason)
+      → Reads how s before (refused reason k byte element) after → Continues how s k byte
   -- an acceptance likewise stands under more bytes, within the length limit, and more room
   pub acceptance_final : (how : How) (s : Bytes) (before : Tables) (segments levels bytes : ℕ) (after : Tables)
       → Reads how s before (accepted segments levels bytes) after → Final how before (take bytes s) (accepted segments levels bytes)

@@ -8,6 +8,9 @@ use Rattle.text.specs.Cut.{Cut, Whole, Stop, cut_of, skip_of, Placed, Leads}
 use Rattle.rows.specs.Rows.{Viable, list842}
 use Rattle.rows.specs.RowList.{tag_of}
 use Rattle.rows.specs.RowSets.{Within}
+use Rattle.elements.specs.Reasons.{number_of}
+use Rattle.elements.specs.declared.verdict.Reason.{Reason}
+use Rattle.elements.specs.declared.verdict.Reason.TheVariants.{NoRoom}
 use Rattle.gate.specs.Profile.{Profile, profile_of}
 use Rattle.gate.specs.Segments.{tag_in_of, is_se, seen, onto, levels_in}
 use Rattle.gate.specs.Answers.{Answer, numbers_of}
@@ -48,17 +51,17 @@ module _ (profile : Profile) (how : How) (t : Tables) (gs : List Placed) (rows :
   rules_next segment = rules profile rows earlier (view_of how.separators segment)
 
   -- 3, and 10 of a BIN: the cut finds no segment
-  pub record Stopped (number element : ℕ) : Type 0 where
+  pub record Stopped (reason : Reason) (element : ℕ) : Type 0 where
     pub upto : Bytes
     pub more : Bytes
-    pub stops : cut_by how rest ≡ Stop number element upto more
+    pub stops : cut_by how rest ≡ Stop (number_of reason) element upto more
 
   -- 4 to 16 and 24: the next segment breaks a rule, and this is the first
-  pub record Breaks (number element : ℕ) : Type 0 where
+  pub record Breaks (reason : Reason) (element : ℕ) : Type 0 where
     pub segment : Bytes
     pub more : Bytes
     pub next : cut_by how rest ≡ Whole segment more
-    pub first : FirstBroken (rules_next segment) number element
+    pub first : FirstBroken (rules_next segment) reason element
 
   -- the next segment keeps every rule and has this row
   pub record Keeping (segment : Bytes) (row : ℕ) : Type 0 where
@@ -71,12 +74,12 @@ module _ (profile : Profile) (how : How) (t : Tables) (gs : List Placed) (rows :
   RoomWith segment = Room profile t (view_of how.separators segment ∷ earlier)
 
   -- 17: every rule holds, and a table has no room for a record
-  pub record Full (number element : ℕ) : Type 0 where
+  pub record Full (reason : Reason) (element : ℕ) : Type 0 where
     pub segment : Bytes
     pub row : ℕ
     pub keeping : Keeping segment row
     pub no_room : RoomWith segment → ⊥
-    pub number_is : number ≡ 17
+    pub reason_is : reason ≡ NoRoom
     pub element_is : element ≡ 0
 
   -- 0: the next segment is an SE, every rule holds, and there is room; its terminator ends the transaction. `kept` are the segments that have
@@ -93,12 +96,12 @@ module _ (profile : Profile) (how : How) (t : Tables) (gs : List Placed) (rows :
 
   -- a refusal: only what was passed has records, and the four numbers are the answer's number, the next segment, where it starts, and the element
   pub record Refuses (four : List ℕ) (kept : List Placed) (numbers : List ℕ) : Type 0 where
-    pub number : ℕ
+    pub reason : Reason
     pub element : ℕ
-    pub cause : Stopped number element ⊎ (Breaks number element ⊎ Full number element)
+    pub cause : Stopped reason element ⊎ (Breaks reason element ⊎ Full reason element)
     pub kept_is : kept ≡ gs
     pub numbers_is : numbers ≡ rows
-    pub place : four ≡ number ∷ (length gs + 1) ∷ end ∷ element ∷ []
+    pub place : four ≡ number_of reason ∷ (length gs + 1) ∷ end ∷ element ∷ []
 
   abbrev pub Ends : Answer → List Placed → List ℕ → Type 0
   Ends (Ok a) kept numbers = Accepts (numbers_of (Ok a)) kept numbers

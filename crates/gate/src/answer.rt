@@ -1,4 +1,5 @@
 // What a reading answers.
+use elements::verdict::Reason;
 
 // Answer 0: how many segments and levels there are, and how many bytes the transaction takes.
 #[derive(Clone, Copy, Debug, Drop, PartialEq, Eq)]
@@ -8,10 +9,10 @@ pub struct Accepted {
     pub bytes: usize,
 }
 
-// Any other answer: its number, the segment, the byte where that segment starts, and the element.
+// Any other answer: its reason, which has the answer's number, the segment, the byte where that segment starts, and the element.
 #[derive(Clone, Copy, Debug, Drop, PartialEq, Eq)]
 pub struct Refusal {
-    pub number: usize,
+    pub reason: Reason,
     pub segment: usize,
     pub byte: usize,
     pub element: usize,

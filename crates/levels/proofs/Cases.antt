@@ -12,6 +12,7 @@ use Rattle.levels.specs.Levels.{Claim, Level, levels_of}
 use Rattle.levels.specs.Rules.{filled}
 use Rattle.levels.specs.internal.Answers.{breaks, judged}
 use Rattle.levels.specs.declared.judging.Entitled.{Entitled}
+use Rattle.elements.specs.declared.verdict.Reason.TheVariants.{RepeatedName, UnknownParent, BadCode, BadMark}
 
 -- the five codes of a report
 abbrev five : List String
@@ -74,20 +75,20 @@ pub answers_after_report : answers (
     ∷ says "2" "" "I" "1"
     ∷ [])
     ≡ makes 1 2 2
-    ∷ breaks 12 1
-    ∷ breaks 13 2
-    ∷ breaks 13 2
-    ∷ breaks 14 3
-    ∷ breaks 14 3
-    ∷ breaks 14 2
-    ∷ breaks 15 4
+    ∷ breaks RepeatedName 1
+    ∷ breaks UnknownParent 2
+    ∷ breaks UnknownParent 2
+    ∷ breaks BadCode 3
+    ∷ breaks BadCode 3
+    ∷ breaks BadCode 2
+    ∷ breaks BadMark 4
     ∷ makes 0 1 2
     ∷ []
 unfolding code_of may_stand_alone may_be_marked may_hang judged
 answers_after_report = refl
 
 -- a child of a parent marked 0 is refused at the child
-pub answer_under_shut : judged nonconformance (levels_of nonconformance ((3, says "1" "" "RP" "0") ∷ [])) (says "2" "1" "I" "") ≡ breaks 15 2
+pub answer_under_shut : judged nonconformance (levels_of nonconformance ((3, says "1" "" "RP" "0") ∷ [])) (says "2" "1" "I" "") ≡ breaks BadMark 2
 unfolding code_of may_stand_alone may_be_marked may_hang judged
 answer_under_shut = refl
 

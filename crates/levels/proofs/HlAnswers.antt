@@ -16,6 +16,7 @@ use Rattle.levels.specs.Rules.{root_checks, child_checks, level_checks}
 use Rattle.levels.specs.internal.Answers.{breaks, judged_by, judged, entitled, judged_root, judged_child, as_parent}
 use Rattle.levels.specs.declared.judging.Entitled.{Entitled}
 use Rattle.levels.proofs.CalledLevel.{level_nobody}
+use Rattle.elements.specs.declared.verdict.Reason.TheVariants.{RepeatedName, UnknownParent}
 
 -- an answer is that of its verdict and of what it makes of the level
 same_answer : {v w : Verdict} {d e : Entitled} → v ≡ w → d ≡ e → judged_by v d ≡ judged_by w e
@@ -23,7 +24,7 @@ same_answer p q = λ i. judged_by (p i) (q i)
 
 module _ (profile : LevelProfile) (ls : List Level) (c : Claim) where
   -- 12
-  pub judged_used : (n : ℕ) → n ≡ called c.id ls → (n ≡ 0 → ⊥) → breaks 12 1 ≡ judged profile ls c
+  pub judged_used : (n : ℕ) → n ≡ called c.id ls → (n ≡ 0 → ⊥) → breaks RepeatedName 1 ≡ judged profile ls c
   unfolding judged
   judged_used n e h = rw (← e, ne_eqb n 0 h)
 
@@ -41,7 +42,7 @@ module _ (profile : LevelProfile) (ls : List Level) (c : Claim) where
 
     module _ (above : ℕ) (a : above ≡ called c.parent ls) (some : length c.parent ≡ 0 → ⊥) where
       -- 13
-      pub judged_nobody : above ≡ 0 → breaks 13 2 ≡ judged profile ls c
+      pub judged_nobody : above ≡ 0 → breaks UnknownParent 2 ≡ judged profile ls c
       unfolding judged
       judged_nobody z = rw (fresh, ne_eqb (length c.parent) 0 some, ← a, z)
 

@@ -5,6 +5,7 @@ use Rattle.text.specs.Bytes.{Bytes, bytes, any, same}
 use Rattle.elements.specs.Checks.{Check, check}
 use Rattle.levels.specs.Profile.{LevelProfile, code_of, may_stand_alone, may_be_marked, may_hang}
 use Rattle.levels.specs.Levels.{Claim, Level, called, level_at, parent_of}
+use Rattle.elements.specs.declared.verdict.Reason.TheVariants.{RepeatedName, UnknownParent, BadCode, BadMark}
 
 -- an empty element is absent
 abbrev pub absent : Bytes → Bool
@@ -18,31 +19,31 @@ mark_fits profile code mark = absent mark || same mark (bytes "0") || (same mark
 abbrev pub root_checks : LevelProfile → ℕ → Bytes → List Check
 root_checks profile code mark =
     -- 14: the code is unknown, or the level may not stand without a parent
-    check 14 3 (leb 1 code && may_stand_alone profile code)
+    check BadCode 3 (leb 1 code && may_stand_alone profile code)
     -- 15: its own mark is unfit
-    ∷ check 15 4 (mark_fits profile code mark)
+    ∷ check BadMark 4 (mark_fits profile code mark)
     ∷ []
 
 -- 14 and 15 of a level under a parent of the code `parent`, which is marked 0 (`shut`) or is not
 abbrev pub child_checks : LevelProfile → ℕ → Bool → ℕ → Bytes → List Check
 child_checks profile parent shut code mark =
     -- 14: the code is unknown
-    check 14 3 (leb 1 code)
+    check BadCode 3 (leb 1 code)
     -- 14: the pair is not permitted
-    ∷ check 14 2 (may_hang profile parent code)
+    ∷ check BadCode 2 (may_hang profile parent code)
     -- 15: the parent is marked 0
-    ∷ check 15 2 (not shut)
+    ∷ check BadMark 2 (not shut)
     -- 15: its own mark is unfit
-    ∷ check 15 4 (mark_fits profile code mark)
+    ∷ check BadMark 4 (mark_fits profile code mark)
     ∷ []
 
 -- the tests of an HL after the levels ls
 abbrev pub level_checks : LevelProfile → List Level → Claim → List Check
 level_checks profile ls c =
     -- 12: HL01 was used before
-    check 12 1 (eqb (called c.id ls) 0)
+    check RepeatedName 1 (eqb (called c.id ls) 0)
     -- 13: HL02 names no earlier level
-    ∷ check 13 2 (absent c.parent || leb 1 (called c.parent ls))
+    ∷ check UnknownParent 2 (absent c.parent || leb 1 (called c.parent ls))
     -- 14 and 15: where HL02 is absent those of a level without a parent, else those of a level under the one that HL02 names
     ∷ cond (absent c.parent) (root_checks profile (code_of profile c.code) c.mark)
     (child_checks profile (level_at (parent_of c ls) ls).code (same (level_at (parent_of c ls) ls).mark (bytes "0")) (code_of profile c.code) c.mark)

@@ -8,7 +8,7 @@ ghost use Rattle.levels.specs.internal.Answers.{judged_root, judged_child};
 
 use crate::codes::Code;
 use crate::{codes, marks};
-use elements::verdict::{Fault, Verdict};
+use elements::verdict::{Fault, Reason, Verdict};
 use rows::profile::ProfileName;
 
 // What an HL that breaks no rule makes of its level: the parent's level number, 0 for none, the depth, the code's number.
@@ -28,20 +28,20 @@ pub struct Parent {
     pub below: usize,
 }
 
-// Answer 14 of a code that the profile does not know.
+// A code that the profile does not know.
 const UNKNOWN: Fault = Fault {
-    number: 14,
+    reason: Reason::BadCode,
     element: 3,
 };
 
-// What one rule says: that it holds, or else the answer's number and the element it names.
-fn rule(number: usize, element: usize, holds: bool) -> Verdict
-    ensures { result ≡ first_broken (check number element holds ∷ []) }
+// What one rule says: that it holds, or else the answer's reason and the element it names.
+fn rule(reason: Reason, element: usize, holds: bool) -> Verdict
+    ensures { result ≡ first_broken (check reason element holds ∷ []) }
 {
     if holds {
         Ok(())
     } else {
-        Err(Fault { number, element })
+        Err(Fault { reason, element })
     }
 }
 
@@ -49,17 +49,21 @@ fn rule(number: usize, element: usize, holds: bool) -> Verdict
 fn root_verdict(profile: ProfileName, own: Code, mark: &[u8]) -> Verdict
     ensures { result ≡ first_broken (root_checks (level_profile profile) (number own) mark.now) }
 {
-    rule(14, 3, codes::may_stand_alone(profile, own))?;
-    rule(15, 4, marks::mark_fits(profile, mark, own))
+    rule(Reason::BadCode, 3, codes::may_stand_alone(profile, own))?;
+    rule(Reason::BadMark, 4, marks::mark_fits(profile, mark, own))
 }
 
 // Answers 14 and 15 of a level of the code under this parent.
 fn child_verdict(profile: ProfileName, parent: Parent, own: Code, mark: &[u8]) -> Verdict
     ensures { result ≡ first_broken (child_checks (level_profile profile) parent.code parent.shut (number own) mark.now) }
 {
-    rule(14, 2, codes::may_hang(profile, parent.code, own))?;
-    rule(15, 2, !parent.shut)?;
-    rule(15, 4, marks::mark_fits(profile, mark, own))
+    rule(
+        Reason::BadCode,
+        2,
+        codes::may_hang(profile, parent.code, own),
+    )?;
+    rule(Reason::BadMark, 2, !parent.shut)?;
+    rule(Reason::BadMark, 4, marks::mark_fits(profile, mark, own))
 }
 
 // What an HL that names no parent makes of its level, by its code and mark, or the first rule that it breaks.

@@ -6,13 +6,11 @@ use mathlib.Core.Bool.{Bool, true, false, not, ◌||◌, true≢false}
 use mathlib.Core.Logic.{inl, inr, ⊎_elim}
 use mathlib.Core.List.{List}
 use Rattle.std.specs.Prelude.{Option, Some, None, MatchOption}
-use native.Mathlib.Nat.{eq-or-lt_of_le}
-use native.Mathlib.Numerals.{add-one}
 use native.Mathlib.Omega.{arith}
 use lib.Dec.{eqb, leb, ltb}
 use borrow.Author.Tests.{ltb-false, leb-false, eqb-true, eqb-false, le-ltb, lt-leb}
 use Rattle.outline.specs.Outline.{parent_in, depth_in}
-use Rattle.outline.specs.Walks.{Fit, FitTable}
+use Rattle.outline.specs.Walks.{Fit}
 use Rattle.outline.specs.internal.Fitting.{Decides, FirstUnfit}
 
 none_of : (a b c : Bool) → (a || b) || c ≡ false → (a ≡ false) × (b ≡ false) × (c ≡ false)

@@ -7,6 +7,7 @@ use mathlib.Core.List.{List}
 use native.Mathlib.Omega.{arith}
 use native.Mathlib.Decide.{dec_lt}
 use Rattle.gate.specs.Records.{over}
+use Rattle.outline.specs.declared.answer.Reason.TheVariants.{UnfitTable}
 use Rattle.outline.specs.Walks.{Walked, unlisted, FitTable, room_of, Unfit, TooShort, Lists, Walks}
 use Rattle.outline.proofs.Orders.{outline_once}
 
@@ -49,7 +50,7 @@ module _ (t : List ℕ) (count : ℕ) (before : List ℕ) where
 
     room_once : WithRoom r after → WithRoom r' after' → Same
     room_once (inl x) (inl y) = (
-      x.answer ∙ ap (λ (n : ℕ). unlisted 20 n) (first_once r r' after after' x y) ∙ sym y.answer,
+      x.answer ∙ ap (λ (n : ℕ). unlisted UnfitTable n) (first_once r r' after after' x y) ∙ sym y.answer,
       x.unchanged ∙ sym y.unchanged,
     )
     room_once (inl x) (inr v) = absurd (x.unfit (is_fit r' after' v x.level x.from x.upto))

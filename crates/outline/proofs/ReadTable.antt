@@ -32,7 +32,8 @@ use Rattle.gate.proofs.whole.AllLevels.{Leveled, from_kept}
 use Rattle.gate.proofs.conditions.Accepting.{accepted_transaction}
 use Rattle.gate.proofs.conditions.Conditions.{accepted_proper}
 use Rattle.outline.specs.Outline.{parent_in, depth_in}
-use Rattle.outline.specs.Walks.{Walked, unlisted, Top, Hangs, Fit, FitTable, room_of, Walks}
+use Rattle.outline.specs.declared.answer.Reason.TheVariants.{UnfitTable}
+use Rattle.outline.specs.Walks.{Walked, number_of, unlisted, Top, Hangs, Fit, FitTable, room_of, Walks}
 
 -- four numbers a level
 records_length : (ls : List Level) → length (records_of ls) ≡ level_width * length ls
@@ -146,11 +147,11 @@ accepted_fit how s before segments levels bytes after reads =
 -- the number of a walk's answer
 abbrev number_told : Walked → ℕ
 number_told (Ok levels) = 0
-number_told (Err u) = u.number
+number_told (Err u) = number_of u.reason
 
 -- so a walk over it is never refused with 20
 pub accepted_walks : (how : How) (s : Bytes) (before : Tables) (segments levels bytes : ℕ) (after : Tables) → Reads how s before (accepted segments levels bytes) after
-    → (output : List ℕ) (level : ℕ) (then : List ℕ) → Walks after.levels levels output (unlisted 20 level) then → ⊥
+    → (output : List ℕ) (level : ℕ) (then : List ℕ) → Walks after.levels levels output (unlisted UnfitTable level) then → ⊥
 accepted_walks how s before segments levels bytes after reads output level then walks =
     let fit = accepted_fit how s before segments levels bytes after reads in
     elim walks [

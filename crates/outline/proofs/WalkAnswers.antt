@@ -1,16 +1,13 @@
 -- The answers of a walk that goes on from the test of the room: an unfit level, an output that is too short, and the whole list.
 -- Assumes nothing.
-use Prim.Native.Nat.{ℕ, zero, suc, ◌<◌, ◌≤◌}
-use mathlib.Core.Path.{◌≡◌, refl, ap, ◌∙◌}
-use mathlib.Core.Logic.{inl, inr}
+use Prim.Native.Nat.{ℕ, ◌≤◌}
+use mathlib.Core.Path.{◌≡◌, refl, ◌∙◌}
 use mathlib.Core.List.{List}
 use native.Mathlib.Omega.{arith}
 use lib.ListN.{length}
 use lib.Seq.{sets}
-use Rattle.outline.specs.Walks.{FitTable, Lists, room_of, Walks, unlisted}
-use Rattle.std.specs.Prelude.{Ok, Err}
-use Rattle.outline.specs.declared.answer.Unlisted.{Unlisted}
-use Rattle.outline.specs.internal.Fitting.{Unlistable}
+use Rattle.outline.specs.Walks.{FitTable, Lists, room_of}
+use Rattle.std.specs.Prelude.{Ok}
 use Rattle.outline.specs.internal.Listing.{listed}
 use Rattle.outline.proofs.ListedOrder.{listed_outline, listed_length}
 use Rattle.outline.proofs.Stores.{sets_over}

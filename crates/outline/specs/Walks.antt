@@ -4,15 +4,22 @@ use Rattle.std.specs.Prelude.{ℕ, ◌+◌, ◌/◌, ◌<◌, ◌≤◌, ◌≡�
 use Rattle.levels.specs.Widths.{level_width}
 use Rattle.gate.specs.Records.{over}
 use Rattle.outline.specs.Outline.{parent_in, depth_in, Outline}
+use Rattle.outline.specs.declared.answer.Reason.{Reason}
+use Rattle.outline.specs.declared.answer.Reason.TheVariants.{UnfitTable, ShortOutput}
 use Rattle.outline.specs.declared.answer.Unlisted.{Unlisted}
+
+-- the numbers of the answers that refuse
+abbrev pub number_of : Reason → ℕ
+number_of UnfitTable = 20
+number_of ShortOutput = 21
 
 -- an answer: how many levels are listed, or why none is
 abbrev pub Walked : Type 0
 Walked = Result ℕ Unlisted
 
--- refused with this number, for this level
-abbrev pub unlisted : (number level : ℕ) → Walked
-unlisted number level = Err (record { number = number; level = level })
+-- refused for this reason, and for this level
+abbrev pub unlisted : Reason → ℕ → Walked
+unlisted reason level = Err (record { reason = reason; level = level })
 
 -- level k has no parent, and depth 1
 pub record Top (t : List ℕ) (k : ℕ) : Type 0 where
@@ -42,7 +49,7 @@ module _ (t : List ℕ) (count : ℕ) (before : List ℕ) (r : Walked) (after : 
   -- 20 with level 0: the count exceeds the room
   pub record TooMany : Type 0 where
     pub exceeds : room_of t < count
-    pub answer : r ≡ unlisted 20 0
+    pub answer : r ≡ unlisted UnfitTable 0
     pub unchanged : after ≡ before
 
   -- 20 with a level: it is the first that is unfit
@@ -53,7 +60,7 @@ module _ (t : List ℕ) (count : ℕ) (before : List ℕ) (r : Walked) (after : 
     pub upto : level ≤ count
     pub unfit : Fit t level → ⊥
     pub first : (k : ℕ) → 1 ≤ k → k < level → Fit t k
-    pub answer : r ≡ unlisted 20 level
+    pub answer : r ≡ unlisted UnfitTable level
     pub unchanged : after ≡ before
 
   -- 21 with level 0: the output is shorter than the count
@@ -61,7 +68,7 @@ module _ (t : List ℕ) (count : ℕ) (before : List ℕ) (r : Walked) (after : 
     pub room : count ≤ room_of t
     pub fit : FitTable t count
     pub shorter : length before < count
-    pub answer : r ≡ unlisted 21 0
+    pub answer : r ≡ unlisted ShortOutput 0
     pub unchanged : after ≡ before
 
   -- 0 with the count: the outline stands at the front of the output, and what lies behind it is as it was

@@ -1,9 +1,29 @@
 // What a walk answers.
+ghost use Rattle.std.specs.Prelude.{◌≡◌};
+ghost use Rattle.outline.specs.Walks.{number_of};
 
-// Why levels are not listed: the answer's number, and the level it names; 0 where it names none.
-#[derive(Clone, Copy, Drop)]
+// Why levels are not listed: the answers of a walk but 0, by their numbers.
+#[derive(Clone, Copy, Debug, Drop, PartialEq, Eq)]
+pub enum Reason {
+    // The table has not so many levels, or one is unfit.
+    UnfitTable = 20,
+    // The output is shorter than the count.
+    ShortOutput = 21,
+}
+
+impl Reason {
+    // The number of the answer.
+    pub fn number(self) -> usize
+        ensures { result ≡ number_of self }
+    {
+        self as usize
+    }
+}
+
+// Why, and the level that is named; 0 where none is.
+#[derive(Clone, Copy, Debug, Drop, PartialEq, Eq)]
 pub struct Unlisted {
-    pub number: usize,
+    pub reason: Reason,
     pub level: usize,
 }
 

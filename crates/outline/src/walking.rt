@@ -7,7 +7,7 @@ ghost use Rattle.outline.specs.internal.Fitting.{Listable};
 ghost use Rattle.outline.specs.internal.Listing.{depth_of, listed};
 ghost use Rattle.outline.specs.internal.Straying.{last_stray};
 
-use crate::answer::{Unlisted, Walked};
+use crate::answer::{Reason, Unlisted, Walked};
 use crate::{fitting, records, straying};
 use levels::widths::LEVEL_WIDTH;
 
@@ -58,16 +58,19 @@ fn listable(levels: &[u64], count: usize, places: usize) -> Result<(), Unlisted>
 {
     if levels.len() / LEVEL_WIDTH < count {
         return Err(Unlisted {
-            number: 20,
+            reason: Reason::UnfitTable,
             level: 0,
         });
     }
     if let Some(level) = fitting::first_unfit(levels, count) {
-        return Err(Unlisted { number: 20, level });
+        return Err(Unlisted {
+            reason: Reason::UnfitTable,
+            level,
+        });
     }
     if places < count {
         return Err(Unlisted {
-            number: 21,
+            reason: Reason::ShortOutput,
             level: 0,
         });
     }

@@ -173,7 +173,7 @@ fn layout_of(
 
 // The next segment from `at` on, up to its terminator. `start` is where the last element so far starts, and `behind` the place behind the last component
 // separator, or `at`. An element ends badly where its end is that place; the tag, element 0, may. The inner loop uses the
-// queue up, the outer one fills it anew.
+// queue up, the outer one fills it anew. The queue and the starts are the reader's, so that no segment has to clear them.
 fn next_plain(
     s: &[u8],
     specials: &[bool; 256],

@@ -12,7 +12,7 @@ ghost use Rattle.reading.specs.internal.Judgements.{opening_control, closing_in,
 use crate::placing;
 use crate::storing::NewLevel;
 use elements::layout::Parts;
-use elements::verdict::{Fault, Verdict};
+use elements::verdict::{Fault, Reason, Verdict};
 use elements::{rules, segment};
 use finding::lists::LISTS;
 use finding::{filling, lists, notes};
@@ -25,42 +25,6 @@ use ruling::ruled;
 use text::separators::Separators;
 use text::{compare, lookup};
 use types::digits;
-
-// The faults that are found here: of the tag, of an end that no element is named for, of the row, and of the SE.
-const UNKNOWN_TAG: Fault = Fault {
-    number: 4,
-    element: 0,
-};
-
-const BAD_END: Fault = Fault {
-    number: 6,
-    element: 0,
-};
-
-const NO_ROW: Fault = Fault {
-    number: 7,
-    element: 0,
-};
-
-const OUTSIDE_PROFILE: Fault = Fault {
-    number: 24,
-    element: 0,
-};
-
-const OTHER_COUNT: Fault = Fault {
-    number: 16,
-    element: 1,
-};
-
-const OTHER_CONTROL: Fault = Fault {
-    number: 16,
-    element: 2,
-};
-
-const CHILD_OWED: Fault = Fault {
-    number: 15,
-    element: 0,
-};
 
 // What a segment is that breaks no rule.
 #[derive(Clone, Copy, Drop)]
@@ -129,23 +93,25 @@ fn judge_se(separators: Separators, parts: Parts, state: State, records: Records
     let total = parts.element(1);
     let told = digits::number_of(total);
     if told == 0 {
-        return Err(OTHER_COUNT);
+        return Err(Reason::BadClose.at_element(1));
     }
     if told - 1 != state.count {
-        return Err(OTHER_COUNT);
+        return Err(Reason::BadClose.at_element(1));
     }
     let control = parts.element(2);
     let opening = opening_control(parts.bytes, separators, records.segments);
     if !compare::same_bytes(control, opening) {
-        return Err(OTHER_CONTROL);
+        return Err(Reason::BadClose.at_element(2));
     }
     if !filling::all_filled(records.levels, state.levels) {
-        return Err(CHILD_OWED);
+        return Err(Reason::BadMark.at_element(0));
     }
     Ok(())
 }
 
 // Rule 6 broken, where the pass found it so: the fault with its element.
+// Not inlined: it is seldom asked, and the reader's loop keeps more in registers without it.
+#[inline(never)]
 fn bad_end(separators: Separators, parts: Parts) -> Fault
     requires { Inside parts.bytes.now parts.layout }
     ensures { result ≡ broken_by (first_broken (end_checks (plain_view separators (segment_of parts.entry.bytes.now parts.entry.layout)))) }
@@ -153,7 +119,7 @@ fn bad_end(separators: Separators, parts: Parts) -> Fault
     let Parts { bytes, layout, .. } = parts;
     match segment::end_verdict(&bytes[layout.at..layout.end], separators) {
         Err(fault) => fault,
-        Ok(()) => BAD_END,
+        Ok(()) => Reason::BadEnd.at_element(0),
     }
 }
 
@@ -203,10 +169,10 @@ fn judge_known(
     ensures { JudgesNext how parts.entry.bytes.now parts.entry.starts.now parts.entry.layout state records.entry.segments.now records.entry.levels.now records.entry.lasts.now result }
 {
     let Some(row) = next::row_after(table, state.row, state.again, tag) else {
-        return Err(NO_ROW);
+        return Err(Reason::NoRow.at_element(0));
     };
     if !profile::admits(how.profile, row) {
-        return Err(OUTSIDE_PROFILE);
+        return Err(Reason::ForeignRow.at_element(0));
     }
     if rules::is_plain(tag) {
         return Ok(Judgement::Other(row));
@@ -230,7 +196,7 @@ pub(crate) fn judge(
 {
     let tag = tag_of(parts);
     if tags::NO_TAG <= tag {
-        return Err(UNKNOWN_TAG);
+        return Err(Reason::UnknownTag.at_element(0));
     }
     if !parts.layout.ended {
         return Err(bad_end(how.separators, parts));

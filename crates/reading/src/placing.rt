@@ -4,23 +4,12 @@ ghost use Rattle.reading.specs.internal.Judgements.{JudgesLevel};
 
 use crate::judging::Records;
 use elements::layout::Parts;
-use elements::verdict::Fault;
+use elements::verdict::{Fault, Reason};
 use finding::known::Known;
 use finding::{lists, parents, search};
 use gate::how::How;
 use levels::judging;
 use levels::judging::Entitled;
-
-// The faults of an HL that its names alone tell: an HL01 that an HL before it has, and an HL02 that none has.
-const USED_ID: Fault = Fault {
-    number: 12,
-    element: 1,
-};
-
-const NO_PARENT: Fault = Fault {
-    number: 13,
-    element: 2,
-};
 
 // What the rules of levels say of the HL, where `place` is the list that its HL01 belongs to.
 pub(crate) fn judge_level(
@@ -41,7 +30,7 @@ pub(crate) fn judge_level(
     };
     let id = parts.element(1);
     if search::find(known, place, id).is_some() {
-        return Err(USED_ID);
+        return Err(Reason::RepeatedName.at_element(1));
     }
     let parent = parts.element(2);
     let code = parts.element(3);
@@ -51,7 +40,7 @@ pub(crate) fn judge_level(
     }
     let hung = lists::place_of(parent);
     let Some(above) = search::find(known, hung, parent) else {
-        return Err(NO_PARENT);
+        return Err(Reason::UnknownParent.at_element(2));
     };
     let found = parents::parent_at(records.levels, above);
     judging::judge_child(how.profile, found, code, mark)

@@ -18,7 +18,7 @@ use crate::judging::{Records, State};
 use crate::{between, cutting, judging, settling};
 use elements::layout::Parts;
 use elements::segment;
-use elements::verdict::Fault;
+use elements::verdict::{Fault, Reason};
 use finding::lists::LISTS;
 use finding::notes;
 use gate::answer::{Answer, Refusal};
@@ -30,28 +30,19 @@ use std::ops::ControlFlow;
 // The longest input.
 pub const LIMIT: usize = 1048576;
 
-// The separators serve no reading; the input is too long.
+// The separators serve no reading.
 const UNFIT: Refusal = Refusal {
-    number: 1,
+    reason: Reason::UnfitSeparators,
     segment: 0,
     byte: 0,
     element: 0,
 };
 
+// The input is too long.
 const TOO_LONG: Refusal = Refusal {
-    number: 2,
+    reason: Reason::TooLong,
     segment: 0,
     byte: 0,
-    element: 0,
-};
-// The bytes end before a terminator.
-const UNENDED: Fault = Fault {
-    number: 3,
-    element: 0,
-};
-// A byte that may not stand in a segment, where no element is named for it.
-const BAD_BYTE: Fault = Fault {
-    number: 5,
     element: 0,
 };
 
@@ -65,10 +56,10 @@ struct Ended {
 // A refusal behind `count` segments.
 fn refused(fault: Fault, count: usize, at: usize) -> Answer
     requires { count ≤ 9000000000000000000 }
-    ensures { result ≡ refused fault.number (count + 1) at fault.element }
+    ensures { result ≡ refused fault.reason (count + 1) at fault.element }
 {
     Err(Refusal {
-        number: fault.number,
+        reason: fault.reason,
         segment: count + 1,
         byte: at,
         element: fault.element,
@@ -84,30 +75,28 @@ fn bad_bytes(s: &[u8], how: How, at: usize, end: usize, count: usize) -> Answer
 {
     match segment::byte_verdict(&s[at..end], how.separators) {
         Err(fault) => refused(fault, count, at),
-        Ok(()) => refused(BAD_BYTE, count, at),
+        Ok(()) => refused(Reason::BadByte.at_element(0), count, at),
     }
 }
 
 // The refusal where no segment was cut at `at`, behind `count` segments.
+// Not inlined: it is seldom asked, and the reader's loop keeps more in registers without it.
+#[inline(never)]
 fn uncut_refused(s: &[u8], how: How, uncut: Uncut, at: usize, count: usize) -> Answer
     requires within { UncutWithin s.now at uncut }
     requires count_bound { count ≤ 9000000000000000000 }
     ensures { result ≡ uncut_refused how s.now at count uncut }
 {
     match uncut {
-        Uncut::Open => refused(UNENDED, count, at),
+        Uncut::Open => refused(Reason::Unended.at_element(0), count, at),
         Uncut::Bad(end) => bad_bytes(s, how, at, end, count),
-        Uncut::Broken(element) => {
-            let fault = Fault {
-                number: 10,
-                element,
-            };
-            refused(fault, count, at)
-        }
+        Uncut::Broken(element) => refused(Reason::Unfit.at_element(element), count, at),
     }
 }
 
 // Reads on with fit separators from the start of bytes that are not too long. The level records have notes afterwards.
+// Always inlined: its tables then stand at known places.
+#[inline(always)]
 fn read_on(
     s: &[u8],
     how: How,

@@ -1,25 +1,20 @@
 // What a judgement does: the answer where the reading ends, else the records of the segment, stored where there is room.
 ghost use Rattle.std.specs.Prelude.{◌≡◌, ◌/◌, ◌≤◌, ◌<◌, length};
 ghost use Rattle.levels.specs.Widths.{segment_width};
+ghost use Rattle.elements.specs.declared.verdict.Reason.TheVariants.{NoRoom};
 ghost use Rattle.reading.specs.internal.Settling.{state_after, refused_at, accepted_at, InRoom, SettlesBy, SettlesOther, SettlesLevel, SettlesLast};
 
 use crate::judging::{Judgement, State};
 use crate::storing;
 use crate::storing::NewLevel;
 use elements::layout::Layout;
-use elements::verdict::Fault;
+use elements::verdict::{Fault, Reason};
 use finding::lists::LISTS;
 use gate::answer::{Accepted, Answer, Refusal};
 use std::ops::ControlFlow;
 
 // What became of the next segment: the reading ends with an answer, or the reader goes on and carries this.
 pub(crate) type Step = ControlFlow<Answer, State>;
-
-// No room for a record.
-const NO_ROOM: Fault = Fault {
-    number: 17,
-    element: 0,
-};
 
 // What the reader carries after one segment more.
 fn after(state: State, row: u8, levels: usize) -> State
@@ -37,14 +32,22 @@ fn after(state: State, row: u8, levels: usize) -> State
 // A refusal at the segment.
 fn refusal(fault: Fault, layout: Layout, state: State) -> Step
     requires { state.count < 9000000000000000000 }
-    ensures { result ≡ refused_at fault.number layout state fault.element }
+    ensures { result ≡ refused_at fault.reason layout state fault.element }
 {
     ControlFlow::Break(Err(Refusal {
-        number: fault.number,
+        reason: fault.reason,
         segment: state.count + 1,
         byte: layout.at,
         element: fault.element,
     }))
+}
+
+// The refusal where a table has no room for a record of the segment.
+fn no_room(layout: Layout, state: State) -> Step
+    requires { state.count < 9000000000000000000 }
+    ensures { result ≡ refused_at NoRoom layout state 0 }
+{
+    refusal(Reason::NoRoom.at_element(0), layout, state)
 }
 
 // Acceptance with this segment as the last: how many segments and levels there are, and the bytes up to its terminator.
@@ -67,7 +70,7 @@ fn pass_other(row: u8, layout: Layout, state: State, segments: &mut [u64]) -> St
     ensures { SettlesOther row layout state segments.old segments.new result }
 {
     if !storing::segment_room(segments, state.count) {
-        return refusal(NO_ROOM, layout, state);
+        return no_room(layout, state);
     }
     storing::put_segment(segments, state.count, layout, row, state.levels);
     ControlFlow::Continue(after(state, row, state.levels))
@@ -87,10 +90,10 @@ fn pass_level(
     ensures { SettlesLevel row level layout state segments.old levels.old lasts.old segments.new levels.new lasts.new result }
 {
     if !storing::segment_room(segments, state.count) {
-        return refusal(NO_ROOM, layout, state);
+        return no_room(layout, state);
     }
     if !storing::level_room(levels, state.levels) {
-        return refusal(NO_ROOM, layout, state);
+        return no_room(layout, state);
     }
     let number = state.levels + 1;
     storing::put_segment(segments, state.count, layout, row, number);
@@ -106,13 +109,14 @@ fn close(row: u8, layout: Layout, state: State, segments: &mut [u64]) -> Step
     ensures { SettlesLast row layout state segments.old segments.new result }
 {
     if !storing::segment_room(segments, state.count) {
-        return refusal(NO_ROOM, layout, state);
+        return no_room(layout, state);
     }
     storing::put_segment(segments, state.count, layout, row, 0);
     acceptance(layout, state)
 }
 
-// What the rules say of the segment that the layout names does.
+// What the rules say of the segment that the layout names does. The tables are lent one by one: a struct that lends them could not be kept
+// from segment to segment, since a judgement reads them in between.
 pub(crate) fn settle(
     judged: Result<Judgement, Fault>,
     layout: Layout,

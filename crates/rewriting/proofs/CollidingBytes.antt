@@ -25,13 +25,14 @@ use Rattle.elements.specs.Checks.{Verdict, Holds, broken, first_broken}
 use Rattle.elements.proofs.Bytewise.{bad_from, each_bad}
 use Rattle.rewriting.specs.Rewrites.{apart_from, apart_checks, collision_checks}
 use Rattle.rewriting.specs.internal.CutOff.{AsCut}
+use Rattle.elements.specs.declared.verdict.Reason.TheVariants.{Collision}
 
 -- the first data byte that is one of these separators, where k element separators of the old set stand before
 abbrev pub clash_from : (old new : Separators) (k : ℕ) → Bytes → Verdict
-clash_from old new k s = bad_from 18 (λ (b : ℕ). not (is_separator new b)) old.element old.component k s
+clash_from old new k s = bad_from Collision (λ (b : ℕ). not (is_separator new b)) old.element old.component k s
 
 pub clash_first : (old new : Separators) (segment : Bytes) → first_broken (apart_checks new (plain_view old segment)) ≡ clash_from old new 0 segment
-clash_first old new segment = each_bad 18 (λ (b : ℕ). not (is_separator new b)) old segment
+clash_first old new segment = each_bad Collision (λ (b : ℕ). not (is_separator new b)) old segment
 
 -- of a segment that is no BIN every piece is tested
 pub plain_checks : (old new : Separators) (segment : Bytes) → is_bin old.element segment ≡ false → AsCut old segment
@@ -94,7 +95,7 @@ module _ (old new : Separators) (segment : Bytes) where
 
       module _ (other : byte ≡ old.element → ⊥) where
         by_test : (t : Bool) → not (eqb byte old.component) && is_separator new byte ≡ t
-            → found ≡ cond (not t) (clash_from old new element (drop (i + 1) segment)) (broken 18 element)
+            → found ≡ cond (not t) (clash_from old new element (drop (i + 1) segment)) (broken Collision element)
         by_test t e =
             a.so_far
             ∙ rw (add-one i, drop-cons segment i 0 inside, ne_eqb byte old.element other, tested (eqb byte old.component) (is_separator new byte), e)
@@ -102,5 +103,5 @@ module _ (old new : Separators) (segment : Bytes) where
         pub apart_more : not (eqb byte old.component) && is_separator new byte ≡ false → ApartTo element (i + 1)
         apart_more e = record { so_far = by_test false e; few = omega (arith, a.few) }
 
-        pub apart_not : not (eqb byte old.component) && is_separator new byte ≡ true → broken 18 element ≡ found
+        pub apart_not : not (eqb byte old.component) && is_separator new byte ≡ true → broken Collision element ≡ found
         apart_not e = sym (by_test true e)

@@ -1,13 +1,13 @@
 -- The quick test: bytes tested one by one, and why no segment collides where all are harmless.
 -- Assumes nothing.
-use Prim.Native.Nat.{ℕ, suc, ◌+◌, ◌-◌, ◌≤◌, ◌<◌}
+use Prim.Native.Nat.{ℕ, suc, ◌+◌}
 use mathlib.Core.Path.{◌≡◌, refl, sym, ap, subst, ◌∙◌}
 use mathlib.Core.Logic.{◌⊎◌, inl, inr}
 use mathlib.Core.Bool.{Bool, true, false, not, cond, ◌&&◌, ◌||◌}
 use mathlib.Core.List.{List, [], ◌∷◌}
 use native.Mathlib.Omega.{arith}
 use lib.Dec.{T, eqb}
-use lib.ListN.{length, get_or, take}
+use lib.ListN.{length, take}
 use Rattle.std.specs.Prelude.{None}
 use Rattle.std.specs.List.{fold}
 use Rattle.text.specs.Bytes.{Bytes, every}
@@ -28,10 +28,9 @@ use Rattle.gate.specs.Conditions.{used_by}
 use Rattle.rewriting.specs.Rewrites.{apart_from, apart_checks, collision_checks, collision}
 use Rattle.rewriting.specs.internal.CutOff.{LedStrictly, CutOff, AsCut}
 use Rattle.rewriting.specs.internal.QuickTest.{harmless_byte}
-use Rattle.rewriting.specs.internal.Output.{stretch}
-use Rattle.rewriting.proofs.Stretches.{stretch_next, stretch_none}
 use Rattle.rewriting.proofs.SegmentBytes.{texts, used_taken}
 use Rattle.rewriting.proofs.CollidingBytes.{clash_from, clash_first, plain_checks, bin_apart}
+use Rattle.elements.specs.declared.verdict.Reason.TheVariants.{Collision}
 
 -- a segment that was cut off is looked into whole, if it is no whole BIN
 pub as_cut : (old : Separators) → Fitted old → (s segment more : Bytes) → cut_of old s ≡ Whole segment more → AsCut old segment
@@ -49,7 +48,7 @@ fold_every f so_far (b ∷ s) = fold_every f (so_far && f b) s ∙ and_assoc so_
 module _ (old new : Separators) where
   -- one byte: it separates elements, or components, or is harmless and no old separator
   spared : (e c is_new is-old : Bool) (k : ℕ) {x y x' y' : Verdict} → T (not is_new || is-old) → (x ≡ Holds → x' ≡ Holds) → (y ≡ Holds → y' ≡ Holds)
-      → cond e x (cond (c || not is-old) y (broken 18 k)) ≡ Holds → cond e x' (cond (c || not is_new) y' (broken 18 k)) ≡ Holds
+      → cond e x (cond (c || not is-old) y (broken Collision k)) ≡ Holds → cond e x' (cond (c || not is_new) y' (broken Collision k)) ≡ Holds
   spared true c is_new is-old k h f g z = f z
   spared false true is_new is-old k h f g z = g z
   spared false false false false k h f g z = g z
@@ -70,7 +69,7 @@ module _ (old new : Separators) where
   harmless_plain segment h o =
       let v = plain_view old segment in
       let none : first_broken (apart_checks old v) ≡ Holds =
-      each_holds 18 0 (length v) (λ (k : ℕ). apart_from old (element_of v k))
+      each_holds Collision 0 (length v) (λ (k : ℕ). apart_from old (element_of v k))
       (λ k l u. passes (apart_from old (element_of v k)) (every_at (apart_from old) v empty o k (omega arith))) in
       clash_first old new segment ∙ none_either 0 segment h (sym (clash_first old old segment) ∙ none)
 

@@ -22,12 +22,13 @@ use Rattle.gate.proofs.reading.Listing.{listed}
 use Rattle.rewriting.specs.Rewrites.{strictly, rewritten, collision, Outcome, AfterReading, Unfit, RewritesFit, Rewrites}
 use Rattle.rewriting.specs.declared.collisions.Clash.{Clash}
 use Rattle.rewriting.specs.Conditions.{RewritingListed}
+use Rattle.elements.specs.declared.verdict.Reason.TheVariants.{UnfitSeparators, Collision, ShortOutput}
 
 -- some answer and output
 outcome_some : (x : Option Clash) (room : Bool) (told : Answer) (new output : Bytes) → (r : Answer) × (after : Bytes) × Outcome x room told new output r after
 unfolding Outcome
-outcome_some (Some clash) room told new output = (refused 18 clash.segment clash.byte clash.element, output, (refl, refl))
-outcome_some None false told new output = (refused 19 0 0 0, output, (refl, refl))
+outcome_some (Some clash) room told new output = (refused Collision clash.segment clash.byte clash.element, output, (refl, refl))
+outcome_some None false told new output = (refused ShortOutput 0 0 0, output, (refl, refl))
 outcome_some None true told new output = (told, new ++ drop (length new) output, (refl, refl))
 
 module _ (profile : ProfileName) (old new : Separators) (s : Bytes) (before : Tables) (output : Bytes) where
@@ -46,8 +47,8 @@ module _ (profile : ProfileName) (old new : Separators) (s : Bytes) (before : Ta
     where
       fit : (old_fit new_fit : Bool)
           → (r : Answer) × (tables : Tables) × (after : Bytes) × RewritesFit old_fit new_fit profile old new s before output r tables after
-      fit false new_fit = (refused 1 0 0 0, before, output, record { answer = refl; tables_kept = refl; output_kept = refl })
-      fit true false = (refused 1 0 0 1, before, output, record { answer = refl; tables_kept = refl; output_kept = refl })
+      fit false new_fit = (refused UnfitSeparators 0 0 0, before, output, record { answer = refl; tables_kept = refl; output_kept = refl })
+      fit true false = (refused UnfitSeparators 0 0 1, before, output, record { answer = refl; tables_kept = refl; output_kept = refl })
       fit true true =
           let a = answered (strictly profile old) s before in
           let f = reading_some a.0 a.1 a.2 in
@@ -62,8 +63,8 @@ outcome_listed : (profile : ProfileName) (x : Option Clash) (room : Bool) (told 
     → Outcome x room told new output r after → RewritingListed profile r
 unfolding Outcome
 outcome_listed profile (Some clash) room told new output r after l x =
-    rw (refusal_of r 18 clash.segment clash.byte clash.element (omega arith) x.0) (omega arith, inl (omega arith))
-outcome_listed profile None false told new output r after l x = rw (refusal_of r 19 0 0 0 (omega arith) x.0) (omega arith, inl (omega arith))
+    rw (refusal_of r Collision clash.segment clash.byte clash.element (omega arith) x.0) (omega arith, inl (omega arith))
+outcome_listed profile None false told new output r after l x = rw (refusal_of r ShortOutput 0 0 0 (omega arith) x.0) (omega arith, inl (omega arith))
 outcome_listed profile None true told new output r after l x = rw x.0 l
 
 module _ (profile : ProfileName) (old new : Separators) (s : Bytes) (before : Tables) (output : Bytes) (r : Answer) (tables : Tables) (after : Bytes) where
@@ -78,7 +79,7 @@ module _ (profile : ProfileName) (old new : Separators) (s : Bytes) (before : Ta
   rewriting_listed x = fit (fit_separators old) (fit_separators new) x
     where
       unfit : (e : ℕ) → Unfit e before output r tables after → RewritingListed profile r
-      unfit e x = rw (refusal_of r 1 0 0 e (omega arith) x.answer) (omega arith, inl (omega arith))
+      unfit e x = rw (refusal_of r UnfitSeparators 0 0 e (omega arith) x.answer) (omega arith, inl (omega arith))
 
       fit : (old_fit new_fit : Bool) → RewritesFit old_fit new_fit profile old new s before output r tables after → RewritingListed profile r
       fit false new_fit x = unfit 0 x

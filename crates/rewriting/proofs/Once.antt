@@ -21,13 +21,14 @@ use Rattle.gate.proofs.reading.Once.{reads_once}
 use Rattle.gate.proofs.conditions.Conditions.{numbering_once}
 use Rattle.rewriting.specs.Rewrites.{strictly, rewritten, collision, Outcome, OutcomeOf, AfterReading, Rewriting, Unfit, RewritesFit, Rewrites}
 use Rattle.rewriting.specs.declared.collisions.Clash.{Clash}
+use Rattle.elements.specs.declared.verdict.Reason.TheVariants.{UnfitSeparators, Collision, ShortOutput}
 
 outcome_once : (x : Option Clash) (room : Bool) (told : Answer) (new output : Bytes) (r r' : Answer) (after after' : Bytes)
     → Outcome x room told new output r after → Outcome x room told new output r' after' → (r ≡ r') × (after ≡ after')
 unfolding Outcome
 outcome_once (Some clash) room told new output r r' after after' x y =
-    (refusal_once r r' 18 clash.segment clash.byte clash.element (omega arith) x.0 y.0, x.1 ∙ sym y.1)
-outcome_once None false told new output r r' after after' x y = (refusal_once r r' 19 0 0 0 (omega arith) x.0 y.0, x.1 ∙ sym y.1)
+    (refusal_once r r' Collision clash.segment clash.byte clash.element (omega arith) x.0 y.0, x.1 ∙ sym y.1)
+outcome_once None false told new output r r' after after' x y = (refusal_once r r' ShortOutput 0 0 0 (omega arith) x.0 y.0, x.1 ∙ sym y.1)
 outcome_once None true told new output r r' after after' x y = (x.0 ∙ sym y.0, x.1 ∙ sym y.1)
 
 module _ (profile : ProfileName) (old new : Separators) (s : Bytes) (before : Tables) (output : Bytes) where
@@ -49,7 +50,7 @@ module _ (profile : ProfileName) (old new : Separators) (s : Bytes) (before : Ta
   rewrites_once r r' tables tables' after after' x y = fit (fit_separators old) (fit_separators new) x y
     where
       unfit : (e : ℕ) → Unfit e before output r tables after → Unfit e before output r' tables' after' → (r ≡ r') × (tables ≡ tables') × (after ≡ after')
-      unfit e x y = (refusal_once r r' 1 0 0 e (omega arith) x.answer y.answer, x.tables_kept ∙ sym y.tables_kept, x.output_kept ∙ sym y.output_kept)
+      unfit e x y = (refusal_once r r' UnfitSeparators 0 0 e (omega arith) x.answer y.answer, x.tables_kept ∙ sym y.tables_kept, x.output_kept ∙ sym y.output_kept)
 
       read : Rewriting profile old new s before output r tables after → Rewriting profile old new s before output r' tables' after'
           → (r ≡ r') × (tables ≡ tables') × (after ≡ after')

@@ -22,6 +22,7 @@ use Rattle.rewriting.specs.declared.collisions.Clash.{Clash}
 use Rattle.rewriting.specs.internal.SegmentTable.{segments_from}
 use Rattle.rewriting.specs.internal.Output.{put_at}
 use Rattle.rewriting.proofs.AcceptedTable.{accepting}
+use Rattle.elements.specs.declared.verdict.Reason.TheVariants.{UnfitSeparators, Collision, ShortOutput}
 
 -- after an accepted reading: 18, 19, and the bytes written
 module _ (old new : Separators) (s : Bytes) (table : List ℕ) (told : Accepted) (output : Bytes) where
@@ -34,11 +35,11 @@ module _ (old new : Separators) (s : Bytes) (table : List ℕ) (told : Accepted)
   abbrev EndsSo : Answer → Bytes → Type 0
   EndsSo r after = OutcomeOf old new (segments_from s table 0 told.segments) (Ok told) told.bytes output r after
 
-  pub collided : (clash : Clash) → Some clash ≡ found → EndsSo (refused 18 clash.segment clash.byte clash.element) output
+  pub collided : (clash : Clash) → Some clash ≡ found → EndsSo (refused Collision clash.segment clash.byte clash.element) output
   unfolding Outcome
   collided clash e = rw (← e) (refl, refl)
 
-  pub too_short : None ≡ found → length output < told.bytes → EndsSo (refused 19 0 0 0) output
+  pub too_short : None ≡ found → length output < told.bytes → EndsSo (refused ShortOutput 0 0 0) output
   unfolding Outcome
   too_short e l = rw (← e, lt-leb told.bytes (length output) l) (refl, refl)
 
@@ -50,12 +51,12 @@ module _ (old new : Separators) (s : Bytes) (table : List ℕ) (told : Accepted)
 
 -- the two sets are tested, and the transaction is read
 module _ (profile : ProfileName) (old new : Separators) (s : Bytes) (before : Tables) (output : Bytes) where
-  pub old_unfit : fit_separators old ≡ false → Rewrites profile old new s before output (refused 1 0 0 0) before output
+  pub old_unfit : fit_separators old ≡ false → Rewrites profile old new s before output (refused UnfitSeparators 0 0 0) before output
   unfolding Rewrites
   old_unfit e = rw e (record { answer = refl; tables_kept = refl; output_kept = refl })
 
   module _ (old-fits : fit_separators old ≡ true) where
-    pub new_unfit : fit_separators new ≡ false → Rewrites profile old new s before output (refused 1 0 0 1) before output
+    pub new_unfit : fit_separators new ≡ false → Rewrites profile old new s before output (refused UnfitSeparators 0 0 1) before output
     unfolding Rewrites
     new_unfit e = rw (old-fits, e) (record { answer = refl; tables_kept = refl; output_kept = refl })
 

@@ -6,13 +6,11 @@ use mathlib.Core.List.{List, [], ◌∷◌}
 use native.Mathlib.Omega.{arith}
 use native.Mathlib.Numerals.{add-one}
 use lib.ListN.{length}
-use Rattle.std.specs.Prelude.{Some, None, Err}
 use Rattle.text.specs.Bytes.{Bytes}
 use Rattle.text.specs.View.{view_of}
 use Rattle.text.specs.Cut.{Placed, Whole, cut_of}
 use Rattle.text.specs.declared.separators.Separators.{Separators}
 use Rattle.elements.specs.Checks.{Verdict, Holds, first_broken}
-use Rattle.elements.specs.declared.verdict.Fault.{Fault}
 use Rattle.gate.specs.Conditions.{used_by}
 use Rattle.rewriting.specs.Rewrites.{collision_checks, or_later, collision}
 use Rattle.rewriting.specs.internal.SegmentTable.{start_in, segment_in, placed_in, segments_from, Names, NamesFrom}

@@ -1,7 +1,7 @@
 -- The segments written again are as long; where no data byte is a new separator they are cut at the same places, and their views are the same.
 -- Assumes nothing.
 use Prim.Native.Nat.{ℕ, suc, ◌+◌}
-use mathlib.Core.Path.{◌≡◌, refl, ap}
+use mathlib.Core.Path.{◌≡◌, refl}
 use mathlib.Core.List.{List, [], ◌∷◌, ◌++◌, map}
 use native.Mathlib.Omega.{arith}
 use lib.Dec.{T}
@@ -25,6 +25,7 @@ use Rattle.rewriting.specs.Lookups.{FoundAlike, AllFoundAlike}
 use Rattle.rewriting.specs.Rewrites.{strictly, views_by, rewritten, apart_from, collision_checks, or_later, collision}
 use Rattle.rewriting.specs.declared.collisions.Clash.{Clash}
 use Rattle.rewriting.proofs.SegmentBytes.{texts}
+use Rattle.elements.specs.declared.verdict.Reason.TheVariants.{Collision}
 
 -- no collision in a segment, and none in those behind it
 silent : (v : Verdict) (n byte : ℕ) (later : Option Clash) → or_later v n byte later ≡ None → (v ≡ Holds) × (later ≡ None)
@@ -34,7 +35,7 @@ silent (Err fault) n byte later e = absurd (cc)
 -- where no test fails, no new separator stands in what is looked into
 apart_everywhere : (new : Separators) (v : View) → first_broken (collision_checks new v) ≡ Holds → T (every (apart_from new) (inspected v))
 unfolding collision_checks
-apart_everywhere new v h = each_every 18 (apart_from new) empty (inspected v) h
+apart_everywhere new v h = each_every Collision (apart_from new) empty (inspected v) h
 
 -- as many bytes as before
 pub rewritten_length : (old new : Separators) (gs : List Placed) → length (rewritten old new gs) ≡ length (closed old.terminator (texts gs))

@@ -5,6 +5,7 @@ use Rattle.text.specs.Bytes.{Bytes}
 use Rattle.text.specs.Cut.{Placed}
 use Rattle.text.specs.declared.separators.Separators.{Separators}
 use Rattle.rows.specs.declared.profile.ProfileName.{ProfileName}
+use Rattle.elements.specs.Reasons.{number_of}
 use Rattle.gate.specs.Segments.{seen}
 use Rattle.gate.specs.Answers.{Answer, accepted, RowNotInProfile}
 use Rattle.gate.specs.Records.{Tables}
@@ -17,7 +18,7 @@ use Rattle.rewriting.specs.Rewrites.{strictly, Rewrites}
 -- the list of rewriting's answers: acceptance, and refusals 1 to 19, of a reply 24 too
 abbrev pub RewritingListed : ProfileName → Answer → Type 0
 RewritingListed profile (Ok a) = Unit {0}
-RewritingListed profile (Err r) = (1 ≤ r.number) × ((r.number ≤ 19) ⊎ RowNotInProfile profile r.number)
+RewritingListed profile (Err r) = (1 ≤ number_of r.reason) × ((number_of r.reason ≤ 19) ⊎ RowNotInProfile profile (number_of r.reason))
 
 -- every input, either profile, every choice of separators, every table size and every output's length
 pub record Condition1Rewriting : Type 0 where

@@ -17,6 +17,7 @@ use Rattle.gate.specs.Reads.{Reads}
 use Rattle.gate.specs.Conditions.{Numbering}
 use Rattle.gate.specs.declared.how.How.{How}
 use Rattle.rewriting.specs.declared.collisions.Clash.{Clash}
+use Rattle.elements.specs.declared.verdict.Reason.TheVariants.{Collision}
 
 -- strict reading by this profile and these separators; rewriting reads so, whatever its caller's way with line ends is
 abbrev pub strictly : ProfileName → Separators → How
@@ -36,7 +37,7 @@ apart_from new p = every (every (λ (b : ℕ). not (is_separator new b))) p
 
 -- so it is of every piece; the tag is element 0
 abbrev pub apart_checks : Separators → View → List Check
-apart_checks new v = each 18 0 (length v) (λ (k : ℕ). apart_from new (element_of v k))
+apart_checks new v = each Collision 0 (length v) (λ (k : ℕ). apart_from new (element_of v k))
 
 -- 18: so it is where the view is looked into; BIN02 is copied as it is
 unfoldable pub collision_checks : Separators → View → List Check

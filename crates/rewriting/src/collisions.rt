@@ -11,7 +11,7 @@ ghost use Rattle.rewriting.specs.internal.QuickTest.{harmless_byte};
 
 use crate::change::Change;
 use crate::table::Reading;
-use elements::verdict::{Fault, Verdict};
+use elements::verdict::{Reason, Verdict};
 use text::bin;
 
 // Where a data byte equals a new separator: the segment's number, the byte where the segment starts, and the element; the tag is element 0.
@@ -64,10 +64,7 @@ fn segment_collision(segment: &[u8], change: Change) -> Verdict
         if *byte == change.old.element {
             element += 1;
         } else if (*byte != change.old.component) & change.new.separates(*byte) {
-            return Err(Fault {
-                number: 18,
-                element,
-            });
+            return Err(Reason::Collision.at_element(element));
         }
     }
     Ok(())

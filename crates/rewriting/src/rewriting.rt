@@ -7,6 +7,7 @@ ghost use Rattle.rewriting.specs.internal.Rewritable.{segments_of, Rewritable};
 use crate::change::Change;
 use crate::table::Reading;
 use crate::{collisions, writing};
+use elements::verdict::Reason;
 use gate::answer::{Answer, Refusal};
 use gate::how::How;
 use rows::profile::ProfileName;
@@ -14,11 +15,11 @@ use text::lines::LineEnds;
 use text::separators::Separators;
 
 // A refusal that names no segment.
-fn refused(number: usize, element: usize) -> Answer
-    ensures { result ≡ refused number 0 0 element }
+fn refused(reason: Reason, element: usize) -> Answer
+    ensures { result ≡ refused reason 0 0 element }
 {
     Err(Refusal {
-        number,
+        reason,
         segment: 0,
         byte: 0,
         element,
@@ -32,14 +33,14 @@ fn write_accepted(reading: Reading, output: &mut [u8]) -> Answer
 {
     if let Some(clash) = collisions::find_clash(reading) {
         return Err(Refusal {
-            number: 18,
+            reason: Reason::Collision,
             segment: clash.segment,
             byte: clash.byte,
             element: clash.element,
         });
     }
     if output.len() < reading.accepted.bytes {
-        return refused(19, 0);
+        return refused(Reason::ShortOutput, 0);
     }
     writing::write_segments(reading, output);
     Ok(reading.accepted)
@@ -60,10 +61,10 @@ pub fn rewrite(
         (record { segments = segments.new; levels = levels.new }) output.new }
 {
     if !old.fit() {
-        return refused(1, 0);
+        return refused(Reason::UnfitSeparators, 0);
     }
     if !new.fit() {
-        return refused(1, 1);
+        return refused(Reason::UnfitSeparators, 1);
     }
     let strictly = How {
         separators: old,

@@ -23,7 +23,7 @@ fn byte_again(byte: u8, change: Change) -> u8
 }
 
 // Writes the bytes from `from` up to `to` at the same places of the output, with the new separators for the old ones, in one loop that can take many bytes
-// at once.
+// at once. It counts by places, since both are at the same one.
 fn write_again(s: &[u8], from: usize, to: usize, change: Change, output: &mut [u8])
     requires from_le_to { from ≤ to }
     requires to_in_bounds { to ≤ length s.now }

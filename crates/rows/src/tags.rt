@@ -3,7 +3,7 @@ ghost use Rattle.std.specs.Prelude.{◌≡◌, ◌+◌, ◌*◌, ◌≤◌, ◌<
 ghost use Rattle.rows.specs.Tags.{tag_number};
 ghost use Rattle.rows.specs.internal.Packed.{packed_number};
 
-// The numbers of the tags that rules name.
+// The numbers of the tags that rules name: numbers and no enum, since a tag's number is its column in the next-row table.
 pub const ST: u8 = 0;
 
 pub const DTM: u8 = 3;
@@ -20,7 +20,7 @@ pub const NCA: u8 = 32;
 
 pub const SE: u8 = 33;
 
-// The number that no tag has, above those of all tags.
+// The number that no tag has, above those of all tags: a number and no `None`, as the definition `tag_number` has it.
 pub const NO_TAG: u8 = 34;
 
 // How many tags there are.

@@ -21,6 +21,8 @@ use Rattle.elements.proofs.FirstBroken.{and_then, broken_append, first_holds}
 use Rattle.elements.proofs.ByLayout.{at_past}
 use Rattle.elements.proofs.ElementPass.{elements_upto}
 use Rattle.ruling.proofs.TooMany.{few_count}
+use Rattle.elements.specs.declared.verdict.Reason.{Reason}
+use Rattle.elements.specs.declared.verdict.Reason.TheVariants.{Missing, TooMany, Unfit}
 
 module _ (s : Bytes) (starts : List ℕ) (layout : Layout) (component tag : ℕ) where
   abbrev at : ℕ → Piece
@@ -38,11 +40,11 @@ module _ (s : Bytes) (starts : List ℕ) (layout : Layout) (component tag : ℕ)
   pub early_is : early ≡ and_then nine eight_ten
   unfolding early_verdict
   early_is =
-      broken_append (each 9 1 layout.count (λ (k : ℕ). few_by (rules_of tag) k (at k)))
-      (each 8 1 (length (rules_of tag).elements) (complete_at_of (rules_of tag) at) ++ each 10 1 (length (rules_of tag).elements) (suits_at_of (rules_of tag) at))
+      broken_append (each TooMany 1 layout.count (λ (k : ℕ). few_by (rules_of tag) k (at k)))
+      (each Missing 1 (length (rules_of tag).elements) (complete_at_of (rules_of tag) at) ++ each Unfit 1 (length (rules_of tag).elements) (suits_at_of (rules_of tag) at))
 
   -- 9 decides among them, or is silent and leaves it to 8 and 10
-  pub early_many : (n e : ℕ) → broken n e ≡ nine → broken n e ≡ early
+  pub early_many : (n : Reason) (e : ℕ) → broken n e ≡ nine → broken n e ≡ early
   early_many n e q = sym (early_is ∙ ap (λ (v : Verdict). and_then v eight_ten) (sym q))
 
   pub early_rest : Holds ≡ nine → eight_ten ≡ early
@@ -67,9 +69,9 @@ module _ (s : Bytes) (starts : List ℕ) (layout : Layout) (component tag : ℕ)
     pub by_profile : early_by profile tag there at layout.count ≡ and_then unwanted early
     unfolding early_by early_verdict
     by_profile =
-        broken_append (each 9 1 layout.count (λ (k : ℕ). not (is_unused (element_profile profile) tag k && there k))) (early_checks (rules_of tag) at layout.count)
+        broken_append (each TooMany 1 layout.count (λ (k : ℕ). not (is_unused (element_profile profile) tag k && there k))) (early_checks (rules_of tag) at layout.count)
 
-    pub unwanted_decides : (n e : ℕ) → broken n e ≡ unwanted → broken n e ≡ early_by profile tag there at layout.count
+    pub unwanted_decides : (n : Reason) (e : ℕ) → broken n e ≡ unwanted → broken n e ≡ early_by profile tag there at layout.count
     unwanted_decides n e q = sym (by_profile ∙ ap (λ (v : Verdict). and_then v early) (sym q))
 
     pub others_decide : Holds ≡ unwanted → early ≡ early_by profile tag there at layout.count

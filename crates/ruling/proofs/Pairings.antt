@@ -11,6 +11,7 @@ use Rattle.elements.specs.declared.verdict.Fault.{Fault}
 use Rattle.elements.specs.Checks.{check, first_broken, Verdict, Holds, broken}
 use Rattle.elements.specs.Data.{Note, Paired, Required, Conditional, pairs_from}
 use Rattle.elements.specs.Rules.{note_holds, named_first, note_checks}
+use Rattle.elements.specs.declared.verdict.Reason.TheVariants.{BrokenNote}
 
 pair_holds : (a b : Bool) → a && b || not (a || b) ≡ a && (b && true) || not (a || (b || false))
 pair_holds true true = refl
@@ -44,11 +45,11 @@ module _ (there : ℕ → Bool) (a b : ℕ) {x y : Bool} (p : x ≡ there a) (q 
   required_three c r = rw (p, q, r) (some_holds (there a) (there b) (there c))
 
 -- what the test of one note alone finds
-pub note_found : (k : ℕ) (h : Bool) (f : Fault) → first_broken (check 11 k h ∷ []) ≡ Err f → (h ≡ false) × (broken 11 k ≡ Err f)
+pub note_found : (k : ℕ) (h : Bool) (f : Fault) → first_broken (check BrokenNote k h ∷ []) ≡ Err f → (h ≡ false) × (broken BrokenNote k ≡ Err f)
 note_found k true f e = cc
 note_found k false f e = (refl, e)
 
-pub note_silent : (k : ℕ) (h : Bool) → first_broken (check 11 k h ∷ []) ≡ Holds → h ≡ true
+pub note_silent : (k : ℕ) (h : Bool) → first_broken (check BrokenNote k h ∷ []) ≡ Holds → h ≡ true
 note_silent k true e = refl
 note_silent k false e = cc
 
@@ -57,7 +58,7 @@ module _ (there : ℕ → Bool) where
   verdict ns = first_broken (note_checks ns there)
 
   -- a note that is broken decides; one that holds leaves it to those behind it
-  pub note_broken : (n : Note) (ns : List Note) → note_holds there n ≡ false → broken 11 (named_first n) ≡ verdict (n ∷ ns)
+  pub note_broken : (n : Note) (ns : List Note) → note_holds there n ≡ false → broken BrokenNote (named_first n) ≡ verdict (n ∷ ns)
   note_broken n ns e = rw e
 
   pub note_kept : (n : Note) (ns : List Note) → note_holds there n ≡ true → verdict (n ∷ ns) ≡ verdict ns
@@ -78,7 +79,7 @@ module _ (there : ℕ → Bool) where
   pub pairs_none : Pairs 2
   pairs_none = record { left = 14; place = refl; so_far = refl }
 
-  pair_fails : (k n : ℕ) → 0 < n → note_holds there (Paired (k ∷ (k + 1) ∷ [])) ≡ false → broken 11 k ≡ verdict (pairs_from k n)
+  pair_fails : (k n : ℕ) → 0 < n → note_holds there (Paired (k ∷ (k + 1) ∷ [])) ≡ false → broken BrokenNote k ≡ verdict (pairs_from k n)
   pair_fails k zero l e = absurd (omega arith)
   pair_fails k (suc n) l e = note_broken (Paired (k ∷ (k + 1) ∷ [])) (pairs_from (k + 2) n) e
 
@@ -95,7 +96,7 @@ module _ (there : ℕ → Bool) where
 
   module _ {pair : ℕ} (w : Pairs pair) where
     pub pairs_broken : pair < 16 → note_holds there (Paired (2 * pair ∷ (2 * pair + 1) ∷ [])) ≡ false
-        → broken 11 (2 * pair) ≡ verdict (pairs_from 4 14)
+        → broken BrokenNote (2 * pair) ≡ verdict (pairs_from 4 14)
     pairs_broken l e = pair_fails (2 * pair) w.left (omega (arith, w.place)) e ∙ sym w.so_far
 
     pub pairs_more : pair < 16 → note_holds there (Paired (2 * pair ∷ (2 * pair + 1) ∷ [])) ≡ true → Pairs (pair + 1)

@@ -22,6 +22,8 @@ use Rattle.elements.proofs.ByLayout.{element_past, view_count, view_at, at_prese
 use Rattle.elements.proofs.EveryTag.{ruled_by, ruled_none}
 use Rattle.ruling.proofs.EarlyRules.{early_is, unwanted_decides, others_decide}
 use Rattle.ruling.proofs.UnusedElements.{few_so_far}
+use Rattle.elements.specs.declared.verdict.Reason.{Reason}
+use Rattle.elements.specs.declared.verdict.Reason.TheVariants.{Missing, TooMany, Unfit}
 
 module _ (s : Bytes) (starts : List ℕ) (layout : Layout) where
   abbrev there : ℕ → Bool
@@ -46,18 +48,18 @@ module _ (s : Bytes) (starts : List ℕ) (layout : Layout) where
 
     -- 9, 8, 10 and 11 over the view are those over the elements
     many_found : (rules : Rules) (unused : ℕ → Bool)
-        → too_many_checks rules unused view ≡ each 9 1 layout.count (λ (k : ℕ). few_by rules k (at k) && absent_if (unused k) (at k))
+        → too_many_checks rules unused view ≡ each TooMany 1 layout.count (λ (k : ℕ). few_by rules k (at k) && absent_if (unused k) (at k))
     many_found rules unused =
-        ap₂ (λ (n : ℕ) (f : ℕ → Piece). each 9 1 n (λ (k : ℕ). few_by rules k (f k) && absent_if (unused k) (f k))) (view_count s starts layout component)
+        ap₂ (λ (n : ℕ) (f : ℕ → Piece). each TooMany 1 n (λ (k : ℕ). few_by rules k (f k) && absent_if (unused k) (f k))) (view_count s starts layout component)
         elements_are
 
-    missing_found : (rules : Rules) → missing_checks rules view ≡ each 8 1 (length rules.elements) (complete_at_of rules at)
+    missing_found : (rules : Rules) → missing_checks rules view ≡ each Missing 1 (length rules.elements) (complete_at_of rules at)
     unfolding complete_at_of
-    missing_found rules = ap (λ (f : ℕ → Piece). each 8 1 (length rules.elements) (complete_at_of rules f)) elements_are
+    missing_found rules = ap (λ (f : ℕ → Piece). each Missing 1 (length rules.elements) (complete_at_of rules f)) elements_are
 
-    unfit_found : (rules : Rules) → unfit_checks rules view ≡ each 10 1 (length rules.elements) (suits_at_of rules at)
+    unfit_found : (rules : Rules) → unfit_checks rules view ≡ each Unfit 1 (length rules.elements) (suits_at_of rules at)
     unfolding suits_at_of
-    unfit_found rules = ap (λ (f : ℕ → Piece). each 10 1 (length rules.elements) (suits_at_of rules f)) elements_are
+    unfit_found rules = ap (λ (f : ℕ → Piece). each Unfit 1 (length rules.elements) (suits_at_of rules f)) elements_are
 
     notes_found : (ns : List Note) → note_checks ns (present_at view) ≡ note_checks ns there
     notes_found ns = ap (note_checks ns) presence_is
@@ -65,7 +67,7 @@ module _ (s : Bytes) (starts : List ℕ) (layout : Layout) where
     -- grouped as the code tests them
     checks_found : (rules : Rules) (unused : ℕ → Bool)
         → first_broken (checks_by rules unused view)
-        ≡ and_then (first_broken (each 9 1 layout.count (λ (k : ℕ). few_by rules k (at k) && absent_if (unused k) (at k))))
+        ≡ and_then (first_broken (each TooMany 1 layout.count (λ (k : ℕ). few_by rules k (at k) && absent_if (unused k) (at k))))
         (and_then (elements_verdict rules at (length rules.elements)) (first_broken (note_checks rules.notes there)))
     checks_found rules unused =
         let many = too_many_checks rules unused view in
@@ -83,7 +85,7 @@ module _ (s : Bytes) (starts : List ℕ) (layout : Layout) where
         ∙ ap₂ (λ (v w : Verdict). and_then v (and_then w d)) (ap first_broken (many_found rules unused))
         (sym (broken_append missing unfit)
         ∙ ap₂ (λ (x y : List Check). first_broken (x ++ y)) (missing_found rules) (unfit_found rules))
-        ∙ ap (λ (x : List Check). and_then (first_broken (each 9 1 layout.count (λ (k : ℕ). few_by rules k (at k) && absent_if (unused k) (at k))))
+        ∙ ap (λ (x : List Check). and_then (first_broken (each TooMany 1 layout.count (λ (k : ℕ). few_by rules k (at k) && absent_if (unused k) (at k))))
         (and_then (elements_verdict rules at (length rules.elements)) (first_broken x)))
         (notes_found rules.notes)
 
@@ -99,13 +101,13 @@ module _ (s : Bytes) (starts : List ℕ) (layout : Layout) where
 
       -- 9 for any reason, of an element that must be absent, and for the other reasons
       abbrev nine : Verdict
-      nine = first_broken (each 9 1 layout.count (λ (k : ℕ). few k && absent_if (unused k) (at k)))
+      nine = first_broken (each TooMany 1 layout.count (λ (k : ℕ). few k && absent_if (unused k) (at k)))
 
       abbrev unwanted : Verdict
       unwanted = unused_verdict unused there layout.count
 
       abbrev many : Verdict
-      many = first_broken (each 9 1 layout.count few)
+      many = first_broken (each TooMany 1 layout.count few)
 
       -- a plain segment
       pub decide_plain : length (rules_of tag).elements ≡ 0 → Holds ≡ whole
@@ -118,18 +120,18 @@ module _ (s : Bytes) (starts : List ℕ) (layout : Layout) where
       notes = first_broken (note_checks (rules_of tag).notes there)
 
       -- an element is as absent by its components as it is by the layout
-      unwanted_is : first_broken (each 9 1 layout.count (λ (k : ℕ). absent_if (unused k) (at k))) ≡ unwanted
+      unwanted_is : first_broken (each TooMany 1 layout.count (λ (k : ℕ). absent_if (unused k) (at k))) ≡ unwanted
       unwanted_is =
           ap first_broken
-          (each_same 9 1 layout.count (λ (k : ℕ). absent_if (unused k) (at k)) (λ (k : ℕ). not (unused k && there k))
+          (each_same TooMany 1 layout.count (λ (k : ℕ). absent_if (unused k) (at k)) (λ (k : ℕ). not (unused k && there k))
           (λ k l u. ap (λ (t : Bool). not (unused k && t)) (at_present s starts layout component k)))
 
       -- such an element decides over the other reasons for 9
-      nine_unwanted : (n e : ℕ) → broken n e ≡ unwanted → nine ≡ broken n e
+      nine_unwanted : (n : Reason) (e : ℕ) → broken n e ≡ unwanted → nine ≡ broken n e
       nine_unwanted n e q =
           let d = unwanted_is ∙ sym q in
-          let f = each_decides 9 1 layout.count (λ (k : ℕ). absent_if (unused k) (at k)) n e d in
-          each_under 9 1 layout.count few (λ (k : ℕ). absent_if (unused k) (at k)) n e d
+          let f = each_decides TooMany 1 layout.count (λ (k : ℕ). absent_if (unused k) (at k)) n e d in
+          each_under TooMany 1 layout.count few (λ (k : ℕ). absent_if (unused k) (at k)) n e d
           (λ j l u. few_so_far profile tag e (unwanted_so (unused e) (present (at e)) f.1) j (at j) u)
         where
           unwanted_so : (a b : Bool) → not (a && b) ≡ false → T a
@@ -138,7 +140,7 @@ module _ (s : Bytes) (starts : List ℕ) (layout : Layout) where
 
       -- where there is none, those decide
       nine_many : Holds ≡ unwanted → nine ≡ many
-      nine_many q = each_silent 9 1 layout.count few (λ (k : ℕ). absent_if (unused k) (at k)) (unwanted_is ∙ sym q)
+      nine_many q = each_silent TooMany 1 layout.count few (λ (k : ℕ). absent_if (unused k) (at k)) (unwanted_is ∙ sym q)
 
       module _ (ruled : length (rules_of tag).elements ≡ 0 → ⊥) where
         grouped : whole ≡ and_then nine (and_then eight_ten notes)
@@ -150,15 +152,15 @@ module _ (s : Bytes) (starts : List ℕ) (layout : Layout) where
           where
             by : (u : Verdict) → unwanted ≡ u → whole ≡ and_then (early_by profile tag there at layout.count) notes
             by (Err f) q =
-                grouped ∙ ap (λ (v : Verdict). and_then v (and_then eight_ten notes)) (nine_unwanted f.number f.element (sym q))
-                ∙ ap (λ (v : Verdict). and_then v notes) (unwanted_decides s starts layout component tag profile there f.number f.element (sym q))
+                grouped ∙ ap (λ (v : Verdict). and_then v (and_then eight_ten notes)) (nine_unwanted f.reason f.element (sym q))
+                ∙ ap (λ (v : Verdict). and_then v notes) (unwanted_decides s starts layout component tag profile there f.reason f.element (sym q))
             by Holds q =
                 grouped ∙ ap (λ (v : Verdict). and_then v (and_then eight_ten notes)) (nine_many (sym q)) ∙ sym (then_assoc many eight_ten notes)
                 ∙ ap (λ (v : Verdict). and_then v notes)
                 (sym (early_is s starts layout component tag) ∙ others_decide s starts layout component tag profile there (sym q))
 
         -- 9, 8 or 10 decides; where all three are silent, 11 does
-        pub decide_early : (n e : ℕ) → broken n e ≡ early_by profile tag there at layout.count → broken n e ≡ whole
+        pub decide_early : (n : Reason) (e : ℕ) → broken n e ≡ early_by profile tag there at layout.count → broken n e ≡ whole
         decide_early n e q = sym (early_notes ∙ ap (λ (v : Verdict). and_then v notes) (sym q))
 
         pub decide_notes : Holds ≡ early_by profile tag there at layout.count → notes ≡ whole

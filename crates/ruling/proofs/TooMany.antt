@@ -19,6 +19,7 @@ use Rattle.elements.specs.internal.Verdicts.{rules_of}
 use Rattle.elements.proofs.FirstBroken.{each_holds, each_broken, holds_each}
 use Rattle.elements.proofs.EveryTag.{few_but_five, few_empty}
 use Rattle.elements.proofs.RuleNumbers.{rule_past, rules_NCA}
+use Rattle.elements.specs.declared.verdict.Reason.TheVariants.{TooMany}
 
 -- NCA05's components, counted by the code
 pub few_fifth : (t : ℕ) (p : Piece) → t ≡ tag "NCA" → leb (length p) 15 ≡ few_components (rule_of (rules_of t) 5).shape p
@@ -33,9 +34,9 @@ module _ (tag count : ℕ) (at : ℕ → Piece) where
   last = length (rules_of tag).elements
 
   pub too_many_five : (count < 5 → at 5 ≡ empty) → few_components (rule_of (rules_of tag) 5).shape (at 5) ≡ false
-      → broken 9 5 ≡ first_broken (each 9 1 count few)
+      → broken TooMany 5 ≡ first_broken (each TooMany 1 count few)
   too_many_five past e =
-      sym (each_broken 9 1 count 5 few (λ j l m. before j m) (omega arith) (omega (arith, there)) (rw e (last_false (leb 5 last))))
+      sym (each_broken TooMany 1 count 5 few (λ j l m. before j m) (omega arith) (omega (arith, there)) (rw e (last_false (leb 5 last))))
     where
       last_false : (t : Bool) → t && false ≡ false
       last_false true = refl
@@ -62,23 +63,23 @@ module _ (tag count : ℕ) (at : ℕ → Piece) where
         by_test true e = rw (eqb-true j 5 e) five
         by_test false e = few_but_five tag j (at j) (eqb-false j 5 e)
 
-    past_last : last < count → broken 9 (last + 1) ≡ first_broken (each 9 1 count few)
+    past_last : last < count → broken TooMany (last + 1) ≡ first_broken (each TooMany 1 count few)
     past_last l =
         sym
-        (each_broken 9 1 count (last + 1) few (λ j p m. rw (le-leb j last (omega arith)) (few_each j)) (omega arith) (omega arith)
+        (each_broken TooMany 1 count (last + 1) few (λ j p m. rw (le-leb j last (omega arith)) (few_each j)) (omega arith) (omega arith)
         (rw (lt-leb (last + 1) last (omega arith))))
 
-    pub too_many_past : (n : ℕ) → n ≡ last → n < count → broken 9 (n + 1) ≡ first_broken (each 9 1 count few)
+    pub too_many_past : (n : ℕ) → n ≡ last → n < count → broken TooMany (n + 1) ≡ first_broken (each TooMany 1 count few)
     too_many_past n e l = rw e (past_last (rw e at l))
 
-    pub few_all : count ≤ last → Holds ≡ first_broken (each 9 1 count few)
-    few_all l = sym (each_holds 9 1 count few (λ j p m. rw (le-leb j last (omega arith)) (few_each j)))
+    pub few_all : count ≤ last → Holds ≡ first_broken (each TooMany 1 count few)
+    few_all l = sym (each_holds TooMany 1 count few (λ j p m. rw (le-leb j last (omega arith)) (few_each j)))
 
 -- where 9 is silent there are no more elements than rules
-pub few_count : (tag count : ℕ) (at : ℕ → Piece) → first_broken (each 9 1 count (λ (k : ℕ). few_by (rules_of tag) k (at k))) ≡ Holds
+pub few_count : (tag count : ℕ) (at : ℕ → Piece) → first_broken (each TooMany 1 count (λ (k : ℕ). few_by (rules_of tag) k (at k))) ≡ Holds
     → count ≤ length (rules_of tag).elements
 few_count tag zero at e = omega arith
 few_count tag (suc count) at e =
     leb-true (suc count) (length (rules_of tag).elements)
     (and_first (leb (suc count) (length (rules_of tag).elements)) (few_components (rule_of (rules_of tag) (suc count)).shape (at (suc count)))
-    (holds_each 9 1 (suc count) (λ (k : ℕ). few_by (rules_of tag) k (at k)) e (suc count) (omega arith) (omega arith)))
+    (holds_each TooMany 1 (suc count) (λ (k : ℕ). few_by (rules_of tag) k (at k)) e (suc count) (omega arith) (omega arith)))

@@ -25,6 +25,7 @@ use Rattle.elements.proofs.FirstBroken.{each_holds, each_broken}
 use Rattle.elements.proofs.EveryTag.{few_but_five}
 use Rattle.ruling.specs.internal.Early.{unused_verdict}
 use Rattle.ruling.specs.internal.Usual.{AllUsed}
+use Rattle.elements.specs.declared.verdict.Reason.TheVariants.{TooMany}
 
 -- the element has a rule and is one of the first four
 abbrev early : ℕ × ℕ → Bool
@@ -74,7 +75,7 @@ others_used Reply t n k = rw (ne_eqb (tag "HL") t (λ e. n (sym e)))
 pub used_silent : (profile : ProfileName) (t : ℕ) (there : ℕ → Bool) (count : ℕ) → AllUsed profile t
     → Holds ≡ unused_verdict (is_unused (element_profile profile) t) there count
 used_silent profile t there count used =
-    sym (each_holds 9 1 count (λ (k : ℕ). not (is_unused (element_profile profile) t k && there k)) (λ k l u. rw (used k)))
+    sym (each_holds TooMany 1 count (λ (k : ℕ). not (is_unused (element_profile profile) t k && there k)) (λ k l u. rw (used k)))
 
 -- What the code finds of a reply's HL: the second element, or else the fourth
 module _ (there : ℕ → Bool) (count t : ℕ) where
@@ -95,19 +96,19 @@ module _ (there : ℕ → Bool) (count t : ℕ) where
         by false e true f = let z = eqb-true 4 k f in rw (← z, four (sym z))
         by false e false f = refl
 
-    pub second_there : there 2 ≡ true → broken 9 2 ≡ unused_verdict (is_unused (element_profile Reply) t) there count
+    pub second_there : there 2 ≡ true → broken TooMany 2 ≡ unused_verdict (is_unused (element_profile Reply) t) there count
     unfolding tag_number
     second_there e =
         sym
-        (each_broken 9 1 count 2 fine (λ j l u. fine_else j (λ z. absurd (omega arith)) (λ z. absurd (omega arith))) (omega arith)
+        (each_broken TooMany 1 count 2 fine (λ j l u. fine_else j (λ z. absurd (omega arith)) (λ z. absurd (omega arith))) (omega arith)
         (omega (arith, within 2 e)) (rw (hl, e)))
 
-    pub fourth_there : there 2 ≡ false → there 4 ≡ true → broken 9 4 ≡ unused_verdict (is_unused (element_profile Reply) t) there count
+    pub fourth_there : there 2 ≡ false → there 4 ≡ true → broken TooMany 4 ≡ unused_verdict (is_unused (element_profile Reply) t) there count
     unfolding tag_number
     fourth_there none e =
         sym
-        (each_broken 9 1 count 4 fine (λ j l u. fine_else j (λ z. none) (λ z. absurd (omega arith))) (omega arith)
+        (each_broken TooMany 1 count 4 fine (λ j l u. fine_else j (λ z. none) (λ z. absurd (omega arith))) (omega arith)
         (omega (arith, within 4 e)) (rw (hl, e)))
 
     pub neither_there : there 2 ≡ false → there 4 ≡ false → Holds ≡ unused_verdict (is_unused (element_profile Reply) t) there count
-    neither_there two four = sym (each_holds 9 1 count fine (λ k l u. fine_else k (λ z. two) (λ z. four)))
+    neither_there two four = sym (each_holds TooMany 1 count fine (λ k l u. fine_else k (λ z. two) (λ z. four)))

@@ -20,6 +20,7 @@ use Rattle.elements.specs.Rules.{is_unused, absent_if, rule_of, note_holds, name
 use Rattle.elements.specs.internal.Verdicts.{rules_of}
 use Rattle.elements.proofs.FirstBroken.{each_same}
 use Rattle.elements.proofs.EveryTag.{last_small, note_within, notes_small, ruled_by, ruled_none}
+use Rattle.elements.specs.declared.verdict.Reason.TheVariants.{Missing, TooMany, Unfit, BrokenNote}
 
 -- two tests that agree up to 31 agree on lists of such numbers
 module _ (f g : ℕ → Bool) (same : (k : ℕ) → k ≤ 31 → f k ≡ g k) where
@@ -46,7 +47,7 @@ module _ (v w : View) (count : element_count v ≡ element_count w) (same : (k :
   notes_same : (ns : List Note) → every note_within ns ≡ true → note_checks ns (present_at v) ≡ note_checks ns (present_at w)
   notes_same [] e = refl
   notes_same (n ∷ ns) e =
-      ap₂ (λ (t : Bool) (l : List Check). check 11 (named_first n) t ∷ l)
+      ap₂ (λ (t : Bool) (l : List Check). check BrokenNote (named_first n) t ∷ l)
       (note_same (present_at v) (present_at w) (λ k l. ap present (same k l)) n
       (and_first (note_within n) (every note_within ns) e))
       (notes_same ns (and_second (note_within n) (every note_within ns) e))
@@ -62,17 +63,17 @@ module _ (v w : View) (count : element_count v ≡ element_count w) (same : (k :
 
     many_same : too_many_checks rules unused v ≡ too_many_checks rules unused w
     many_same =
-        ap (λ (n : ℕ). each 9 1 n (few_at v)) count
-        ∙ each_same 9 1 (element_count w) (few_at v) (few_at w) (λ k l u. few_same k)
+        ap (λ (n : ℕ). each TooMany 1 n (few_at v)) count
+        ∙ each_same TooMany 1 (element_count w) (few_at v) (few_at w) (λ k l u. few_same k)
 
     missing_same : missing_checks rules v ≡ missing_checks rules w
     missing_same =
-        each_same 8 1 (length rules.elements) (λ (k : ℕ). complete_by (rule_of rules k) (element_of v k))
+        each_same Missing 1 (length rules.elements) (λ (k : ℕ). complete_by (rule_of rules k) (element_of v k))
         (λ (k : ℕ). complete_by (rule_of rules k) (element_of w k)) (λ k l u. ap (complete_by (rule_of rules k)) (same k (omega arith)))
 
     unfit_same : unfit_checks rules v ≡ unfit_checks rules w
     unfit_same =
-        each_same 10 1 (length rules.elements) (λ (k : ℕ). suits_by (rule_of rules k) (element_of v k))
+        each_same Unfit 1 (length rules.elements) (λ (k : ℕ). suits_by (rule_of rules k) (element_of v k))
         (λ (k : ℕ). suits_by (rule_of rules k) (element_of w k)) (λ k l u. ap (suits_by (rule_of rules k)) (same k (omega arith)))
 
     checks_same : every note_within rules.notes ≡ true → checks_by rules unused v ≡ checks_by rules unused w

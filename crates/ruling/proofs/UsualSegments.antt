@@ -29,6 +29,7 @@ use Rattle.elements.proofs.FirstBroken.{and_then, broken_append, each_holds}
 use Rattle.elements.proofs.EveryTag.{few_empty}
 use Rattle.ruling.proofs.TooMany.{few_all}
 use Rattle.ruling.proofs.EarlyRules.{early_elements}
+use Rattle.elements.specs.declared.verdict.Reason.TheVariants.{Missing, Unfit}
 
 -- what a quick test passes suits its rule; nothing suits a rule that does not ask for it
 asked : (m : Bool) → (not m || true) && true ≡ true
@@ -110,10 +111,10 @@ module _ (s : Bytes) (starts : List ℕ) (layout : Layout) (tag : ℕ) (w : Suit
 
   elements : elements_verdict (rules_of tag) at w.upto ≡ Holds
   elements =
-      broken_append (each 8 1 w.upto (complete_at_of (rules_of tag) at)) (each 10 1 w.upto (suits_at_of (rules_of tag) at))
-      ∙ ap (λ (v : Verdict). and_then v (first_broken (each 10 1 w.upto (suits_at_of (rules_of tag) at))))
-      (each_holds 8 1 w.upto (complete_at_of (rules_of tag) at) complete)
-      ∙ each_holds 10 1 w.upto (suits_at_of (rules_of tag) at) suited
+      broken_append (each Missing 1 w.upto (complete_at_of (rules_of tag) at)) (each Unfit 1 w.upto (suits_at_of (rules_of tag) at))
+      ∙ ap (λ (v : Verdict). and_then v (first_broken (each Unfit 1 w.upto (suits_at_of (rules_of tag) at))))
+      (each_holds Missing 1 w.upto (complete_at_of (rules_of tag) at) complete)
+      ∙ each_holds Unfit 1 w.upto (suits_at_of (rules_of tag) at) suited
 
   -- so the three rules are silent
   pub usual_silent : Holds ≡ early_verdict (rules_of tag) at layout.count

@@ -1,6 +1,7 @@
 // The rules of a ruled segment, by its layout.
 ghost use Rattle.std.specs.Prelude.{◌≡◌, ◌+◌, ◌<◌, [], ◌∷◌};
 ghost use Rattle.elements.specs.Checks.{check, first_broken};
+ghost use Rattle.elements.specs.declared.verdict.Reason.TheVariants.{BrokenNote};
 ghost use Rattle.elements.specs.Data.{Paired, Required, pairs_from, rules_dtm, element_profile};
 ghost use Rattle.elements.specs.Rules.{rule_of, few_components, is_unused, note_holds, note_checks, ruled_checks};
 ghost use Rattle.elements.specs.internal.Layouts.{there_in, components_in, layout_view};
@@ -9,7 +10,7 @@ ghost use Rattle.ruling.specs.internal.Early.{unused_verdict, many_verdict, earl
 
 use crate::{units, usual};
 use elements::layout::Parts;
-use elements::verdict::{Fault, Verdict};
+use elements::verdict::{Reason, Verdict};
 use elements::{fitting, rules};
 use rows::profile::ProfileName;
 use rows::tags;
@@ -32,12 +33,12 @@ fn is_paired(parts: Parts, k: usize) -> bool
 
 // Answer 11 with that element, unless the note holds.
 fn note(holds: bool, element: usize) -> Verdict
-    ensures { result ≡ first_broken (check 11 element holds ∷ []) }
+    ensures { result ≡ first_broken (check BrokenNote element holds ∷ []) }
 {
     if holds {
         return Ok(());
     }
-    Err(Fault::note(element))
+    Err(Reason::BrokenNote.at_element(element))
 }
 
 // N1 and NCA: R0203, and the pair from element `pair` on.
@@ -66,6 +67,8 @@ fn date_notes(parts: Parts) -> Verdict
 }
 
 // LIN: P0405, P0607, .. P3031.
+// Not inlined: it is seldom asked, and the reader's loop keeps more in registers without it.
+#[inline(never)]
 fn item_notes(parts: Parts) -> Verdict
     requires { parts.layout.count < 32 }
     ensures { result ≡ first_broken (note_checks (pairs_from 4 14) (there_in parts.entry.bytes.now parts.entry.starts.now parts.entry.layout)) }
@@ -103,20 +106,24 @@ fn is_few(parts: Parts, component: u8, tag: u8) -> bool
 }
 
 // Answer 9: the first element with too many components, or past the last.
+// Not inlined: it is seldom asked, and the reader's loop keeps more in registers without it.
+#[inline(never)]
 fn too_many(parts: Parts, component: u8, tag: u8) -> Verdict
     ensures { result ≡ many_verdict (rules_of tag) (components_in parts.entry.bytes.now parts.entry.starts.now parts.entry.layout component) parts.entry.layout.count }
 {
     if !is_few(parts, component, tag) {
-        return Err(Fault::surplus(5));
+        return Err(Reason::TooMany.at_element(5));
     }
     let last = rules::last_ruled(tag);
     if last < parts.layout.count {
-        return Err(Fault::surplus(last + 1));
+        return Err(Reason::TooMany.at_element(last + 1));
     }
     Ok(())
 }
 
 // Answer 9 of an element that the profile wants absent: HL02 and HL04 of a reply.
+// Not inlined: it is seldom asked, and the reader's loop keeps more in registers without it.
+#[inline(never)]
 fn unused_verdict(parts: Parts, profile: ProfileName, tag: u8) -> Verdict
     ensures { result ≡ unused_verdict (is_unused (element_profile profile) tag) (there_in parts.entry.bytes.now parts.entry.starts.now parts.entry.layout) parts.entry.layout.count }
 {
@@ -127,10 +134,10 @@ fn unused_verdict(parts: Parts, profile: ProfileName, tag: u8) -> Verdict
                 return Ok(());
             }
             if is_there(parts, 2) {
-                return Err(Fault::surplus(2));
+                return Err(Reason::TooMany.at_element(2));
             }
             if is_there(parts, 4) {
-                return Err(Fault::surplus(4));
+                return Err(Reason::TooMany.at_element(4));
             }
             Ok(())
         }

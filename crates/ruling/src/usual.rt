@@ -16,6 +16,8 @@ use types::{quick, values};
 
 // A value of the type, of a length from least to most, that a quick test tells or, of a number or a type that has none, its check; or
 // nothing where the element may be absent.
+// Always inlined: the type is a constant at each call.
+#[inline(always)]
 fn suits(kind: Kind, must: bool, least: usize, most: usize, p: &[u8]) -> bool
     ensures { result ≡ true → Suits (simple must kind least most) p.now }
 {

@@ -34,7 +34,7 @@ pub(crate) fn figures(value: &[u8], from: usize, count: usize) -> usize
     value_from(0, &value[from..from + count])
 }
 
-// The number that one to ten digits write; 0 for any other value.
+// The number that one to ten digits write; 0 for any other value, and no `None`, as the definition `number_of` has it.
 #[tactic(auto, unfolding(crate::specs::Types::number_of))]
 pub fn number_of(value: &[u8]) -> usize
     ensures { result ≡ number_of value.now }

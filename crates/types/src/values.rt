@@ -8,11 +8,11 @@ use crate::kind::Kind;
 use crate::{dates, digits, numbers};
 use text::compare;
 
-// A capital letter or a digit.
+// A capital letter or a digit. Without branches, which patterns of ranges would bring.
 pub(crate) fn is_id_byte(b: u8) -> bool
     ensures { result ≡ is_id_byte b }
 {
-    matches!(b, b'A'..=b'Z' | b'0'..=b'9')
+    ((b'A' <= b) & (b <= b'Z')) | ((b'0' <= b) & (b <= b'9'))
 }
 
 // Capital letters and digits alone.

@@ -28,12 +28,15 @@ pub(crate) fn print_answer<O: Write>(out: &mut O, answer: Answer) -> io::Result<
         ) => writeln!(out, "0 {segments} {levels} {bytes}"),
         Err(
             Refusal {
-                number,
+                reason,
                 segment,
                 byte,
                 element,
             },
-        ) => writeln!(out, "{number} {segment} {byte} {element}"),
+        ) => {
+            let number = reason.number();
+            writeln!(out, "{number} {segment} {byte} {element}")
+        }
     }
 }
 
@@ -41,7 +44,10 @@ pub(crate) fn print_answer<O: Write>(out: &mut O, answer: Answer) -> io::Result<
 pub(crate) fn print_walked<O: Write>(out: &mut O, walked: Walked) -> io::Result<()> {
     match walked {
         Ok(levels) => writeln!(out, "0 {levels}"),
-        Err(Unlisted { number, level }) => writeln!(out, "{number} {level}"),
+        Err(Unlisted { reason, level }) => {
+            let number = reason.number();
+            writeln!(out, "{number} {level}")
+        }
     }
 }
 

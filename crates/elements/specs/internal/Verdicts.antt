@@ -6,6 +6,7 @@ use Rattle.elements.specs.Data.{Simple, Composite, Element, Rules, value, first_
 use Rattle.elements.specs.Checks.{Verdict, each, first_broken}
 use Rattle.elements.specs.Rules.{rule_of, complete_by, suits_by}
 use Rattle.elements.specs.declared.rules.Rule.{Rule}
+use Rattle.elements.specs.declared.verdict.Reason.TheVariants.{Missing, Unfit}
 
 -- the element that a rule of the code describes
 abbrev pub element_by : Rule → Element
@@ -37,7 +38,7 @@ unfoldable pub suits_at_of : Rules → (ℕ → Piece) → ℕ → Bool
 suits_at_of rules at k = suits_by (rule_of rules k) (at k)
 
 abbrev pub elements_verdict : Rules → (ℕ → Piece) → ℕ → Verdict
-elements_verdict rules at upto = first_broken (each 8 1 upto (complete_at_of rules at) ++ each 10 1 upto (suits_at_of rules at))
+elements_verdict rules at upto = first_broken (each Missing 1 upto (complete_at_of rules at) ++ each Unfit 1 upto (suits_at_of rules at))
 
 -- r is the last element to look at: no further than the last with a rule, and as far as the last that is there or has to be
 pub record Reached (count needed last r : ℕ) : Type 0 where

@@ -32,6 +32,7 @@ use Rattle.rows.proofs.NextRows.{next_of, after, edges842}
 use Rattle.rows.proofs.RowStep.{step_of}
 use Rattle.elements.specs.Checks.{Check}
 use Rattle.elements.specs.Rules.{data_checks, byte_checks, end_checks, ruled_checks}
+use Rattle.elements.specs.declared.verdict.Reason.TheVariants.{Unended, NoRow}
 use Rattle.gate.specs.Profile.{Profile, profile_of}
 use Rattle.gate.specs.Segments.{tag_in_of, is_hl, is_se, claims, opening}
 use Rattle.gate.specs.Answers.{Answer}
@@ -81,14 +82,14 @@ tested_bad : (cs : List Check) (d : Says) → IsBad d → IsBad (tested cs d)
 tested_bad [] d h = h
 tested_bad (c ∷ cs) d h = by c.holds (tested_bad cs d h)
   where
-    by : (b : Bool) → IsBad (tested cs d) → IsBad (elim b [ true ↦ tested cs d | false ↦ Bad c.number c.element ])
+    by : (b : Bool) → IsBad (tested cs d) → IsBad (elim b [ true ↦ tested cs d | false ↦ Bad c.reason c.element ])
     by true i = i
     by false i = tt
 
 -- a BIN is not the first segment
 never_first : (profile : Profile) (h : List View) (count attached : Bytes) (r : ℕ) → says profile [] h (bin_view count attached) ≡ Fine r → ⊥
 unfolding says tag_in_of tag_number step_of next_of after edges842 list842
-never_first profile h count attached r z = subst (λ (d : Says). IsBad d) z (tested_bad (early (bin_view count attached)) (Bad 7 0) tt)
+never_first profile h count attached r z = subst (λ (d : Says). IsBad d) z (tested_bad (early (bin_view count attached)) (Bad NoRow 0) tt)
 
 -- behind other segments the first stays, whatever is added
 opening_any : (v v' : View) (h : List View) → 1 ≤ length h → opening (v ∷ h) ≡ opening (v' ∷ h)
@@ -219,7 +220,7 @@ module _ (profile : Profile) (plain : Plain profile) (how : How) (segments level
       (on ps (put gs at h) (w ++ (r ∷ [])) next end m m' l.3 (subst (λ (k : ℕ). Led k m' ps end g') (sym e) l'.3) (simp length-append (omega (arith, n))))))
 
   ahead_same : (fuel : ℕ) → Ahead fuel
-  ahead_same zero ps gs w at end s s' l l' n = refused_same profile how segments levels gs gs w at 3 0 (alike_self how gs)
+  ahead_same zero ps gs w at end s s' l l' n = refused_same profile how segments levels gs gs w at Unended 0 (alike_self how gs)
   ahead_same (suc fuel) ps gs w at end s s' l l' n = ahead_more fuel (ahead_same fuel) ps gs w at end s s' l l' n
 
 -- a BIN has no rules of elements

@@ -15,6 +15,9 @@ use Rattle.text.specs.Separators.{fit_separators}
 use Rattle.text.specs.Cut.{Placed}
 use Rattle.text.proofs.Bools.{passes}
 use Rattle.text.proofs.View.{fitted}
+use Rattle.elements.specs.Reasons.{number_of}
+use Rattle.elements.specs.declared.verdict.Reason.{Reason}
+use Rattle.elements.specs.declared.verdict.Reason.TheVariants.{UnfitSeparators, TooLong}
 use Rattle.levels.specs.Widths.{segment_width, level_width}
 use Rattle.gate.specs.Answers.{Answer, accepted, refused, IsAccepted, Fault}
 use Rattle.gate.specs.Profile.{profile_of}
@@ -46,7 +49,7 @@ pub record Proper (how : How) (s : Bytes) (before : Tables) (r : Answer) (after 
   pub short : length s ≤ limit
   pub read : Read (profile_of how) how s before r after
 
-pub proper : (how : How) (s : Bytes) (before : Tables) (r : Answer) (after : Tables) → (r ≡ refused 1 0 0 0 → ⊥) → (r ≡ refused 2 0 0 0 → ⊥)
+pub proper : (how : How) (s : Bytes) (before : Tables) (r : Answer) (after : Tables) → (r ≡ refused UnfitSeparators 0 0 0 → ⊥) → (r ≡ refused TooLong 0 0 0 → ⊥)
     → Reads how s before r after → Proper how s before r after
 unfolding ReadsBy
 proper how s before r after not-1 not-2 x = fit (fit_separators how.separators) refl x
@@ -54,18 +57,18 @@ proper how s before r after not-1 not-2 x = fit (fit_separators how.separators) 
     within : (b : Bool) → leb (length s) limit ≡ b → T (fit_separators how.separators) → ReadsWithin b (profile_of how) how s before r after
         → Proper how s before r after
     within true e f y = record { fit = f; short = leb-true (length s) limit e; read = y }
-    within false e f y = absurd (not-2 (refusal_of r 2 0 0 0 (omega arith) y.answer))
+    within false e f y = absurd (not-2 (refusal_of r TooLong 0 0 0 (omega arith) y.answer))
 
     fit : (b : Bool) → fit_separators how.separators ≡ b → ReadsFit b (profile_of how) how s before r after → Proper how s before r after
     fit true e y = within (leb (length s) limit) refl (rw e tt) y
-    fit false e y = absurd (not-1 (refusal_of r 1 0 0 0 (omega arith) y.answer))
+    fit false e y = absurd (not-1 (refusal_of r UnfitSeparators 0 0 0 (omega arith) y.answer))
 
 -- the number of an answer
 number_told : Answer → ℕ
 number_told (Ok a) = 0
-number_told (Err r) = r.number
+number_told (Err r) = number_of r.reason
 
-fault_proper : (how : How) (s : Bytes) (before : Tables) (n k b e : ℕ) (after : Tables) → Fault n → Reads how s before (refused n k b e) after
+fault_proper : (how : How) (s : Bytes) (before : Tables) (n : Reason) (k b e : ℕ) (after : Tables) → Fault (number_of n) → Reads how s before (refused n k b e) after
     → Proper how s before (refused n k b e) after
 unfolding number_told
 fault_proper how s before n k b e after f x =
@@ -83,7 +86,7 @@ only_answer : (how : How) (s : Bytes) (t : Tables) (r : Answer) (kept : List Pla
 only_answer how s t r kept w fit short x r' after y = (run_once (reads_read how s fit short t r' after y).run x).0
 
 -- Condition 3: "A verdict is final". A fault stands whatever follows the segment, with any larger tables
-pub refusal_final : (how : How) (s : Bytes) (before : Tables) (n k b e : ℕ) (after : Tables) → Fault n → Reads how s before (refused n k b e) after
+pub refusal_final : (how : How) (s : Bytes) (before : Tables) (n : Reason) (k b e : ℕ) (after : Tables) → Fault (number_of n) → Reads how s before (refused n k b e) after
     → Final how before (up_to_segment how s b) (refused n k b e)
 refusal_final how s before n k b e after f x more short u larger r' after' y =
     let p = fault_proper how s before n k b e after f x in
@@ -99,14 +102,14 @@ acceptance_final how s before a l b after x more short u larger r' after' y =
     (acceptance_stands (profile_of how) how (fitted how.separators p.fit) before u larger s a l b p.read.kept p.read.numbers p.read.run more) r' after' y
 
 -- the bytes up to a refused segment begin the input
-pub refusal_begins : (how : How) (s : Bytes) (before : Tables) (n k b e : ℕ) (after : Tables) → Fault n → Reads how s before (refused n k b e) after
+pub refusal_begins : (how : How) (s : Bytes) (before : Tables) (n : Reason) (k b e : ℕ) (after : Tables) → Fault (number_of n) → Reads how s before (refused n k b e) after
     → BeginsWith (up_to_segment how s b) s
 refusal_begins how s before n k b e after f x =
     let p = fault_proper how s before n k b e after f x in
     refusal_begun (profile_of how) how (fitted how.separators p.fit) before before (record { segments = omega arith; levels = omega arith }) s n k b e p.read.kept p.read.numbers f p.read.run
 
 -- a refusal comes no sooner than it must: the segments before the fault can be continued to a transaction that meets every rule
-pub refusal_not_early : (how : How) (s : Bytes) (before : Tables) (n k b e : ℕ) (after : Tables) → Fault n → Reads how s before (refused n k b e) after
+pub refusal_not_early : (how : How) (s : Bytes) (before : Tables) (n : Reason) (k b e : ℕ) (after : Tables) → Fault (number_of n) → Reads how s before (refused n k b e) after
     → Continues how s k b
 refusal_not_early how s before n k b e after f x =
     let p = fault_proper how s before n k b e after f x in
@@ -176,11 +179,11 @@ answered how s before = fit (fit_separators how.separators)
           recorded (profile_of how) how before o.1 o.2,
           record { kept = o.1; numbers = o.2; run = computes (profile_of how) how before s; tables = refl },
         )
-    within false = (refused 2 0 0 0, before, record { answer = refl; unchanged = refl })
+    within false = (refused TooLong 0 0 0, before, record { answer = refl; unchanged = refl })
 
     fit : (b : Bool) → (r : Answer) × (after : Tables) × ReadsFit b (profile_of how) how s before r after
     fit true = within (leb (length s) limit)
-    fit false = (refused 1 0 0 0, before, record { answer = refl; unchanged = refl })
+    fit false = (refused UnfitSeparators 0 0 0, before, record { answer = refl; unchanged = refl })
 
 -- Condition 1
 pub condition_1 : Condition1

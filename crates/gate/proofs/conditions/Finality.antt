@@ -15,6 +15,8 @@ use Rattle.text.specs.Cut.{Cut, Whole, Placed}
 use Rattle.text.proofs.CutLaws.{Faulty, CutLaw, Front, leads_front}
 use Rattle.text.proofs.DocumentCut.{cut_law}
 use Rattle.text.proofs.LineEnds.{skip_law}
+use Rattle.elements.specs.Reasons.{number_of}
+use Rattle.elements.specs.declared.verdict.Reason.{Reason}
 use Rattle.gate.specs.Answers.{accepted, refused, Fault}
 use Rattle.gate.specs.Profile.{Profile}
 use Rattle.gate.specs.Segments.{seen, onto}
@@ -78,7 +80,7 @@ module _ (profile : Profile) (how : How) (fit : Fitted how.separators) (t u : Ta
       rw (a, d, k)
 
   -- what a fault rests on: bytes at the start of the rest, not none, that the cut has looked at; and the same fault whatever follows them
-  record Rests (gs : List Placed) (rows : List ℕ) (end : ℕ) (rest : Bytes) (n e : ℕ) : Type 0 where
+  record Rests (gs : List Placed) (rows : List ℕ) (end : ℕ) (rest : Bytes) (n : Reason) (e : ℕ) : Type 0 where
     pub x : Bytes
     pub old : Bytes
     pub some : 0 < length x
@@ -86,12 +88,12 @@ module _ (profile : Profile) (how : How) (fit : Fitted how.separators) (t u : Ta
     pub looked_is : looked_at how (cut_by how (x ++ old)) ≡ x
     pub still : (more : Bytes) → Fails profile how u gs rows end (x ++ more) n e
 
-  rests : (gs : List Placed) (rows : List ℕ) (end : ℕ) (rest : Bytes) (n e : ℕ) → Fault n → Fails profile how t gs rows end rest n e
+  rests : (gs : List Placed) (rows : List ℕ) (end : ℕ) (rest : Bytes) (n : Reason) (e : ℕ) → Fault (number_of n) → Fails profile how t gs rows end rest n e
       → Rests gs rows end rest n e
   rests gs rows end rest n e fault (inl x) =
       stop x.upto x.more (subst (λ (c : Cut). CutLaw how.separators.terminator (cut_by how) rest c) x.stops (cut_law how.separators fit rest))
     where
-      stop : (upto old : Bytes) → (n ≡ 3) ⊎ Faulty (cut_by how) rest n e upto old → Rests gs rows end rest n e
+      stop : (upto old : Bytes) → (number_of n ≡ 3) ⊎ Faulty (cut_by how) rest (number_of n) e upto old → Rests gs rows end rest n e
       stop upto old (inl y) = absurd (omega (arith, y, fault.from))
       stop upto old (inr y) = record {
         x = upto;
@@ -114,10 +116,10 @@ module _ (profile : Profile) (how : How) (fit : Fitted how.separators) (t u : Ta
         looked_is = ap (looked_at how) (cut x.more);
         still = λ more. inr (inl (record { segment = g; more = more; next = cut more; first = x.first }));
       }
-  rests gs rows end rest n e fault (inr (inr x)) = absurd (fault_room n fault x.number_is)
+  rests gs rows end rest n e fault (inr (inr x)) = absurd (fault_room n fault x.reason_is)
 
   -- a fault, in the bytes
-  module _ (s : Bytes) (n k b e : ℕ) (kept : List Placed) (w : List ℕ) (fault : Fault n) (r : Run profile how t s (refused n k b e) kept w) where
+  module _ (s : Bytes) (n : Reason) (k b e : ℕ) (kept : List Placed) (w : List ℕ) (fault : Fault (number_of n)) (r : Run profile how t s (refused n k b e) kept w) where
     on : Rests r.gs r.rows r.end r.rest n e
     on = rests r.gs r.rows r.end r.rest n e fault (refused_fails profile how t r.gs r.rows r.end r.rest n k b e kept w r.ends)
 
@@ -144,7 +146,7 @@ module _ (profile : Profile) (how : How) (fit : Fitted how.separators) (t u : Ta
           rest = on.x ++ more;
           passed = there.again more;
           ends = record {
-            number = n;
+            reason = n;
             element = e;
             cause = on.still more;
             kept_is = r.ends.kept_is;

@@ -75,9 +75,9 @@ module _ (q : Separators) where
       counts = x.counts;
     }
     ends_same gs rows end rest (Err r) kept numbers x = record {
-      number = x.number;
+      reason = x.reason;
       element = x.element;
-      cause = fails_moved (profile_of (reading name q lines)) name q lines lines' before gs gs rows end end rest refl x.number x.element x.cause;
+      cause = fails_moved (profile_of (reading name q lines)) name q lines lines' before gs gs rows end end rest refl x.reason x.element x.cause;
       kept_is = x.kept_is;
       numbers_is = x.numbers_is;
       place = x.place;

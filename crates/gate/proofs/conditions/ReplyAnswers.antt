@@ -13,6 +13,8 @@ use Rattle.rows.specs.declared.profile.ProfileName.TheVariants.{Reply}
 use Rattle.elements.specs.Data.{element_profile}
 use Rattle.elements.specs.Checks.{Check, Keeps}
 use Rattle.elements.specs.Rules.{ruled_checks}
+use Rattle.elements.specs.Reasons.{number_of}
+use Rattle.elements.specs.declared.verdict.Reason.{Reason}
 use Rattle.levels.specs.Profile.{storage_reply}
 use Rattle.levels.specs.Levels.{Claim, claim_of, Level}
 use Rattle.levels.specs.Rules.{level_checks}
@@ -65,7 +67,7 @@ module _ (w : List ℕ) (h : List View) (v : View) (alone : Everyone StandsAlone
       either OfReply (is_se v) (closing_checks profile h v)
       (λ is. (inl (above 16 1 (omega arith)), (inl (above 16 2 (omega arith)), (inr (alone_filled (levels Reply h) alone), tt))))
 
-  late_says : (n e : ℕ) → FirstBroken (as_rules (late profile h v)) n e → OfReply n e
+  late_says : (n : Reason) (e : ℕ) → FirstBroken (as_rules (late profile h v)) n e → OfReply (number_of n) e
   late_says n e f =
       let hl = hl_checks profile h v in
       let se = se_checks profile h v in
@@ -73,17 +75,17 @@ module _ (w : List ℕ) (h : List View) (v : View) (alone : Everyone StandsAlone
       (λ k. first_says OfReply hl (as_rules se) n e (hl_says k) (λ j. list_says OfReply se n e se_says))
       (rw (as_rules_append (ruled ++ hl) se, as_rules_append ruled hl, append_assoc) at f)
 
-  row_says : (n e : ℕ) → FirstBroken (row_rules profile w v ++ as_rules (late profile h v)) n e → OfReply n e
+  row_says : (n : Reason) (e : ℕ) → FirstBroken (row_rules profile w v ++ as_rules (late profile h v)) n e → OfReply (number_of n) e
   row_says n e (inl f) = rw f.1 (below 7 e (omega arith))
   row_says n e (inr (x, inl f)) = rw f.1 (above 24 e (omega arith))
   row_says n e (inr (x, inr f)) = late_says n e f.1
 
-  broken_says : (n e : ℕ) → FirstBroken (rules profile w h v) n e → OfReply n e
+  broken_says : (n : Reason) (e : ℕ) → FirstBroken (rules profile w h v) n e → OfReply (number_of n) e
   broken_says n e f = rules_say OfReply profile w h v n e (early_says OfReply (λ n e l u. below n e (omega arith)) v) (row_says n e) f
 
 -- a refusal of a reply, by either choice of line ends
-pub reply_answers : (q : Separators) (lines : LineEnds) (s : Bytes) (before : Tables) (n k b e : ℕ) (after : Tables)
-    → Reads (reading Reply q lines) s before (refused n k b e) after → OfReply n e
+pub reply_answers : (q : Separators) (lines : LineEnds) (s : Bytes) (before : Tables) (n : Reason) (k b e : ℕ) (after : Tables)
+    → Reads (reading Reply q lines) s before (refused n k b e) after → OfReply (number_of n) e
 reply_answers q lines s before n k b e after x =
     let how = reading Reply q lines in
     refusal_says OfReply how s before (record {

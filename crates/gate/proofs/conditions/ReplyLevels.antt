@@ -17,6 +17,7 @@ use Rattle.rows.specs.declared.profile.ProfileName.TheVariants.{Reply}
 use Rattle.elements.specs.Data.{rules_hl, element_profile}
 use Rattle.elements.specs.Checks.{Keeps}
 use Rattle.elements.specs.Rules.{few_by, absent_if, too_many_checks, missing_checks, unfit_checks, note_checks, present_at, ruled_checks}
+use Rattle.elements.specs.declared.verdict.Reason.TheVariants.{TooMany}
 use Rattle.levels.specs.Profile.{storage_reply}
 use Rattle.levels.specs.Levels.{Claim, text_of, claim_of, Level, level_of}
 use Rattle.levels.specs.Rules.{filled_from, filled}
@@ -52,7 +53,7 @@ unused_text v r k l u =
     (λ h.
     let few = few_by rules_hl k (element_of v k) in
     let t =
-    keeps_at 9 1 (element_count v) (λ (k : ℕ). few_by rules_hl k (element_of v k) && absent_if (unused k) (element_of v k)) c k l (omega arith) in
+    keeps_at TooMany 1 (element_count v) (λ (k : ℕ). few_by rules_hl k (element_of v k) && absent_if (unused k) (element_of v k)) c k l (omega arith) in
     no_text (element_of v k) (rw u at (second_of few (absent_if (unused k) (element_of v k)) t)))
     (λ h. ap text_of (get_or-eq_default v empty {n = k} (omega arith)))
 

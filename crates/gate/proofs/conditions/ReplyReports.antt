@@ -20,6 +20,8 @@ use Rattle.rows.specs.declared.profile.ProfileName.TheVariants.{Report, Reply}
 use Rattle.elements.specs.Data.{Rules, ruled_segments, element_profile}
 use Rattle.elements.specs.Checks.{each, Keeps}
 use Rattle.elements.specs.Rules.{few_by, is_unused, absent_if, too_many_checks, missing_checks, unfit_checks, note_checks, present_at, checks_by, checks_among, ruled_checks}
+use Rattle.elements.specs.declared.verdict.Reason.{Reason}
+use Rattle.elements.specs.declared.verdict.Reason.TheVariants.{TooMany}
 use Rattle.levels.specs.Profile.{six_codes, code_among, nonconformance, storage_reply, if_known, code_of, may_stand_alone, may_be_marked, may_hang}
 use Rattle.levels.specs.Levels.{Claim, claim_of, Level}
 use Rattle.levels.specs.Rules.{absent, mark_fits, level_checks}
@@ -83,9 +85,9 @@ rows_wider : (w : List ℕ) → Within (rows_of Reply) w → Within (rows_of Rep
 rows_wider w a = every_weaker (rows_of Reply) (rows_of Report) (λ x m. tt) w a
 
 -- the tests of elements that may all be present ask for less
-each_weaker : (number a n : ℕ) (f g : ℕ → Bool) → ((k : ℕ) → T (f k) → T (g k)) → Keeps (each number a n f) → Keeps (each number a n g)
-each_weaker number a zero f g h k = tt
-each_weaker number a (suc n) f g h k = (h a k.0, each_weaker number (suc a) n f g h k.1)
+each_weaker : (reason : Reason) (a n : ℕ) (f g : ℕ → Bool) → ((k : ℕ) → T (f k) → T (g k)) → Keeps (each reason a n f) → Keeps (each reason a n g)
+each_weaker reason a zero f g h k = tt
+each_weaker reason a (suc n) f g h k = (h a k.0, each_weaker reason (suc a) n f g h k.1)
 
 by_weaker : (rules : Rules) (unused : ℕ → Bool) (v : View) → Keeps (checks_by rules unused v) → Keeps (checks_by rules (λ k. false) v)
 by_weaker rules unused v k =
@@ -98,7 +100,7 @@ by_weaker rules unused v k =
     let b = keeps_split (many ++ missing) unfit a.0 in
     let c = keeps_split many missing b.0 in
     let few =
-    each_weaker 9 1 (element_count v) (λ (k : ℕ). few_by rules k (element_of v k) && absent_if (unused k) (element_of v k))
+    each_weaker TooMany 1 (element_count v) (λ (k : ℕ). few_by rules k (element_of v k) && absent_if (unused k) (element_of v k))
     (λ (k : ℕ). few_by rules k (element_of v k) && true)
     (λ k t. both (few_by rules k (element_of v k)) true (first_of (few_by rules k (element_of v k)) (absent_if (unused k) (element_of v k)) t) tt) c.0 in
     keeps_both (fewer ++ missing ++ unfit) notes (keeps_both (fewer ++ missing) unfit (keeps_both fewer missing few c.1) b.1) a.1

@@ -20,6 +20,7 @@ use Rattle.text.proofs.View.{fitted}
 use Rattle.text.proofs.CutLaws.{CutLaw}
 use Rattle.text.proofs.DocumentCut.{cut_law}
 use Rattle.rows.specs.declared.profile.ProfileName.{ProfileName}
+use Rattle.elements.specs.Reasons.{number_of}
 use Rattle.gate.specs.Profile.{Profile, profile_of}
 use Rattle.gate.specs.Segments.{seen, onto, levels_in}
 use Rattle.gate.specs.Answers.{Answer, accepted, refused}
@@ -38,12 +39,12 @@ abbrev pub closed_up : ℕ → List Placed → List Placed
 closed_up at [] = []
 closed_up at (g ∷ gs) = record { at = at; segment = g.segment } ∷ closed_up (at + length g.segment + 1) gs
 
--- the same numbers but for those of bytes
+-- the same but for the numbers of bytes
 abbrev pub SameVerdict : Answer → Answer → Type 0
 SameVerdict (Ok a) (Ok a') = (a.segments ≡ a'.segments) × (a.levels ≡ a'.levels)
 SameVerdict (Ok a) (Err r) = ⊥
 SameVerdict (Err r) (Ok a) = ⊥
-SameVerdict (Err r) (Err r') = (r.number ≡ r'.number) × (r.segment ≡ r'.segment) × (r.element ≡ r'.element)
+SameVerdict (Err r) (Err r') = (r.reason ≡ r'.reason) × (r.segment ≡ r'.segment) × (r.element ≡ r'.element)
 
 -- what the strict reading says of bytes whose line ends are taken out
 pub record TakenOut (name : ProfileName) (q : Separators) (s : Bytes) (before : Tables) (r : Answer) (after : Tables) : Type 0 where
@@ -144,16 +145,16 @@ module _ (profile : Profile) (name : ProfileName) (q : Separators) (before : Tab
     verdict = (refl, refl);
   }
   ends_strictly (Err r) kept numbers x = record {
-    answer = refused r.number r.segment to r.element;
+    answer = refused r.reason r.segment to r.element;
     ends = record {
-      number = x.number;
+      reason = x.reason;
       element = x.element;
-      cause = fails_moved profile name q Skipped Strict before gs (closed_up 0 gs) rows end to rest (seen_closed name q 0 gs) x.number x.element x.cause;
+      cause = fails_moved profile name q Skipped Strict before gs (closed_up 0 gs) rows end to rest (seen_closed name q 0 gs) x.reason x.element x.cause;
       kept_is = ap (closed_up 0) x.kept_is;
       numbers_is = x.numbers_is;
       place =
           let c = x.place in
-          let n : r.number ≡ x.number = cc in
+          let n : number_of r.reason ≡ number_of x.reason = cc in
           let k : r.segment ≡ length gs + 1 = cc in
           let e : r.element ≡ x.element = cc in
           rw (length-closed 0 gs, n, k, e);

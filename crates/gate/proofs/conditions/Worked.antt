@@ -22,6 +22,7 @@ use Rattle.text.specs.Cut.{cut_attached, cut_of}
 use Rattle.text.specs.declared.lines.LineEnds.{LineEnds}
 use Rattle.text.specs.declared.lines.LineEnds.TheVariants.{Skipped, Strict}
 use Rattle.elements.specs.Rules.{data_checks, byte_checks, end_checks, ruled_checks}
+use Rattle.elements.specs.declared.verdict.Reason.TheVariants.{Unended, BadByte, NoRow, BrokenNote, RepeatedName, UnknownParent, BadCode, BadMark, BadClose, NoRoom}
 use Rattle.levels.specs.Profile.{code_of, may_stand_alone, may_be_marked, may_hang}
 use Rattle.levels.specs.Rules.{filled}
 use Rattle.gate.specs.Segments.{tag_in_of, levels_in}
@@ -56,7 +57,7 @@ cases =
       report = "ST*842*0001~BNR*11*NR7*20240301~HL*1**RP*1~HL*2*1*F*0~NCD*1~NCA**R1~SE*7*0001~";
       segment_room = 1000;
       level_room = 200;
-      answer = refused 14 4 43 2;
+      answer = refused BadCode 4 43 2;
       segments = heading [];
       levels = 3 ∷ 0 ∷ 1 ∷ 1 ∷ [];
     }
@@ -64,7 +65,7 @@ cases =
       report = "ST*842*0001~BNR*11*NR7*20240301~HL*1**RP*1~HL*2*9*I*0~NCD*1~NCA**R1~SE*7*0001~";
       segment_room = 1000;
       level_room = 200;
-      answer = refused 13 4 43 2;
+      answer = refused UnknownParent 4 43 2;
       segments = heading [];
       levels = 3 ∷ 0 ∷ 1 ∷ 1 ∷ [];
     }
@@ -72,7 +73,7 @@ cases =
       report = "ST*842*0001~BNR*11*NR7*20240301~HL*1**RP*1~HL*1*1*I*0~NCD*1~NCA**R1~SE*7*0001~";
       segment_room = 1000;
       level_room = 200;
-      answer = refused 12 4 43 1;
+      answer = refused RepeatedName 4 43 1;
       segments = heading [];
       levels = 3 ∷ 0 ∷ 1 ∷ 1 ∷ [];
     }
@@ -80,7 +81,7 @@ cases =
       report = "ST*842*0001~BNR*11*NR7*20240301~HL*1**RP*1~HL*2*1*I*0~NCD*1~NCA**R1~SE*6*0001~";
       segment_room = 1000;
       level_room = 200;
-      answer = refused 16 7 68 1;
+      answer = refused BadClose 7 68 1;
       segments = heading (second (54 ∷ 5 ∷ 46 ∷ 2 ∷ 60 ∷ 7 ∷ 64 ∷ 2 ∷ []));
       levels = 3 ∷ 0 ∷ 1 ∷ 1 ∷ 4 ∷ 1 ∷ 2 ∷ 2 ∷ [];
     }
@@ -88,16 +89,16 @@ cases =
       report = "ST*842*0001~BNR*11*NR7*20240301~HL*1**RP*1~SE*4*0001~";
       segment_room = 1000;
       level_room = 200;
-      answer = refused 15 4 43 0;
+      answer = refused BadMark 4 43 0;
       segments = heading [];
       levels = 3 ∷ 0 ∷ 1 ∷ 1 ∷ [];
     }
-    ∷ record { report = ""; segment_room = 1000; level_room = 200; answer = refused 3 1 0 0; segments = []; levels = [] }
+    ∷ record { report = ""; segment_room = 1000; level_room = 200; answer = refused Unended 1 0 0; segments = []; levels = [] }
     ∷ record {
       report = "ST*842*0001~BNR*11*NR7*20240301~HL*1**RP*1~HL*2*1*I*0~NCA**R1~SE*7*0001~";
       segment_room = 1000;
       level_room = 200;
-      answer = refused 7 5 54 0;
+      answer = refused NoRow 5 54 0;
       segments = heading (second []);
       levels = 3 ∷ 0 ∷ 1 ∷ 1 ∷ 4 ∷ 1 ∷ 2 ∷ 2 ∷ [];
     }
@@ -105,7 +106,7 @@ cases =
       report = "ST*842*0001~BNR*11*NR7*20240301~HL*1**RP*1~HL*2*1*I*0~NCD*1~NCA**R1**5~SE*7*0001~";
       segment_room = 1000;
       level_room = 200;
-      answer = refused 11 6 60 4;
+      answer = refused BrokenNote 6 60 4;
       segments = heading (second (54 ∷ 5 ∷ 46 ∷ 2 ∷ []));
       levels = 3 ∷ 0 ∷ 1 ∷ 1 ∷ 4 ∷ 1 ∷ 2 ∷ 2 ∷ [];
     }
@@ -113,7 +114,7 @@ cases =
       report = "ST*842*0001~BNR*11*NR7*20240301~HL*1**RP*1~HL*2*1*I*0~NCD*1~NCA**R1~SE*7*0001~";
       segment_room = 6;
       level_room = 200;
-      answer = refused 17 7 68 0;
+      answer = refused NoRoom 7 68 0;
       segments = heading (second (54 ∷ 5 ∷ 46 ∷ 2 ∷ 60 ∷ 7 ∷ 64 ∷ 2 ∷ []));
       levels = 3 ∷ 0 ∷ 1 ∷ 1 ∷ 4 ∷ 1 ∷ 2 ∷ 2 ∷ [];
     }
@@ -126,7 +127,7 @@ with_line_ends lines = record {
   report = "ST*842*0001~\r\nBNR*11*NR7*20240301~\r\nHL*1**RP*1~\r\nHL*2*1*I*0~\r\nNCD*1~\r\nNCA**R1~\r\nSE*7*0001~\r\n";
   segment_room = 1000;
   level_room = 200;
-  answer = of_choice lines (accepted 7 2 90) (refused 5 2 12 0);
+  answer = of_choice lines (accepted 7 2 90) (refused BadByte 2 12 0);
   segments = 0 ∷ 11 ∷ 1 ∷ 0 ∷ of_choice lines (14 ∷ 19 ∷ 2 ∷ 0 ∷ 36 ∷ 10 ∷ 18 ∷ 1 ∷ 49 ∷ 10 ∷ 18 ∷ 2 ∷ 62 ∷ 5 ∷ 46 ∷ 2 ∷ 70 ∷ 7 ∷ 64 ∷ 2 ∷ 80 ∷ 9 ∷ 79 ∷ 0 ∷ []) [];
   levels = of_choice lines (3 ∷ 0 ∷ 1 ∷ 1 ∷ 4 ∷ 1 ∷ 2 ∷ 2 ∷ []) [];
 }

@@ -26,6 +26,8 @@ use Rattle.elements.specs.Data.{Rules, rules_hl, rules_se, element_profile}
 use Rattle.elements.specs.Checks.{Check, each, Keeps}
 use Rattle.elements.specs.Rules.{data_piece, data_checks, byte_checks, end_checks, too_many_checks, missing_checks, unfit_checks, note_checks, checks_by, ruled_checks, present_at}
 use Rattle.types.specs.declared.kind.Kind.TheVariants.{AN, ID, N0}
+use Rattle.elements.specs.declared.verdict.Reason.{Reason}
+use Rattle.elements.specs.declared.verdict.Reason.TheVariants.{BadByte}
 use Rattle.levels.specs.Profile.{level_profile}
 use Rattle.levels.specs.Levels.{claim_of, Level}
 use Rattle.levels.specs.Rules.{level_checks}
@@ -96,16 +98,16 @@ line_every f (s ∷ texts) h =
     (line_every f texts (second_of (f s) (every f texts) h))
 
 -- a test at each element
-each_by : (number a n : ℕ) (test : ℕ → Bool) → ((k : ℕ) → T (test k)) → Keeps (each number a n test)
-each_by number a zero test f = tt
-each_by number a (suc n) test f = (f a, each_by number (suc a) n test f)
+each_by : (reason : Reason) (a n : ℕ) (test : ℕ → Bool) → ((k : ℕ) → T (test k)) → Keeps (each reason a n test)
+each_by reason a zero test f = tt
+each_by reason a (suc n) test f = (f a, each_by reason (suc a) n test f)
 
 -- a line of printable texts keeps the rule of bytes
 line_bytes : (name : String) (texts : List Bytes) → T (every (every printable) (bytes name ∷ texts)) → Keeps (byte_checks (line name texts))
 unfolding byte_checks data_checks
 line_bytes name texts h =
     let v = inspected (line name texts) in
-    each_by 5 0 (length v) (λ (k : ℕ). data_piece (element_of v k))
+    each_by BadByte 0 (length v) (λ (k : ℕ). data_piece (element_of v k))
     (every_anywhere data_piece v empty tt (inspected_every data_piece (line name texts) (line_every (every printable) (bytes name ∷ texts) h)))
 
 -- an element of the line that is present ends with a byte

@@ -24,6 +24,7 @@ use Rattle.elements.specs.Data.{Rules, value, rules_st, rules_hl}
 use Rattle.elements.specs.Checks.{Keeps}
 use Rattle.elements.specs.Rules.{data_piece, data_checks, byte_checks, too_many_checks, missing_checks, fits_simple, unfit_checks, note_checks, checks_by, present_at}
 use Rattle.types.specs.declared.kind.Kind.TheVariants.{AN}
+use Rattle.elements.specs.declared.verdict.Reason.TheVariants.{BadByte}
 use Rattle.levels.specs.Profile.{level_profile, code_of, may_be_marked}
 use Rattle.levels.specs.Levels.{text_of, claim_of, Level, called, level_at, level_of}
 use Rattle.levels.specs.Rules.{level_checks, filled_from, filled}
@@ -42,7 +43,7 @@ unfolding data_checks
 element_printed v b k = go (dec_lt k (length v))
   where
     go : Dec (k < length v) → T (data_piece (element_of v k))
-    go (yes h) = keeps_at 5 0 (length v) (λ (j : ℕ). data_piece (element_of v j)) b k (omega arith) (omega arith)
+    go (yes h) = keeps_at BadByte 0 (length v) (λ (j : ℕ). data_piece (element_of v j)) b k (omega arith) (omega arith)
     go (no h) = rw (get_or-eq_default v empty {n = k} (omega arith)) tt
 
 -- the length of an element of one value

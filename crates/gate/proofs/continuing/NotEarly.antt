@@ -25,6 +25,8 @@ use Rattle.text.proofs.LineEnds.{skip_law}
 use Rattle.text.proofs.Writable.{writes, writes_writable, cut_writable, writable_cut, writable_seen}
 use Rattle.rows.specs.Tags.{tags, tag_number}
 use Rattle.rows.proofs.TagList.{tag_of_number}
+use Rattle.elements.specs.Reasons.{number_of}
+use Rattle.elements.specs.declared.verdict.Reason.{Reason}
 use Rattle.gate.specs.Answers.{refused, Fault}
 use Rattle.gate.specs.Profile.{profile_of}
 use Rattle.gate.specs.Segments.{tag_in_of, seen}
@@ -189,11 +191,11 @@ cut_behind : (g : Bytes) (t : ℕ) (m : Bytes) → (b : ℕ) × (y : Bytes) × (
 cut_behind [] t m = (t, m, refl)
 cut_behind (b ∷ g) t m = (b, g ++ t ∷ m, refl)
 
-fault_byte : (how : How) → Fitted how.separators → (t : Tables) (s : Bytes) (n k b e : ℕ) (kept : List Placed) (w : List ℕ) → Fault n
+fault_byte : (how : How) → Fitted how.separators → (t : Tables) (s : Bytes) (n : Reason) (k b e : ℕ) (kept : List Placed) (w : List ℕ) → Fault (number_of n)
     → (r : Run (profile_of how) how t s (refused n k b e) kept w) → (x : ℕ) × (y : Bytes) × (r.rest ≡ x ∷ y)
 fault_byte how fit t s n k b e kept w f r = by (refused_fails (profile_of how) how t r.gs r.rows r.end r.rest n k b e kept w r.ends)
   where
-    stopped : (u m : Bytes) → (n ≡ 3) ⊎ Faulty (cut_by how) r.rest n e u m → (x : ℕ) × (y : Bytes) × (r.rest ≡ x ∷ y)
+    stopped : (u m : Bytes) → (number_of n ≡ 3) ⊎ Faulty (cut_by how) r.rest (number_of n) e u m → (x : ℕ) × (y : Bytes) × (r.rest ≡ x ∷ y)
     stopped u m (inl z) = absurd (omega (arith, z, f.from))
     stopped u m (inr z) = let i = first_byte u m z.some in (i.0, i.1, z.whole ∙ i.2)
 
@@ -206,11 +208,11 @@ fault_byte how fit t s n k b e kept w f r = by (refused_fails (profile_of how) h
         subst (λ (c : Cut). CutLaw how.separators.terminator (cut_by how) r.rest c) x.next (cut_law how.separators fit r.rest) in
         let i = cut_behind x.segment how.separators.terminator x.more in
         (i.0, i.1, z.0 ∙ i.2)
-    by (inr (inr x)) = absurd (fault_room n f x.number_is)
+    by (inr (inr x)) = absurd (fault_room n f x.reason_is)
 
 -- what was passed before a fault can be continued
-pub fault_continues : (how : How) (t : Tables) (s : Bytes) (n k b e : ℕ) (kept : List Placed) (w : List ℕ) → T (fit_separators how.separators)
-    → length s ≤ limit → Fault n → Run (profile_of how) how t s (refused n k b e) kept w → Continues how s k b
+pub fault_continues : (how : How) (t : Tables) (s : Bytes) (n : Reason) (k b e : ℕ) (kept : List Placed) (w : List ℕ) → T (fit_separators how.separators)
+    → length s ≤ limit → Fault (number_of n) → Run (profile_of how) how t s (refused n k b e) kept w → Continues how s k b
 fault_continues how t s n k b e kept w fit short f r =
     let x = fault_byte how (fitted how.separators fit) t s n k b e kept w f r in
     let p : Passed (profile_of how) how t s r.gs r.rows r.end (x.0 ∷ x.1) = rw x.2 at r.passed in

@@ -27,6 +27,7 @@ use Rattle.elements.specs.Data.{Value, value, Simple, Rules, rules_hl, rules_se,
 use Rattle.types.specs.declared.kind.Kind.TheVariants.{AN, ID, N0}
 use Rattle.elements.specs.Checks.{Keeps}
 use Rattle.elements.specs.Rules.{is_unused, rule_of, fits_simple, fits_shape, too_many_checks, missing_checks, unfit_checks, note_checks, checks_by, ruled_checks, present_at}
+use Rattle.elements.specs.declared.verdict.Reason.TheVariants.{Unfit}
 use Rattle.levels.specs.Levels.{text_of, claim_of}
 use Rattle.rows.specs.declared.profile.ProfileName.{ProfileName}
 use Rattle.gate.specs.Segments.{piece_tag, tag_in_of}
@@ -128,7 +129,7 @@ ruled_simple rules unused v x k l h e t =
     let a = (keeps_split (too_many_checks rules unused v ++ missing_checks rules v ++ unfit_checks rules v) (note_checks rules.notes (present_at v)) t).0 in
     let b = (keeps_split (too_many_checks rules unused v ++ missing_checks rules v) (unfit_checks rules v) a).1 in
     let c =
-    keeps_at 10 1 (length rules.elements) (λ (k : ℕ). not (present (element_of v k)) || fits_shape (rule_of rules k).shape (element_of v k)) b k l (omega arith) in
+    keeps_at Unfit 1 (length rules.elements) (λ (k : ℕ). not (present (element_of v k)) || fits_shape (rule_of rules k).shape (element_of v k)) b k l (omega arith) in
     rw e at c
 
 -- the text of such an element is the piece's bytes

@@ -18,6 +18,7 @@ use Rattle.rows.proofs.FittingRow.{fits_tag, fits_once}
 use Rattle.rows.proofs.TagsDecideRows.{rows_once}
 use Rattle.elements.specs.Checks.{Check, each, Keeps}
 use Rattle.elements.specs.Rules.{byte_checks, end_checks, ruled_checks}
+use Rattle.elements.specs.declared.verdict.Reason.{Reason}
 use Rattle.gate.specs.Profile.{Profile}
 use Rattle.gate.specs.Segments.{tag_in_of, onto, opening}
 use Rattle.gate.specs.Rules.{tag_checks, hl_checks, se_checks, Rule, as_rules, row_rules, early, late, rules, Sound, FirstBroken, Kept, From}
@@ -34,14 +35,14 @@ keeps_both (c ∷ a) b x y = (x.0, keeps_both a b x.1 y)
 -- and their rules
 pub as_rules_append : (a b : List Check) → as_rules (a ++ b) ≡ as_rules a ++ as_rules b
 as_rules_append [] b = refl
-as_rules_append (c ∷ a) b = ap (λ (l : List Rule). record { number = c.number; element = c.element; Holds = T c.holds } ∷ l) (as_rules_append a b)
+as_rules_append (c ∷ a) b = ap (λ (l : List Rule). record { reason = c.reason; element = c.element; Holds = T c.holds } ∷ l) (as_rules_append a b)
 
 -- the same test of n elements holds at each
-pub keeps_at : (number a n : ℕ) (test : ℕ → Bool) → Keeps (each number a n test) → (k : ℕ) → a ≤ k → k < a + n → T (test k)
-keeps_at number a zero test h k l u = absurd (omega arith)
-keeps_at number a (suc n) test h k l u =
+pub keeps_at : (reason : Reason) (a n : ℕ) (test : ℕ → Bool) → Keeps (each reason a n test) → (k : ℕ) → a ≤ k → k < a + n → T (test k)
+keeps_at reason a zero test h k l u = absurd (omega arith)
+keeps_at reason a (suc n) test h k l u =
     by_cases (dec_lt a k)
-    (λ w. keeps_at number (suc a) n test h.1 k (omega arith) (omega arith))
+    (λ w. keeps_at reason (suc a) n test h.1 k (omega arith) (omega arith))
     (λ w. let z : a ≡ k = omega arith in rw z at h.0)
 
 -- every rule of the list holds
@@ -67,12 +68,12 @@ keeps_holds [] k = tt
 keeps_holds (c ∷ cs) k = (k.0, keeps_holds cs k.1)
 
 -- where a rule is broken not all hold, and the first that is broken is one
-broken_not_each : (rs : List Rule) (n e : ℕ) → FirstBroken rs n e → EachHolds rs → ⊥
+broken_not_each : (rs : List Rule) (n : Reason) (e : ℕ) → FirstBroken rs n e → EachHolds rs → ⊥
 broken_not_each [] n e f s = f
 broken_not_each (r ∷ rs) n e (inl f) s = f.0 s.0
 broken_not_each (r ∷ rs) n e (inr f) s = broken_not_each rs n e f.1 s.1
 
-pub broken_once : (rs : List Rule) (n e m f : ℕ) → FirstBroken rs n e → FirstBroken rs m f → (n ≡ m) × (e ≡ f)
+pub broken_once : (rs : List Rule) (n : Reason) (e : ℕ) (m : Reason) (f : ℕ) → FirstBroken rs n e → FirstBroken rs m f → (n ≡ m) × (e ≡ f)
 broken_once [] n e m f a b = absurd a
 broken_once (r ∷ rs) n e m f (inl a) (inl b) = (a.1 ∙ sym b.1, a.2 ∙ sym b.2)
 broken_once (r ∷ rs) n e m f (inl a) (inr b) = absurd (a.0 b.0)
@@ -110,7 +111,7 @@ module _ (profile : Profile) (w : List ℕ) (h : List View) (v : View) where
       (keeps_both (ruled ++ hl_checks profile h v) (se_checks profile h v) (keeps_both ruled (hl_checks profile h v) k.elements k.level) k.closing))
 
   -- so a segment that breaks a rule is not sound
-  pub broken_unsound : (n e r : ℕ) → FirstBroken (rules profile w h v) n e → Sound profile w h v r → ⊥
+  pub broken_unsound : (n : Reason) (e r : ℕ) → FirstBroken (rules profile w h v) n e → Sound profile w h v r → ⊥
   broken_unsound n e r f s = broken_not_each (rules profile w h v) n e f (sound_holds r s)
 
 -- each segment with those before it

@@ -1,7 +1,7 @@
 -- Every answer is one of the list: an acceptance, or a refusal numbered 1 to 17, of a reply 24 too.
 -- Assumes nothing.
 use Prim.Native.Nat.{ℕ, ◌≤◌}
-use mathlib.Core.Path.{◌≡◌, refl}
+use mathlib.Core.Path.{◌≡◌, refl, ap}
 use mathlib.Core.Logic.{◌⊎◌, ⊎_elim, inl, inr}
 use mathlib.Core.Bool.{Bool, true, false, cond}
 use mathlib.Core.List.{List, [], ◌++◌}
@@ -12,6 +12,8 @@ use Rattle.text.specs.View.{View, view_of}
 use Rattle.rows.specs.declared.profile.ProfileName.{ProfileName}
 use Rattle.rows.specs.declared.profile.ProfileName.TheVariants.{Report, Reply}
 use Rattle.elements.specs.Rules.{ruled_checks}
+use Rattle.elements.specs.Reasons.{number_of}
+use Rattle.elements.specs.declared.verdict.Reason.{Reason}
 use Rattle.levels.specs.Profile.{code_of}
 use Rattle.levels.specs.Levels.{claim_of, Level, level_at, parent_of}
 use Rattle.levels.specs.Rules.{level_checks, absent, root_checks, child_checks}
@@ -77,13 +79,13 @@ module _ (name : ProfileName) (w : List ℕ) (h : List View) (v : View) where
         (inl (tested name 16 2 (omega arith) (omega arith)), (inl (tested name 15 0 (omega arith) (omega arith)), tt)),
       )))
 
-  row_says : (n e : ℕ) → FirstBroken (row_rules profile w v ++ as_rules (late profile h v)) n e → Numbered name n e
+  row_says : (n : Reason) (e : ℕ) → FirstBroken (row_rules profile w v ++ as_rules (late profile h v)) n e → Numbered name (number_of n) e
   row_says n e (inl f) = rw f.1 (tested name 7 e (omega arith) (omega arith))
   row_says n e (inr (x, inl f)) =
-      (omega (arith, f.1), inr (record { is = f.1; reply = not_admitted name x.0 (λ a. f.0 (x.0, x.1, a)) }))
+      (omega (arith, ap number_of f.1), inr (record { is = ap number_of f.1; reply = not_admitted name x.0 (λ a. f.0 (x.0, x.1, a)) }))
   row_says n e (inr (x, inr f)) = list_says Tells (late profile h v) n e late_says f.1
 
-  broken_says : (n e : ℕ) → FirstBroken (rules profile w h v) n e → Numbered name n e
+  broken_says : (n : Reason) (e : ℕ) → FirstBroken (rules profile w h v) n e → Numbered name (number_of n) e
   broken_says n e f =
       rules_say Tells profile w h v n e (early_says Tells (λ n e l u. tested name n e (omega arith) (omega arith)) v) (row_says n e) f
 
@@ -98,4 +100,4 @@ listed how s before (Err r) after x =
       cut = λ n e c. ⊎_elim (λ z. tested name n e (omega (arith, z)) (omega (arith, z))) (λ z. tested name n e (omega (arith, z)) (omega (arith, z))) c;
       broken = λ gs rows end rest g n e p f. broken_says name rows (onto [] (seen how gs)) (view_of how.separators g) n e f;
       no_room = tested name 17 0 (omega arith) (omega arith);
-    }) r.number r.segment r.byte r.element after x
+    }) r.reason r.segment r.byte r.element after x

@@ -11,6 +11,7 @@ use Rattle.text.specs.Cut.{Placed, Leads}
 use Rattle.text.specs.declared.lines.LineEnds.{LineEnds}
 use Rattle.text.specs.declared.separators.Separators.{Separators}
 use Rattle.rows.specs.declared.profile.ProfileName.{ProfileName}
+use Rattle.elements.specs.declared.verdict.Reason.{Reason}
 use Rattle.gate.specs.Profile.{Profile}
 use Rattle.gate.specs.Segments.{seen}
 use Rattle.gate.specs.Records.{Tables, segment_record, segment_records, level_records, over, recorded}
@@ -66,7 +67,7 @@ module _ (profile : Profile) (name : ProfileName) (q : Separators) (lines lines'
   pub keeping_moved : (g : Bytes) (row : ℕ) → Keeping profile how t gs rows end rest g row → Keeping profile how' t gs' rows end' rest g row
   keeping_moved g row k = record { more = k.more; next = k.next; sound = rw same k.sound }
 
-  pub fails_moved : (n e : ℕ) → Fails profile how t gs rows end rest n e → Fails profile how' t gs' rows end' rest n e
+  pub fails_moved : (n : Reason) (e : ℕ) → Fails profile how t gs rows end rest n e → Fails profile how' t gs' rows end' rest n e
   fails_moved n e (inl x) = inl (record { upto = x.upto; more = x.more; stops = x.stops })
   fails_moved n e (inr (inl x)) = inr (inl (record { segment = x.segment; more = x.more; next = x.next; first = rw same x.first }))
   fails_moved n e (inr (inr x)) =
@@ -75,6 +76,6 @@ module _ (profile : Profile) (name : ProfileName) (q : Separators) (lines lines'
         row = x.row;
         keeping = keeping_moved x.segment x.row x.keeping;
         no_room = λ r. x.no_room (room_back x.segment r);
-        number_is = x.number_is;
+        reason_is = x.reason_is;
         element_is = x.element_is;
       }))

@@ -16,6 +16,10 @@ use Rattle.text.specs.Cut.{Cut, Whole, Stop, Placed}
 use Rattle.text.proofs.Lists.{map-append}
 use Rattle.text.proofs.CutLaws.{whole_once, leads_longer, leads_once}
 use Rattle.rows.proofs.FittingRow.{fits_once}
+use Rattle.elements.specs.Reasons.{number_of}
+use Rattle.elements.specs.declared.verdict.Reason.{Reason}
+use Rattle.elements.specs.declared.verdict.Reason.TheVariants.{UnfitSeparators, TooLong}
+use Rattle.elements.proofs.Reasons.{same_number}
 use Rattle.gate.specs.Profile.{Profile}
 use Rattle.gate.specs.Segments.{tag_in_of, is_se, seen, onto}
 use Rattle.gate.specs.Answers.{Answer, numbers_of}
@@ -49,7 +53,7 @@ module _ (profile : Profile) (how : How) (t : Tables) (gs : List Placed) (rows :
   next_once a b = (whole_once (sym a ∙ b)).0
 
   -- the three ways to be refused
-  abbrev pub Fails : ℕ → ℕ → Type 0
+  abbrev pub Fails : Reason → ℕ → Type 0
   Fails n e =
       Stopped profile how t gs rows end rest n e ⊎ (Breaks profile how t gs rows end rest n e ⊎ Full profile how t gs rows end rest n e)
 
@@ -58,12 +62,12 @@ module _ (profile : Profile) (how : How) (t : Tables) (gs : List Placed) (rows :
   SoundNext g r = Sound profile rows (onto [] (seen how gs)) (view_of how.separators g) r
 
   -- a segment that breaks a rule is not the next one that keeps all
-  not_kept : (n e r : ℕ) (g m : Bytes) → Breaks profile how t gs rows end rest n e → cut_by how rest ≡ Whole g m → SoundNext g r → ⊥
+  not_kept : (n : Reason) (e r : ℕ) (g m : Bytes) → Breaks profile how t gs rows end rest n e → cut_by how rest ≡ Whole g m → SoundNext g r → ⊥
   not_kept n e r g m x p s =
       broken_unsound profile rows (onto [] (seen how gs)) (view_of how.separators g) n e r (rw (next_once x.next p) at x.first) s
 
-  fails_once : (n e n' e' : ℕ) → Fails n e → Fails n' e' → (n ≡ n') × (e ≡ e')
-  fails_once n e n' e' (inl x) (inl y) = let p = sym x.stops ∙ y.stops in (ap stop_number p, ap stop_element p)
+  fails_once : (n : Reason) (e : ℕ) (n' : Reason) (e' : ℕ) → Fails n e → Fails n' e' → (n ≡ n') × (e ≡ e')
+  fails_once n e n' e' (inl x) (inl y) = let p = sym x.stops ∙ y.stops in (same_number n n' (ap stop_number p), ap stop_element p)
   fails_once n e n' e' (inl x) (inr (inl y)) = absurd (whole_no_stop (sym y.next ∙ x.stops))
   fails_once n e n' e' (inl x) (inr (inr y)) = absurd (whole_no_stop (sym y.keeping.next ∙ x.stops))
   fails_once n e n' e' (inr (inl x)) (inl y) = absurd (whole_no_stop (sym x.next ∙ y.stops))
@@ -72,10 +76,10 @@ module _ (profile : Profile) (how : How) (t : Tables) (gs : List Placed) (rows :
   fails_once n e n' e' (inr (inl x)) (inr (inr y)) = absurd (not_kept n e y.row y.segment y.keeping.more x y.keeping.next y.keeping.sound)
   fails_once n e n' e' (inr (inr x)) (inl y) = absurd (whole_no_stop (sym x.keeping.next ∙ y.stops))
   fails_once n e n' e' (inr (inr x)) (inr (inl y)) = absurd (not_kept n' e' x.row x.segment x.keeping.more y x.keeping.next x.keeping.sound)
-  fails_once n e n' e' (inr (inr x)) (inr (inr y)) = (x.number_is ∙ sym y.number_is, x.element_is ∙ sym y.element_is)
+  fails_once n e n' e' (inr (inr x)) (inr (inr y)) = (x.reason_is ∙ sym y.reason_is, x.element_is ∙ sym y.element_is)
 
   -- what is refused is not accepted
-  not_both : (n e : ℕ) (k : List Placed) (w four : List ℕ) → Fails n e → Accepts profile how t gs rows end rest four k w → ⊥
+  not_both : (n : Reason) (e : ℕ) (k : List Placed) (w four : List ℕ) → Fails n e → Accepts profile how t gs rows end rest four k w → ⊥
   not_both n e k w four (inl x) y = whole_no_stop (sym y.keeping.next ∙ x.stops)
   not_both n e k w four (inr (inl x)) y = not_kept n e y.row y.segment y.keeping.more x y.keeping.next y.keeping.sound
   not_both n e k w four (inr (inr x)) y = x.no_room (rw (next_once x.keeping.next y.keeping.next) y.room)
@@ -93,17 +97,19 @@ module _ (profile : Profile) (how : How) (t : Tables) (gs : List Placed) (rows :
       )
 
   -- the numbers of a refusal
-  pub refused_fails : (n k b e : ℕ) (kept : List Placed) (w : List ℕ) → Refuses profile how t gs rows end rest (n ∷ k ∷ b ∷ e ∷ []) kept w → Fails n e
+  pub refused_fails : (n : Reason) (k b e : ℕ) (kept : List Placed) (w : List ℕ) → Refuses profile how t gs rows end rest (number_of n ∷ k ∷ b ∷ e ∷ []) kept w
+      → Fails n e
   refused_fails n k b e kept w x =
-      let p : x.number ≡ n = cc x.place in
+      let number : number_of x.reason ≡ number_of n = cc x.place in
+      let p : x.reason ≡ n = same_number x.reason n number in
       let q : x.element ≡ e = cc x.place in
       rw (p, q) at x.cause
 
-  pub refused_segment : (n k b e : ℕ) (kept : List Placed) (w : List ℕ) → Refuses profile how t gs rows end rest (n ∷ k ∷ b ∷ e ∷ []) kept w
+  pub refused_segment : (n : Reason) (k b e : ℕ) (kept : List Placed) (w : List ℕ) → Refuses profile how t gs rows end rest (number_of n ∷ k ∷ b ∷ e ∷ []) kept w
       → k ≡ length gs + 1
   refused_segment n k b e kept w x = cc x.place
 
-  pub refused_byte : (n k b e : ℕ) (kept : List Placed) (w : List ℕ) → Refuses profile how t gs rows end rest (n ∷ k ∷ b ∷ e ∷ []) kept w → b ≡ end
+  pub refused_byte : (n : Reason) (k b e : ℕ) (kept : List Placed) (w : List ℕ) → Refuses profile how t gs rows end rest (number_of n ∷ k ∷ b ∷ e ∷ []) kept w → b ≡ end
   refused_byte n k b e kept w x = cc x.place
 
   ends_once : (r r' : Answer) (k k' : List Placed) (w w' : List ℕ) → Ends profile how t gs rows end rest r k w
@@ -111,11 +117,11 @@ module _ (profile : Profile) (how : How) (t : Tables) (gs : List Placed) (rows :
   ends_once (Ok a) (Ok a') k k' w w' x y =
       let o = accepts_once (numbers_of (Ok a)) (numbers_of (Ok a')) k k' w w' x y in
       (same_acceptance a a' o.0, o.1, o.2)
-  ends_once (Ok a) (Err f') k k' w w' x y = absurd (not_both y.number y.element k w (numbers_of (Ok a)) y.cause x)
-  ends_once (Err f) (Ok a') k k' w w' x y = absurd (not_both x.number x.element k' w' (numbers_of (Ok a')) x.cause y)
+  ends_once (Ok a) (Err f') k k' w w' x y = absurd (not_both y.reason y.element k w (numbers_of (Ok a)) y.cause x)
+  ends_once (Err f) (Ok a') k k' w w' x y = absurd (not_both x.reason x.element k' w' (numbers_of (Ok a')) x.cause y)
   ends_once (Err f) (Err f') k k' w w' x y =
-      let o = fails_once x.number x.element y.number y.element x.cause y.cause in
-      (same_refusal _ _ (cc (o.0, o.1, x.place, y.place)), x.kept_is ∙ sym y.kept_is, x.numbers_is ∙ sym y.numbers_is)
+      let o = fails_once x.reason x.element y.reason y.element x.cause y.cause in
+      (same_refusal _ _ (cc (ap number_of o.0, o.1, x.place, y.place)), x.kept_is ∙ sym y.kept_is, x.numbers_is ∙ sym y.numbers_is)
 
   -- whatever the answer, the next segment is not passed
   stuck : (r : Answer) (k : List Placed) (w : List ℕ) (g m : Bytes) (row : ℕ) → Ends profile how t gs rows end rest r k w → cut_by how rest ≡ Whole g m
@@ -124,9 +130,9 @@ module _ (profile : Profile) (how : How) (t : Tables) (gs : List Placed) (rows :
       T_not (is_se (view_of how.separators x.segment)) (rw (next_once p x.keeping.next) at n) x.last
   stuck (Err f) k w g m row x p d o i = fails x.cause
     where
-      fails : Fails x.number x.element → ⊥
+      fails : Fails x.reason x.element → ⊥
       fails (inl y) = whole_no_stop (sym p ∙ y.stops)
-      fails (inr (inl y)) = not_kept x.number x.element row g m y p d
+      fails (inr (inl y)) = not_kept x.reason x.element row g m y p d
       fails (inr (inr y)) = y.no_room (rw (next_once p y.keeping.next) at o)
 
 module _ {profile : Profile} {how : How} {t : Tables} {s : Bytes} where
@@ -163,7 +169,7 @@ pub reads_once : (profile : Profile) (how : How) (s : Bytes) (before : Tables) (
 unfolding ReadsBy
 reads_once profile how s before r r' x x' a b = fit (fit_separators how.separators) a b
   where
-    untouched : (n : ℕ) → 0 < n → Untouched n before r x → Untouched n before r' x' → (r ≡ r') × (x ≡ x')
+    untouched : (n : Reason) → 0 < number_of n → Untouched (number_of n) before r x → Untouched (number_of n) before r' x' → (r ≡ r') × (x ≡ x')
     untouched n h a b = (refusal_once r r' n 0 0 0 h a.answer b.answer, a.unchanged ∙ sym b.unchanged)
 
     read : Read profile how s before r x → Read profile how s before r' x' → (r ≡ r') × (x ≡ x')
@@ -175,8 +181,8 @@ reads_once profile how s before r r' x x' a b = fit (fit_separators how.separato
 
     within : (l : Bool) → ReadsWithin l profile how s before r x → ReadsWithin l profile how s before r' x' → (r ≡ r') × (x ≡ x')
     within true a b = read a b
-    within false a b = untouched 2 (omega arith) a b
+    within false a b = untouched TooLong (omega arith) a b
 
     fit : (f : Bool) → ReadsFit f profile how s before r x → ReadsFit f profile how s before r' x' → (r ≡ r') × (x ≡ x')
     fit true a b = within (leb (length s) limit) a b
-    fit false a b = untouched 1 (omega arith) a b
+    fit false a b = untouched UnfitSeparators (omega arith) a b

@@ -3,7 +3,7 @@
 -- Assumes nothing.
 use Prim.Native.Nat.{ℕ, zero, suc, ◌+◌, ◌<◌}
 use mathlib.Core.Path.{◌≡◌, refl, ap, subst, ◌∙◌}
-use mathlib.Core.Logic.{inl, inr}
+use mathlib.Core.Logic.{◌⊎◌, inl, inr}
 use mathlib.Core.Bool.{Bool, true, false, not, ◌&&◌}
 use mathlib.Core.List.{List, [], ◌∷◌, ◌++◌, append_assoc, append-nil}
 use native.Mathlib.Omega.{arith}
@@ -21,6 +21,10 @@ use Rattle.rows.proofs.Viability.{viable_nil}
 use Rattle.rows.proofs.RowStep.{step_of, step_fits}
 use Rattle.elements.specs.Checks.{Check, Keeps}
 use Rattle.elements.specs.Rules.{byte_checks, end_checks}
+use Rattle.elements.specs.Reasons.{number_of}
+use Rattle.elements.specs.declared.verdict.Reason.{Reason}
+use Rattle.elements.specs.declared.verdict.Reason.TheVariants.{Unended, NoRow, NoRoom, ForeignRow}
+use Rattle.elements.proofs.Reasons.{reason_of}
 use Rattle.gate.specs.Profile.{Profile}
 use Rattle.gate.specs.Segments.{tag_in_of, is_se, seen, onto, levels_in}
 use Rattle.gate.specs.Answers.{Answer, accepted, refused}
@@ -36,16 +40,16 @@ use Rattle.gate.proofs.conditions.Accepting.{led_snoc}
 -- what the rules say of a segment: the row that fits, or the first that is broken
 pub data Says : Type 0 where
   Fine : ℕ → Says
-  Bad : ℕ → ℕ → Says
+  Bad : Reason → ℕ → Says
 
 -- tests in order, and what is said where all hold
 abbrev pub tested : List Check → Says → Says
 tested [] d = d
-tested (c ∷ cs) d = elim c.holds [ true ↦ tested cs d | false ↦ Bad c.number c.element ]
+tested (c ∷ cs) d = elim c.holds [ true ↦ tested cs d | false ↦ Bad c.reason c.element ]
 
 abbrev pub by_row_of : Profile → ℕ → Says → Says
-by_row_of profile zero d = Bad 7 0
-by_row_of profile (suc r) d = elim (profile.rows (suc r)) [ true ↦ d | false ↦ Bad 24 0 ]
+by_row_of profile zero d = Bad NoRow 0
+by_row_of profile (suc r) d = elim (profile.rows (suc r)) [ true ↦ d | false ↦ Bad ForeignRow 0 ]
 
 unfoldable pub says : Profile → List ℕ → List View → View → Says
 says profile w h v =
@@ -65,7 +69,7 @@ row_said (Bad n e) = 0
 row_said (Fine r) = r
 
 module _ (profile : Profile) (how : How) (segments levels : ℕ) where
-  abbrev pub refuse : List Placed → List ℕ → ℕ → ℕ → ℕ → Out
+  abbrev pub refuse : List Placed → List ℕ → ℕ → Reason → ℕ → Out
   refuse gs w end n e = (refused n (length gs + 1) end e, gs, w)
 
   abbrev pub accept : List Placed → List ℕ → ℕ → Out
@@ -74,13 +78,13 @@ module _ (profile : Profile) (how : How) (segments levels : ℕ) where
   -- the answer at the segment g, or what goes on
   abbrev pub choose : List Placed → List ℕ → ℕ → Bytes → Says → Bool → Bool → Out → Out
   choose gs w end g (Bad n e) room last on = refuse gs w end n e
-  choose gs w end g (Fine r) false last on = refuse gs w end 17 0
+  choose gs w end g (Fine r) false last on = refuse gs w end NoRoom 0
   choose gs w end g (Fine r) true true on = accept (gs ++ (record { at = end; segment = g } ∷ [])) (w ++ (r ∷ [])) (end + length g + 1)
   choose gs w end g (Fine r) true false on = on
 
   -- the answer at a cut, where `on` goes on behind a segment
   abbrev pub at_cut : (List Placed → List ℕ → List View → ℕ → Bytes → Out) → List Placed → List ℕ → List View → ℕ → Cut → Out
-  at_cut on gs w h end (Stop n e upto more) = refuse gs w end n e
+  at_cut on gs w h end (Stop n e upto more) = refuse gs w end (reason_of n) e
   at_cut on gs w h end (Whole g more) =
       let v = view_of how.separators g in
       let d = says profile w h v in
@@ -91,7 +95,7 @@ module _ (profile : Profile) (how : How) (segments levels : ℕ) where
 
   -- from the rest on, at most `fuel` segments
   abbrev pub run : ℕ → List Placed → List ℕ → List View → ℕ → Bytes → Out
-  run zero gs w h end rest = refuse gs w end 3 0
+  run zero gs w h end rest = refuse gs w end Unended 0
   run (suc fuel) gs w h end rest = at_cut (run fuel) gs w h end (cut_by how rest)
 
 -- the reading of bytes: each segment takes a byte at least
@@ -113,18 +117,18 @@ module _ (profile : Profile) (w : List ℕ) (v : View) where
   tested_right (c ∷ cs) rest d k = by c.holds (λ x. tested_right cs rest d (λ ks. k (x, ks)))
     where
       by : (b : Bool) → (T b → Right (as_rules cs ++ rest) (tested cs d))
-          → Right (record { number = c.number; element = c.element; Holds = T b } ∷ (as_rules cs ++ rest))
-          (elim b [ true ↦ tested cs d | false ↦ Bad c.number c.element ])
-      by true f = right_more (record { number = c.number; element = c.element; Holds = T true }) (as_rules cs ++ rest) (tested cs d) tt (f tt)
+          → Right (record { reason = c.reason; element = c.element; Holds = T b } ∷ (as_rules cs ++ rest))
+          (elim b [ true ↦ tested cs d | false ↦ Bad c.reason c.element ])
+      by true f = right_more (record { reason = c.reason; element = c.element; Holds = T true }) (as_rules cs ++ rest) (tested cs d) tt (f tt)
       by false f = inl ((λ x. x), refl, refl)
 
   module _ (h : List View) (p : Viable list842 w) where
     -- the row is of the profile, or 24 is broken
     by_profile : (r : ℕ) → OneFits w (tag_in_of v) r → Fits w (tag_in_of v) r → (b : Bool) → profile.rows r ≡ b
-        → Right (row_rules profile w v ++ as_rules (late profile h v)) (elim b [ true ↦ tested (late profile h v) (Fine r) | false ↦ Bad 24 0 ])
+        → Right (row_rules profile w v ++ as_rules (late profile h v)) (elim b [ true ↦ tested (late profile h v) (Fine r) | false ↦ Bad ForeignRow 0 ])
     by_profile r s f true e =
-        let seven : Rule = record { number = 7; element = 0; Holds = (r : ℕ) × Fits w (tag_in_of v) r } in
-        let last : Rule = record { number = 24; element = 0; Holds = (r : ℕ) × Fits w (tag_in_of v) r × Admitted profile r } in
+        let seven : Rule = record { reason = NoRow; element = 0; Holds = (r : ℕ) × Fits w (tag_in_of v) r } in
+        let last : Rule = record { reason = ForeignRow; element = 0; Holds = (r : ℕ) × Fits w (tag_in_of v) r × Admitted profile r } in
         let rest = as_rules (late profile h v) in
         let d = tested (late profile h v) (Fine r) in
         right_more seven (last ∷ rest) d (r, f)
@@ -153,12 +157,17 @@ so_room profile t h r =
     both (leb (length h) (segment_room_of t)) (leb (length (levels_in profile h)) (level_room_of t)) (le→leb (length h) (segment_room_of t) r.segments_fit)
     (le→leb (length (levels_in profile h)) (level_room_of t) r.levels_fit)
 
+-- a cut stops with the number of a reason
+stop_number : (n : ℕ) → (n ≡ 3) ⊎ (n ≡ 10) → n ≡ number_of (reason_of n)
+stop_number n (inl z) = rw z refl
+stop_number n (inr z) = rw z refl
+
 module _ (profile : Profile) (how : How) (t : Tables) (s : Bytes) where
   abbrev Good : Out → Type 0
   Good o = Run profile how t s o.0 o.1 o.2
 
   -- a refusal behind what was passed
-  pub refused_run : (gs : List Placed) (w : List ℕ) (end : ℕ) (rest : Bytes) (n e : ℕ) → Passed profile how t s gs w end rest
+  pub refused_run : (gs : List Placed) (w : List ℕ) (end : ℕ) (rest : Bytes) (n : Reason) (e : ℕ) → Passed profile how t s gs w end rest
       → Fails profile how t gs w end rest n e → Run profile how t s (refused n (length gs + 1) end e) gs w
   refused_run gs w end rest n e p f = record {
     gs = gs;
@@ -166,7 +175,7 @@ module _ (profile : Profile) (how : How) (t : Tables) (s : Bytes) where
     end = end;
     rest = rest;
     passed = p;
-    ends = record { number = n; element = e; cause = f; kept_is = refl; numbers_is = refl; place = refl };
+    ends = record { reason = n; element = e; cause = f; kept_is = refl; numbers_is = refl; place = refl };
   }
 
   -- the answer at a whole segment
@@ -202,13 +211,13 @@ module _ (profile : Profile) (how : How) (t : Tables) (s : Bytes) where
         → Good (choose profile how (segment_room_of t) (level_room_of t) gs w end g d room last o)
     chosen (Bad n e) room last o j y z f = refused_run gs w end rest n e p (inr (inl (record { segment = g; more = more; next = next; first = j })))
     chosen (Fine r) false last o j y z f =
-        refused_run gs w end rest 17 0 p
+        refused_run gs w end rest NoRoom 0 p
         (inr (inr (record {
           segment = g;
           row = r;
           keeping = record { more = more; next = next; sound = holds_sound profile w h v r j.1 j.0 };
           no_room = λ x. rw y at (so_room profile t (v ∷ h) x);
-          number_is = refl;
+          reason_is = refl;
           element_is = refl;
         })))
     chosen (Fine r) true true o j y z f = record {
@@ -256,7 +265,10 @@ module _ (profile : Profile) (how : How) (t : Tables) (s : Bytes) where
     where
       by : (c : Cut) → cut_by how rest ≡ c → Good (at_cut profile how (segment_room_of t) (level_room_of t) (run profile how (segment_room_of t) (level_room_of t) fuel) gs w (onto [] (seen how gs)) end c)
       by (Whole g more) q = at_whole fuel goes gs w end rest g more p q l
-      by (Stop n x upto more) q = refused_run gs w end rest n x p (inl (record { upto = upto; more = more; stops = q }))
+      by (Stop n x upto more) q =
+          let stop : (n ≡ 3) ⊎ (n ≡ 10) = subst (λ (c : Cut). Splits how.separators rest c) q (cut_splits how.separators rest) in
+          let stops = q ∙ ap (λ (k : ℕ). Stop k x upto more) (stop_number n stop) in
+          refused_run gs w end rest (reason_of n) x p (inl (record { upto = upto; more = more; stops = stops }))
 
   goes_all : (fuel : ℕ) → Goes fuel
   goes_all zero gs w h end rest e p l = absurd (omega arith)

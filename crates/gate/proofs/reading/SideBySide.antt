@@ -13,6 +13,9 @@ use Rattle.text.specs.View.{View, view_of}
 use Rattle.text.specs.Cut.{Cut, Whole, Stop, Placed}
 use Rattle.text.proofs.Lists.{map-append}
 use Rattle.rows.specs.Tags.{tag}
+use Rattle.elements.specs.declared.verdict.Reason.{Reason}
+use Rattle.elements.specs.declared.verdict.Reason.TheVariants.{Unended, NoRoom}
+use Rattle.elements.proofs.Reasons.{reason_of}
 use Rattle.gate.specs.Profile.{Profile}
 use Rattle.gate.specs.Segments.{tag_in_of, is_hl, is_se, seen, onto, add_claim, claims, levels_in, opening}
 use Rattle.gate.specs.Rules.{hl_checks, se_checks, late}
@@ -150,7 +153,7 @@ module _ (profile : Profile) (how : How) (segments levels : ℕ) where
   roomy gs g = has_room_of profile segments levels (view_of how.separators g ∷ history how gs)
 
   -- a refusal behind lists that look alike
-  pub refused_same : (gs gs' : List Placed) (w : List ℕ) (at n e : ℕ) → Alike how gs gs'
+  pub refused_same : (gs gs' : List Placed) (w : List ℕ) (at : ℕ) (n : Reason) (e : ℕ) → Alike how gs gs'
       → Same how (refuse profile how segments levels gs w at n e) (refuse profile how segments levels gs' w at n e)
   refused_same gs gs' w at n e a = record { answer = rw (alike_length how gs gs' a); kept = a; rows = refl }
 
@@ -163,7 +166,7 @@ module _ (profile : Profile) (how : How) (segments levels : ℕ) where
     where
       by : (room last : Bool) → Alike how (put gs at g) (put gs' at g') → Same how o o'
           → Same how (choosing gs w at g (Fine r) room last o) (choosing gs' w at g' (Fine r) room last o')
-      by false last b s = refused_same gs gs' w at 17 0 a
+      by false last b s = refused_same gs gs' w at NoRoom 0 a
       by true false b s = s
       by true true b s = record {
         answer = rw (alike_length how (put gs at g) (put gs' at g') b, alike_levels how (put gs at g) (put gs' at g') b profile, l);
@@ -204,7 +207,7 @@ module _ (profile : Profile) (how : How) (segments levels : ℕ) where
       answer gs c = at_cut profile how segments levels (run profile how segments levels fuel) gs w (history how gs) at c
 
       by : (c : Cut) → Same how (answer gs c) (answer gs' c)
-      by (Stop n e upto more) = refused_same gs gs' w at n e a
+      by (Stop n e upto more) = refused_same gs gs' w at (reason_of n) e a
       by (Whole g more) =
           let next = at + length g + 1 + skip_by how more in
           let rest = drop (skip_by how more) more in
@@ -212,5 +215,5 @@ module _ (profile : Profile) (how : How) (segments levels : ℕ) where
           (λ r e. alike_put how gs gs' a at g) (λ r b. on (put gs at g) (put gs' at g) (w ++ (r ∷ [])) next rest b)
 
   pub behind_same : (fuel : ℕ) → Behind fuel
-  behind_same zero gs gs' w at s a = refused_same gs gs' w at 3 0 a
+  behind_same zero gs gs' w at s a = refused_same gs gs' w at Unended 0 a
   behind_same (suc fuel) gs gs' w at s a = behind_more fuel (behind_same fuel) gs gs' w at s a

@@ -3,6 +3,7 @@
 use Rattle.std.specs.Prelude.{ℕ, suc, List, Result, Ok, Err}
 use Rattle.text.specs.Bytes.{Bytes, bytes, same}
 use Rattle.elements.specs.Checks.{Verdict, first_broken}
+use Rattle.elements.specs.declared.verdict.Reason.{Reason}
 use Rattle.elements.specs.declared.verdict.Fault.{Fault}
 use Rattle.levels.specs.Profile.{LevelProfile, code_of}
 use Rattle.levels.specs.Levels.{Claim, Level, level_of}
@@ -14,9 +15,9 @@ use Rattle.levels.specs.declared.judging.Parent.{Parent}
 abbrev pub entitled : Level → Entitled
 entitled l = record { parent = l.parent; depth = l.depth; code = l.code }
 
--- the answer for an HL that breaks a rule: the answer's number, and the element it names
-abbrev pub breaks : ℕ → ℕ → Result Entitled Fault
-breaks number element = Err (record { number = number; element = element })
+-- the answer for an HL that breaks a rule: the answer's reason, and the element it names
+abbrev pub breaks : Reason → ℕ → Result Entitled Fault
+breaks reason element = Err (record { reason = reason; element = element })
 
 -- a verdict as the answer for an HL: what it makes of its level, or the first rule that it breaks
 abbrev pub judged_by : Verdict → Entitled → Result Entitled Fault

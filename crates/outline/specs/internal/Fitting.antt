@@ -2,6 +2,7 @@
 -- Assumes nothing.
 use Rattle.std.specs.Prelude.{ℕ, ◌<◌, ◌≤◌, ◌≡◌, ◌⊎◌, Bool, true, false, List, Option, Some, None, Result, Ok, Err}
 use Rattle.outline.specs.Walks.{Fit, FitTable, room_of}
+use Rattle.outline.specs.declared.answer.Reason.TheVariants.{UnfitTable, ShortOutput}
 use Rattle.outline.specs.declared.answer.Unlisted.{Unlisted}
 
 -- yes where it is so, no where it is not
@@ -18,9 +19,9 @@ module _ (t : List ℕ) (count places : ℕ) where
   -- why levels are refused before anything is listed: the table has no room for so many, or a level is unfit, or the places are fewer
   abbrev pub Unlistable : Unlisted → Type 0
   Unlistable u =
-      ((room_of t < count) × (u ≡ record { number = 20; level = 0 }))
-      ⊎ (((count ≤ room_of t) × FirstUnfit t count (Some u.level) × (u.number ≡ 20))
-      ⊎ ((count ≤ room_of t) × FitTable t count × (places < count) × (u ≡ record { number = 21; level = 0 })))
+      ((room_of t < count) × (u ≡ record { reason = UnfitTable; level = 0 }))
+      ⊎ (((count ≤ room_of t) × FirstUnfit t count (Some u.level) × (u.reason ≡ UnfitTable))
+      ⊎ ((count ≤ room_of t) × FitTable t count × (places < count) × (u ≡ record { reason = ShortOutput; level = 0 })))
 
   -- what the tests of a table, a count and a number of places tell
   abbrev pub Listable : Result (Unit {0}) Unlisted → Type 0

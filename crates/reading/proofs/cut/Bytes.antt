@@ -20,11 +20,13 @@ use Rattle.elements.specs.Rules.{data_piece, data_checks}
 use Rattle.reading.proofs.cut.SpecialBytes.{belongs}
 use Rattle.reading.proofs.cut.Queue.{All}
 use Rattle.gate.proofs.reading.Laws.{keeps_at}
+use Rattle.elements.specs.declared.verdict.Reason.{Reason}
+use Rattle.elements.specs.declared.verdict.Reason.TheVariants.{BadByte}
 
 -- the same test of n elements holds if it holds at each
-pub keeps_of : (number a n : ℕ) (test : ℕ → Bool) → ((k : ℕ) → a ≤ k → k < a + n → T (test k)) → Keeps (each number a n test)
-keeps_of number a zero test f = tt
-keeps_of number a (suc n) test f = (f a (omega arith) (omega arith), keeps_of number (suc a) n test (λ k l u. f k (omega arith) (omega arith)))
+pub keeps_of : (reason : Reason) (a n : ℕ) (test : ℕ → Bool) → ((k : ℕ) → a ≤ k → k < a + n → T (test k)) → Keeps (each reason a n test)
+keeps_of reason a zero test f = tt
+keeps_of reason a (suc n) test f = (f a (omega arith) (omega arith), keeps_of reason (suc a) n test (λ k l u. f k (omega arith) (omega arith)))
 
 -- bytes with a property pass a test that each byte with it does
 pub all_every : (P : ℕ → Type 0) (f : ℕ → Bool) (s : Bytes) → ((b : ℕ) → P b → T (f b)) → All P s → T (every f s)
@@ -46,7 +48,7 @@ data_view q segment =
 pub data_kept : (q : Separators) (segment : Bytes) → T (every (belongs q) segment) → Keeps (data_checks (plain_view q segment))
 unfolding data_checks
 data_kept q segment t =
-    keeps_of 5 0 (length (plain_view q segment)) (λ (k : ℕ). data_piece (element_of (plain_view q segment) k))
+    keeps_of BadByte 0 (length (plain_view q segment)) (λ (k : ℕ). data_piece (element_of (plain_view q segment) k))
     (λ k l u. every_at data_piece (plain_view q segment) empty (rw (data_view q segment) t) k (omega arith))
 
 -- and back
@@ -55,4 +57,4 @@ unfolding data_checks
 data_told q segment h =
     rw (← data_view q segment)
     (every_of data_piece (plain_view q segment) empty
-    (λ k u. keeps_at 5 0 (length (plain_view q segment)) (λ (k : ℕ). data_piece (element_of (plain_view q segment) k)) h k (omega arith) (omega arith)))
+    (λ k u. keeps_at BadByte 0 (length (plain_view q segment)) (λ (k : ℕ). data_piece (element_of (plain_view q segment) k)) h k (omega arith) (omega arith)))

@@ -23,6 +23,7 @@ use Rattle.elements.specs.Rules.{last_filled, ends_well_of, end_checks}
 use Rattle.reading.proofs.cut.Bytes.{keeps_of}
 use Rattle.gate.proofs.reading.Laws.{keeps_at}
 use Rattle.elements.proofs.PresentPieces.{some as filled, present_pieces}
+use Rattle.elements.specs.declared.verdict.Reason.TheVariants.{BadEnd}
 
 -- the last byte is the component separator
 abbrev pub ends_in : ℕ → Bytes → Bool
@@ -143,21 +144,21 @@ module _ (c : ℕ) (gone : List Bytes) (last : Bytes) where
   -- all, and there is one
   pub ends_kept : Ended → Keeps (end_checks view)
   unfolding end_checks
-  ends_kept e = (le→leb 1 (element_count view) (omega (arith, e.some, count_is)), keeps_of 6 1 (element_count view) (ends_well_of view) (kept_at e))
+  ends_kept e = (le→leb 1 (element_count view) (omega (arith, e.some, count_is)), keeps_of BadEnd 1 (element_count view) (ends_well_of view) (kept_at e))
 
   -- and back: each element
-  told_at : Keeps (each 6 1 (element_count view) (ends_well_of view)) → (k : ℕ) → 1 ≤ k → k ≤ length gone
+  told_at : Keeps (each BadEnd 1 (element_count view) (ends_well_of view)) → (k : ℕ) → 1 ≤ k → k ≤ length gone
       → T ((filled (piece k) || not (eqb k latest)) && well c (piece k))
-  told_at h k l u = rw (ends_at c (gone ++ (last ∷ [])) k) at (keeps_at 6 1 (element_count view) (ends_well_of view) h k l (omega (arith, count_is)))
+  told_at h k l u = rw (ends_at c (gone ++ (last ∷ [])) k) at (keeps_at BadEnd 1 (element_count view) (ends_well_of view) h k l (omega (arith, count_is)))
 
   -- one before the last
-  told_early : Keeps (each 6 1 (element_count view) (ends_well_of view)) → (k : ℕ) → k < length (drop 1 gone) → T (well c (get_or (drop 1 gone) k []))
+  told_early : Keeps (each BadEnd 1 (element_count view) (ends_well_of view)) → (k : ℕ) → k < length (drop 1 gone) → T (well c (get_or (drop 1 gone) k []))
   told_early h k u =
       let v : k + 1 < length gone = omega (arith, length-drop 1 gone) in
       rw (← early_is k v) (second_of (filled (piece (k + 1)) || not (eqb (k + 1) latest)) (well c (piece (k + 1))) (told_at h (k + 1) (omega arith) (omega arith)))
 
   -- the last
-  told_last : Keeps (each 6 1 (element_count view) (ends_well_of view)) → 0 < length gone → T (filled last && well c last)
+  told_last : Keeps (each BadEnd 1 (element_count view) (ends_well_of view)) → 0 < length gone → T (filled last && well c last)
   told_last h some =
       let n : not (eqb (length gone) latest) ≡ false = ap not (eq-eqb (length gone) latest (sym latest_is)) in
       rw (n, last_is, or_false (filled last)) at (told_at h (length gone) (omega arith) (omega arith))

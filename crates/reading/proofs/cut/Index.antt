@@ -10,7 +10,7 @@ use lib.ListN.{length, take, get_or, set, length-append, length-set}
 use lib.Seq.{drop-cons, take-suc-set, take-set-le}
 use Rattle.text.specs.Bytes.{Bytes}
 use Rattle.reading.specs.internal.SpecialBytes.{is_special_in}
-use Rattle.reading.specs.internal.Queue.{bit, put_where, places_of, SpecialPlaces, Indexed}
+use Rattle.reading.specs.internal.Queue.{bit, put_where, places_of, SpecialPlaces}
 
 -- a place before others, and more behind them
 put_append : (t : Bool) (place : ℕ) (l m : List ℕ) → put_where t place l ++ m ≡ put_where t place (l ++ m)
@@ -65,11 +65,6 @@ pub record Counted (table : List Bool) (s : Bytes) (from i number : ℕ) (queue 
   pub room : number + from ≤ i
   pub size : length queue ≡ 72
 
--- none is passed yet
-pub counted_none : (table : List Bool) (s : Bytes) (from : ℕ) (queue : List ℕ) → from ≤ length s → length queue ≡ 72
-    → Counted table s from from 0 queue
-counted_none table s from queue h e = record { listed = listed_none table s from (take 0 queue) h refl; room = omega arith; size = e }
-
 module _ {table : List Bool} {s : Bytes} {from i number : ℕ} {queue : List ℕ} (c : Counted table s from i number queue) where
   -- one byte more
   pub counted_more : (r : ℕ) → i < length s → i < from + 64 → r ≡ bit (is_special_in table (get_or s i 0))
@@ -83,7 +78,3 @@ module _ {table : List Bool} {s : Bytes} {from i number : ℕ} {queue : List ℕ
   -- the same place, said otherwise
   pub counted_at : (j : ℕ) → i ≡ j → Counted table s from j number queue
   counted_at j e = rw e at c
-
-  -- all are passed
-  pub counted_all : {to : ℕ} → i ≡ to → to ≤ from + 64 → Indexed table s from to number queue
-  counted_all e h = record { listed = rw e at c.listed; few = omega (arith, c.room); size = c.size }

@@ -13,7 +13,6 @@ use Rattle.text.specs.Bytes.{Bytes, byte}
 use Rattle.text.specs.Separators.{printable}
 use Rattle.text.specs.Bin.{begins_bin}
 use Rattle.text.specs.Cut.{CR}
-use Rattle.gate.specs.Reads.{skip_by}
 use Rattle.gate.specs.declared.how.How.{How}
 use Rattle.text.specs.declared.separators.Separators.{Separators}
 use Rattle.text.proofs.Bools.{passes, or_right}
@@ -23,7 +22,6 @@ use Rattle.reading.specs.internal.Queue.{SpecialPlaces, left}
 use Rattle.reading.specs.internal.Between.{skipped_at, start_at, Serves, PastSpecial, Starts}
 use Rattle.reading.specs.declared.cutting.Left.{Left}
 use Rattle.reading.proofs.cut.Queue.{All, Data, front, left_cons}
-use Rattle.reading.proofs.cut.Facts.{ready_none}
 
 -- a byte below 32 is special
 low_special : (q : Separators) (b : ℕ) → b < 32 → special q b ≡ true
@@ -63,10 +61,6 @@ past_entry at head tail seen l table s queue within told r = record {
   size = r.size;
 }
 
--- without one the next index begins behind the byte
-pub past_used_up : (at : ℕ) (left : Left) → PastSpecial at left (record { head = 0; tail = 0; seen = at + 1 })
-past_used_up at left table s queue within told r = ready_none table s (at + 1) queue (omega arith) r.size
-
 -- the bytes from `at` up to `end` are special
 abbrev AllSpecial : List Bool → Bytes → ℕ → ℕ → Type 0
 AllSpecial table s at end = (k : ℕ) → at ≤ k → k < end → (k < length s) × (is_special_in table (get_or s k 0) ≡ true)
@@ -76,9 +70,6 @@ pub record Passing (s : Bytes) (at end : ℕ) (left behind : Left) (i : ℕ) : T
   pub from : at ≤ i
   pub upto : i ≤ end
   pub serves : (table : List Bool) (queue : List ℕ) → AllSpecial table s at end → Serves table s at queue left → Serves table s i queue behind
-
-pub passing_none : (s : Bytes) (at end : ℕ) (left : Left) → at ≤ end → Passing s at end left left at
-passing_none s at end left l = record { from = omega arith; upto = l; serves = λ table queue all r. r }
 
 pub passing_more : {s : Bytes} {at end : ℕ} {left behind : Left} {i : ℕ} → Passing s at end left behind i → (next : Left) → i < end
     → PastSpecial i behind next → Passing s at end left next (i + 1)
@@ -92,13 +83,9 @@ passing_more {s} {i = i} p next l past = record {
 
 -- what is skipped lies within the bytes, and is no data
 module _ (how : How) (s : Bytes) where
-  pub skipped_within : (at : ℕ) → skipped_at how s at ≤ length s - at
+  skipped_within : (at : ℕ) → skipped_at how s at ≤ length s - at
   skipped_within zero = omega arith
   skipped_within (suc n) = omega (arith, (skip_law how.separators how.lines).few (drop (suc n) s), length-drop (suc n) s)
-
-  pub skipped_behind : (at : ℕ) → (at ≡ 0 → ⊥) → skipped_at how s at ≡ skip_by how (drop at s)
-  skipped_behind zero n = absurd (n refl)
-  skipped_behind (suc k) n = refl
 
   skipped_low : (at k : ℕ) → k < skipped_at how s at → get_or (drop at s) k 0 < 32
   skipped_low zero k l = absurd (omega arith)

@@ -12,22 +12,23 @@ use Rattle.gate.specs.Records.{Tables}
 use Rattle.gate.specs.Reads.{limit, Read, Reads, ReadsBy}
 use Rattle.gate.specs.Answers.{Answer, refused}
 use Rattle.gate.specs.declared.how.How.{How}
+use Rattle.elements.specs.declared.verdict.Reason.TheVariants.{UnfitSeparators, TooLong}
 
 module _ (how : How) (s : Bytes) (before : Tables) where
   -- 1, as the separators are, and as a test of them says
-  pub unfit_answered : fit_separators how.separators ≡ false → Reads how s before (refused 1 0 0 0) before
+  pub unfit_answered : fit_separators how.separators ≡ false → Reads how s before (refused UnfitSeparators 0 0 0) before
   unfolding ReadsBy
   unfit_answered e = rw e (record { answer = refl; unchanged = refl })
 
-  pub unfit_refuses : (b : Bool) → b ≡ fit_separators how.separators → not b ≡ true → Reads how s before (refused 1 0 0 0) before
+  pub unfit_refuses : (b : Bool) → b ≡ fit_separators how.separators → not b ≡ true → Reads how s before (refused UnfitSeparators 0 0 0) before
   unfit_refuses b e n = unfit_answered (sym e ∙ not-true b n)
 
   -- 2, likewise
-  pub long_answered : fit_separators how.separators ≡ true → limit < length s → Reads how s before (refused 2 0 0 0) before
+  pub long_answered : fit_separators how.separators ≡ true → limit < length s → Reads how s before (refused TooLong 0 0 0) before
   unfolding ReadsBy
   long_answered e l = rw (e, lt-leb (length s) limit l) (record { answer = refl; unchanged = refl })
 
-  pub long_refuses : (b : Bool) → b ≡ fit_separators how.separators → not b ≡ false → limit < length s → Reads how s before (refused 2 0 0 0) before
+  pub long_refuses : (b : Bool) → b ≡ fit_separators how.separators → not b ≡ false → limit < length s → Reads how s before (refused TooLong 0 0 0) before
   long_refuses b e n l = long_answered (sym e ∙ not-false b n) l
 
   -- the segments decide, likewise

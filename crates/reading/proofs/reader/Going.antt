@@ -45,6 +45,7 @@ use Rattle.finding.specs.internal.Lists.{lists}
 use Rattle.finding.specs.internal.Notes.{cleared}
 use Rattle.reading.proofs.reader.JudgeSteps.{verdict_cases}
 use Rattle.reading.proofs.reader.Standings.{standing_start, standing_refuses, segments_long, levels_long, history_long}
+use Rattle.elements.specs.declared.verdict.Reason.TheVariants.{Unended, Unfit}
 
 -- at the start
 pub going_start : (how : How) (s : Bytes) (specials : List Bool) (before : Tables) (lasts queue starts : List ℕ) → length lasts ≡ lists → ((place : ℕ) → place < lists → get_or lasts place 0 ≡ 0)
@@ -90,18 +91,18 @@ module _ {how : How} {s : Bytes} {before : Tables} {segments levels lasts : List
 
   -- 3
   pub open_refuses : (next : Result Cut Uncut) (queue starts : List ℕ) (specials : List Bool) → Cuts how.separators specials s at queue starts next → next ≡ Err Open
-      → Read (profile_of how) how s before (refused 3 (state.count + 1) at 0) (record { segments = segments; levels = cleared state.levels levels })
+      → Read (profile_of how) how s before (refused Unended (state.count + 1) at 0) (record { segments = segments; levels = cleared state.levels levels })
   open_refuses next queue starts specials cuts is =
       let c = subst (λ (n : Result Cut Uncut). Cuts how.separators specials s at queue starts n) is cuts in
-      standing_refuses stands.standing 3 0 (inl (record { upto = c.upto; more = c.more; stops = c.stops }))
+      standing_refuses stands.standing Unended 0 (inl (record { upto = c.upto; more = c.more; stops = c.stops }))
 
   -- 10, of a BIN
   pub broken_refuses : (next : Result Cut Uncut) (queue starts : List ℕ) (specials : List Bool) → Cuts how.separators specials s at queue starts next
       → (element : ℕ) → next ≡ Err (Broken element)
-      → Read (profile_of how) how s before (refused 10 (state.count + 1) at element) (record { segments = segments; levels = cleared state.levels levels })
+      → Read (profile_of how) how s before (refused Unfit (state.count + 1) at element) (record { segments = segments; levels = cleared state.levels levels })
   broken_refuses next queue starts specials cuts element is =
       let c = subst (λ (n : Result Cut Uncut). Cuts how.separators specials s at queue starts n) is cuts in
-      standing_refuses stands.standing 10 element (inl (record { upto = c.upto; more = c.more; stops = c.stops }))
+      standing_refuses stands.standing Unfit element (inl (record { upto = c.upto; more = c.more; stops = c.stops }))
 
   -- 5
   bad_place : {end : ℕ} (b : BadSegment how.separators s at end) → cut_out s at end ≡ b.segment

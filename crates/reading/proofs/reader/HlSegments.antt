@@ -32,6 +32,7 @@ use Rattle.gate.proofs.reading.Laws.{keeps_split, keeps_at}
 use Rattle.gate.proofs.reading.ElementTexts.{element_piece, other_tag, hl_no_bin, tag_of_view, unused_in, hl_rules, hl_claim}
 use Rattle.gate.proofs.whole.AllLevels.{Leveled, from_kept}
 use Rattle.finding.specs.internal.TablesHold.{HlBytes}
+use Rattle.elements.specs.declared.verdict.Reason.TheVariants.{Missing}
 
 -- the third element of an HL is there
 third_present : (unused : ℕ → Bool) (v : View) → Keeps (checks_by rules_hl unused v) → T (present (element_of v 3))
@@ -40,7 +41,7 @@ third_present unused v k =
     let b = (keeps_split (too_many_checks rules_hl unused v ++ missing_checks rules_hl v) (unfit_checks rules_hl v) a).0 in
     let c = (keeps_split (too_many_checks rules_hl unused v) (missing_checks rules_hl v) b).1 in
     let d =
-    keeps_at 8 1 4 (λ (k : ℕ). (not (rule_of rules_hl k).must || present (element_of v k)) && headed (rule_of rules_hl k).shape (element_of v k)) c 3 (omega arith)
+    keeps_at Missing 1 4 (λ (k : ℕ). (not (rule_of rules_hl k).must || present (element_of v k)) && headed (rule_of rules_hl k).shape (element_of v k)) c 3 (omega arith)
     (omega arith) in
     first_of (present (element_of v 3)) (headed (rule_of rules_hl 3).shape (element_of v 3)) d
 

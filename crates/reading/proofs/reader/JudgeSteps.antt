@@ -64,6 +64,8 @@ use Rattle.gate.proofs.reading.ElementTexts.{bin_tag, other_tag, hl_no_bin, se_n
 use Rattle.reading.proofs.cut.BinCuts.{bin_ends}
 use Rattle.reading.proofs.reader.OpeningControl.{control_of_first, counted_number}
 use Rattle.reading.proofs.reader.Standings.{history_long}
+use Rattle.elements.specs.declared.verdict.Reason.{Reason}
+use Rattle.elements.specs.declared.verdict.Reason.TheVariants.{UnknownTag, NoRow, ForeignRow}
 
 module _ {q : Separators} {s : Bytes} {starts : List ℕ} {layout : Layout} {g more : Bytes} (nt : CutAs q s starts layout g more) where
   -- the elements start where they are said to
@@ -137,20 +139,20 @@ no_zero_after table r again t =
     (no_zero_of (leb r 79 && ltb t 34) _ _ (no_zero_of (is_third r again (entry_at table r t)) _ _ tt (no_zero_meant (get_or table ((r - 1) * 34 + t) 0))) tt)
 
 -- the verdict of tests as what they say
-pub verdict_cases : {C : Type 0} (d : Verdict) → (d ≡ Holds → C) → ((n e : ℕ) → d ≡ broken n e → C) → C
+pub verdict_cases : {C : Type 0} (d : Verdict) → (d ≡ Holds → C) → ((n : Reason) (e : ℕ) → d ≡ broken n e → C) → C
 verdict_cases Holds f g = f refl
-verdict_cases (Err fault) f g = g fault.number fault.element refl
+verdict_cases (Err fault) f g = g fault.reason fault.element refl
 
 -- 4
 pub tag_refused : (q : Separators) (s : Bytes) (starts : List ℕ) (layout : Layout) (g more : Bytes) (profile : Profile) (rows : List ℕ) (h : List View)
     → CutAs q s starts layout g more → Fitted q → 34 ≤ tag_number (element_in s starts layout 0)
-    → FirstBroken (rules profile rows h (view_of q g)) 4 0
+    → FirstBroken (rules profile rows h (view_of q g)) UnknownTag 0
 tag_refused q s starts layout g more profile rows h nt fit l =
     unknown_tag profile rows h (view_of q g) nt.laid.data_only (rw (← tag_is nt fit) l)
 
 pub judges_tag : (how : How) {s : Bytes} {starts : List ℕ} {layout : Layout} {g more : Bytes} (rows : List ℕ) (h : List View) (t : ℕ) → 34 ≤ t
     → t ≡ tag_number (element_in s starts layout 0) → Fitted how.separators → CutAs how.separators s starts layout g more
-    → Judges (profile_of how) rows h (view_of how.separators g) (Err (record { number = 4; element = 0 }))
+    → Judges (profile_of how) rows h (view_of how.separators g) (Err (record { reason = UnknownTag; element = 0 }))
 judges_tag how {s = s} {starts = starts} {layout = layout} {g = g} {more = more} rows h t l found fit nt =
     tag_refused how.separators s starts layout g more (profile_of how) rows h nt fit (rw (← found) l)
 
@@ -201,7 +203,7 @@ module _ {how : How} {before : Tables} {s : Bytes} {segments levels lasts : List
       one_fits r after = rw tag_known at (after.meaning kept rows st.passed.viable st.row_is st.again_is)
 
       -- 7
-      pub judges_row : RowAfter table state.row state.again t None → Judges (profile_of how) rows h v (Err (record { number = 7; element = 0 }))
+      pub judges_row : RowAfter table state.row state.again t None → Judges (profile_of how) rows h v (Err (record { reason = NoRow; element = 0 }))
       judges_row after =
           no_row (profile_of how) rows h v nt.laid.data_only known_tag ends (λ r f. ((one_fits None after).alone r f).1 refl)
 
@@ -213,7 +215,7 @@ module _ {how : How} {before : Tables} {s : Bytes} {segments levels lasts : List
         fits = (one_fits (Some x) after).fits some_row
 
         -- 24
-        pub judges_outside : (Admitted (profile_of how) x → ⊥) → Judges (profile_of how) rows h v (Err (record { number = 24; element = 0 }))
+        pub judges_outside : (Admitted (profile_of how) x → ⊥) → Judges (profile_of how) rows h v (Err (record { reason = ForeignRow; element = 0 }))
         judges_outside outside =
             not_in_profile (profile_of how) rows h v nt.laid.data_only known_tag ends x fits
             (λ r f a. outside (rw ((one_fits (Some x) after).alone r f).0 at a))
@@ -236,7 +238,7 @@ module _ {how : How} {before : Tables} {s : Bytes} {segments levels lasts : List
               → d ≡ first_broken (ruled_checks (profile_of how).elements t (layout_view s starts layout how.separators.component))
               → (fault : Fault) → d ≡ Err fault → Judges (profile_of how) rows h v (Err fault)
           judges_element d is fault q =
-              bad_element (profile_of how) rows h v nt.laid.data_only known_tag ends x fits inside fault.number fault.element (sym ruled_is ∙ sym is ∙ q)
+              bad_element (profile_of how) rows h v nt.laid.data_only known_tag ends x fits inside fault.reason fault.element (sym ruled_is ∙ sym is ∙ q)
 
           module _ (elements : Keeps (ruled_checks (profile_of how).elements (tag_in_of v) v)) where
             -- 12, 13, 14, 15 of an HL

@@ -37,6 +37,7 @@ use Rattle.gate.specs.declared.how.How.{How}
 use Rattle.gate.proofs.reading.Laws.{keeps_split, opening_onto, keeps_at}
 use Rattle.gate.proofs.reading.ElementTexts.{other_tag, st_no_bin, ruled_simple, unused_in, se_rules, st_control}
 use Rattle.reading.specs.declared.judging.State.{State}
+use Rattle.elements.specs.declared.verdict.Reason.TheVariants.{Missing}
 
 -- row 1 is ST's
 tag_1 : tag_of 1 ≡ tag "ST"
@@ -73,7 +74,7 @@ first_there unused v k =
     let b = (keeps_split (too_many_checks rules_se unused v ++ missing_checks rules_se v) (unfit_checks rules_se v) a).0 in
     let c = (keeps_split (too_many_checks rules_se unused v) (missing_checks rules_se v) b).1 in
     let d =
-    keeps_at 8 1 2 (λ (k : ℕ). (not (rule_of rules_se k).must || present (element_of v k)) && headed (rule_of rules_se k).shape (element_of v k)) c 1 (omega arith)
+    keeps_at Missing 1 2 (λ (k : ℕ). (not (rule_of rules_se k).must || present (element_of v k)) && headed (rule_of rules_se k).shape (element_of v k)) c 1 (omega arith)
     (omega arith) in
     first_of (present (element_of v 1)) (headed (rule_of rules_se 1).shape (element_of v 1)) d
 

@@ -31,6 +31,7 @@ use Rattle.reading.specs.declared.judging.State.{State}
 use Rattle.reading.specs.declared.storing.NewLevel.{NewLevel}
 use Rattle.gate.specs.Rules.{Sound}
 use Rattle.reading.proofs.reader.Standings.{standing_refuses, no_segment_room, no_level_room, standing_other, standing_level, standing_closes}
+use Rattle.elements.specs.declared.verdict.Reason.TheVariants.{NoRoom}
 
 -- what a test of room says
 pub room : (b : Bool) (n m : ℕ) → b ≡ ltb n m → not b ≡ false → n < m
@@ -66,43 +67,43 @@ module _ {how : How} {before : Tables} {s : Bytes} {segments levels lasts : List
   next_at = omega (arith, t.place)
 
   -- 4 to 16, and 24
-  pub settles_broken : (fault : Fault) → j ≡ Err fault → (r : Step) → r ≡ refused_at fault.number layout state fault.element
+  pub settles_broken : (fault : Fault) → j ≡ Err fault → (r : Step) → r ≡ refused_at fault.reason layout state fault.element
       → Settles how before s layout state.levels segments levels lasts r
   settles_broken fault q r is =
       rw is
-      (standing_refuses t.standing fault.number fault.element
+      (standing_refuses t.standing fault.reason fault.element
       (inr (inl (record { segment = g; more = more; next = t.cut; first = says (Err fault) q }))))
 
   -- 17
-  full : (row : ℕ) → Sound (profile_of how) rows h v row → (Room (profile_of how) before (v ∷ h) → ⊥) → (r : Step) → r ≡ refused_at 17 layout state 0
+  full : (row : ℕ) → Sound (profile_of how) rows h v row → (Room (profile_of how) before (v ∷ h) → ⊥) → (r : Step) → r ≡ refused_at NoRoom layout state 0
       → Settles how before s layout state.levels segments levels lasts r
   full row sound none r is =
       rw is
-      (standing_refuses t.standing 17 0 (inr (inr (record {
+      (standing_refuses t.standing NoRoom 0 (inr (inr (record {
         segment = g;
         row = row;
         keeping = record { more = more; next = t.cut; sound = sound };
         no_room = none;
-        number_is = refl;
+        reason_is = refl;
         element_is = refl;
       }))))
 
-  pub full_other : (row : ℕ) → j ≡ Ok (Other row) → length segments / segment_width ≤ state.count → (r : Step) → r ≡ refused_at 17 layout state 0
+  pub full_other : (row : ℕ) → j ≡ Ok (Other row) → length segments / segment_width ≤ state.count → (r : Step) → r ≡ refused_at NoRoom layout state 0
       → Settles how before s layout state.levels segments levels lasts r
   full_other row q l = full row (says (Ok (Other row)) q).0 (no_segment_room t.standing g more t.cut t.whole l)
 
   pub full_level : (row : ℕ) (level : NewLevel) → j ≡ Ok (Level row level) → length segments / segment_width ≤ state.count → (r : Step)
-      → r ≡ refused_at 17 layout state 0 → Settles how before s layout state.levels segments levels lasts r
+      → r ≡ refused_at NoRoom layout state 0 → Settles how before s layout state.levels segments levels lasts r
   full_level row level q l =
       full row (says (Ok (Level row level)) q).0 (no_segment_room t.standing g more t.cut t.whole l)
 
   pub full_levels : (row : ℕ) (level : NewLevel) → j ≡ Ok (Level row level) → length levels / level_width ≤ state.levels → (r : Step)
-      → r ≡ refused_at 17 layout state 0 → Settles how before s layout state.levels segments levels lasts r
+      → r ≡ refused_at NoRoom layout state 0 → Settles how before s layout state.levels segments levels lasts r
   full_levels row level q l =
       let p = says (Ok (Level row level)) q in
       full row p.0 (no_level_room t.standing g more t.cut t.whole p.1 l)
 
-  pub full_last : (row : ℕ) → j ≡ Ok (Last row) → length segments / segment_width ≤ state.count → (r : Step) → r ≡ refused_at 17 layout state 0
+  pub full_last : (row : ℕ) → j ≡ Ok (Last row) → length segments / segment_width ≤ state.count → (r : Step) → r ≡ refused_at NoRoom layout state 0
       → Settles how before s layout state.levels segments levels lasts r
   full_last row q l = full row (says (Ok (Last row)) q).0 (no_segment_room t.standing g more t.cut t.whole l)
 

@@ -50,6 +50,7 @@ use Rattle.finding.specs.internal.Lists.{lists, place_of}
 use Rattle.finding.specs.internal.Notes.{note_with, asks_of, code_in, child_met, plain, cleared}
 use Rattle.finding.proofs.PlainTable.{plain_long, plain_stored, met_long, plain_met}
 use Rattle.finding.proofs.StoredLevels.{holds_none, holds_segment, holds_level, noted_code}
+use Rattle.elements.specs.declared.verdict.Reason.{Reason}
 
 -- Tables with records in front
 -- a record stored behind the others is one record more in front
@@ -139,7 +140,7 @@ module _ {how : How} {before : Tables} {s : Bytes} {segments levels lasts : List
       ap (λ (n : ℕ). plain n levels) all ∙ st.levels_are
 
   -- a refusal at the next segment
-  pub standing_refuses : (n e : ℕ) → Fails profile how before gs rows at (drop at s) n e
+  pub standing_refuses : (n : Reason) (e : ℕ) → Fails profile how before gs rows at (drop at s) n e
       → Read profile how s before (refused n (state.count + 1) at e) (record { segments = segments; levels = cleared state.levels levels })
   standing_refuses n e f = record {
     kept = gs;
@@ -150,7 +151,7 @@ module _ {how : How} {before : Tables} {s : Bytes} {segments levels lasts : List
       end = at;
       rest = drop at s;
       passed = st.passed;
-      ends = record { number = n; element = e; cause = f; kept_is = refl; numbers_is = refl; place = cc st.count_is };
+      ends = record { reason = n; element = e; cause = f; kept_is = refl; numbers_is = refl; place = cc st.count_is };
     };
     tables = λ i. record { segments = st.segments_are i; levels = levels_cleared i };
   }

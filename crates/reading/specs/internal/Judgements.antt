@@ -33,6 +33,7 @@ use Rattle.reading.specs.declared.judging.Judgement.{Judgement}
 use Rattle.reading.specs.declared.judging.Judgement.TheVariants.{Other, Level, Last}
 use Rattle.elements.specs.declared.layout.Layout.{Layout}
 use Rattle.reading.specs.declared.judging.State.{State}
+use Rattle.elements.specs.declared.verdict.Reason.TheVariants.{BadEnd, BadMark, BadClose}
 
 -- what an HL claims, by the layout
 abbrev pub claim_in : Bytes → List ℕ → Layout → Claim
@@ -52,9 +53,9 @@ opening_control s separator segments =
 -- the tests of an SE, by the layout, the tables and what the reader carries
 abbrev pub closing_in : Bytes → ℕ → List ℕ → Layout → (segments levels : List ℕ) → State → List Check
 closing_in s separator starts layout segments levels state =
-    check 16 1 (eqb (number_of (element_in s starts layout 1)) (suc state.count))
-    ∷ check 16 2 (same (element_in s starts layout 2) (opening_control s separator segments))
-    ∷ check 15 0 (none_owes levels (count_in levels state.levels))
+    check BadClose 1 (eqb (number_of (element_in s starts layout 1)) (suc state.count))
+    ∷ check BadClose 2 (same (element_in s starts layout 2) (opening_control s separator segments))
+    ∷ check BadMark 0 (none_owes levels (count_in levels state.levels))
     ∷ []
 
 -- the segment that the layout names lies within the bytes
@@ -66,9 +67,9 @@ pub record Inside (s : Bytes) (layout : Layout) : Type 0 where
 abbrev pub Judged : Type 0
 Judged = Result Judgement Fault
 
--- the fault of a verdict; 6 where it holds
+-- the fault of a verdict; that of a bad end where it holds
 abbrev pub broken_by : Verdict → Fault
-broken_by Holds = record { number = 6; element = 0 }
+broken_by Holds = record { reason = BadEnd; element = 0 }
 broken_by (Err fault) = fault
 
 -- the judgement on an HL with that row, whose mark asks that, and whose HL01 belongs to that list
@@ -112,7 +113,7 @@ module _ (profile : Profile) (rows : List ℕ) (h : List View) (v : View) where
   new_level = level_of profile.levels (suc (length h)) (claim_of v) (levels_in profile h)
 
   abbrev pub Judges : Judged → Type 0
-  Judges (Err fault) = FirstBroken (rules profile rows h v) fault.number fault.element
+  Judges (Err fault) = FirstBroken (rules profile rows h v) fault.reason fault.element
   Judges (Ok (Other r)) = Sound profile rows h v r × (is_hl v ≡ false) × T (not (is_se v))
   Judges (Ok (Level r level)) =
       Sound profile rows h v r × (is_hl v ≡ true) × T (not (is_se v))

@@ -27,6 +27,8 @@ use Rattle.reading.specs.declared.judging.Judgement.TheVariants.{Other, Level, L
 use Rattle.elements.specs.declared.layout.Layout.{Layout}
 use Rattle.reading.specs.declared.judging.State.{State}
 use Rattle.reading.specs.declared.storing.NewLevel.{NewLevel}
+use Rattle.elements.specs.declared.verdict.Reason.{Reason}
+use Rattle.elements.specs.declared.verdict.Reason.TheVariants.{Unended, BadByte, Unfit}
 
 -- what becomes of the next segment: the reading ends with an answer, or the reader goes on and carries this
 abbrev pub Step : Type 0
@@ -37,23 +39,23 @@ abbrev pub state_after : State → ℕ → ℕ → State
 state_after state row levels = record { count = state.count + 1; row = row; again = eqb row state.row; levels = levels }
 
 -- a refusal at the segment
-abbrev pub refused_at : ℕ → Layout → State → ℕ → Step
-refused_at number layout state element = Break (refused number (state.count + 1) layout.at element)
+abbrev pub refused_at : Reason → Layout → State → ℕ → Step
+refused_at reason layout state element = Break (refused reason (state.count + 1) layout.at element)
 
 -- acceptance with the segment as the last
 abbrev pub accepted_at : Layout → State → Step
 accepted_at layout state = Break (accepted (state.count + 1) state.levels (layout.end + 1))
 
--- a refusal behind `count` segments by the first test that does not hold; 5 where all hold
+-- a refusal behind `count` segments by the first test that does not hold; for a bad byte where all hold
 abbrev pub refused_by : Verdict → ℕ → ℕ → Answer
-refused_by Holds count at = refused 5 (count + 1) at 0
-refused_by (Err fault) count at = refused fault.number (count + 1) at fault.element
+refused_by Holds count at = refused BadByte (count + 1) at 0
+refused_by (Err fault) count at = refused fault.reason (count + 1) at fault.element
 
 -- the refusal where no segment was cut at `at`, behind `count` segments
 abbrev pub uncut_refused : How → Bytes → ℕ → ℕ → Uncut → Answer
-uncut_refused how s at count Open = refused 3 (count + 1) at 0
+uncut_refused how s at count Open = refused Unended (count + 1) at 0
 uncut_refused how s at count (Bad end) = refused_by (first_broken (data_checks (plain_view how.separators (cut_out s at end)))) count at
-uncut_refused how s at count (Broken element) = refused 10 (count + 1) at element
+uncut_refused how s at count (Broken element) = refused Unfit (count + 1) at element
 
 -- the terminator that stands behind a bad byte, where that is why, lies within the bytes
 abbrev pub UncutWithin : Bytes → ℕ → Uncut → Type 0

@@ -30,7 +30,7 @@ suited_here c e =
 
 pub returns-then-not-is_complete : goal.returns-then-not-is_complete
 returns-then-not-is_complete c =
-    rw c.missing.ensures
+    rw c.at_element.ensures
     (judged_missing _ _ _ c.loop-k.invariant (omega arith)
     (sym (complete_here (goal.at.returns-then-not-is_complete c).After-is_complete) ∙ c.if-not-is_complete.true))
 
@@ -55,4 +55,4 @@ pub returns-in-None : goal.returns-in-None
 returns-in-None c = judged_all _ _ _ (rw c.in-None.is at c.loop-k.invariant) (omega arith)
 
 pub returns-in-Some : goal.returns-in-Some
-returns-in-Some c = rw c.unfit.ensures (judged_unfit _ _ c.args.upto (rw c.in-Some.is at c.loop-k.invariant) (omega arith) (omega arith))
+returns-in-Some c = rw c.at_element-in-Some.ensures (judged_unfit _ _ c.args.upto (rw c.in-Some.is at c.loop-k.invariant) (omega arith) (omega arith))

@@ -7,7 +7,7 @@ use Rattle.elements.proofs.segment.byte_verdict.Goals as goal
 
 pub returns-then-not-b-component : goal.returns-then-not-b-component
 returns-then-not-b-component c =
-    rw c.byte.ensures
+    rw c.at_element.ensures
     (scanned_bad c.loop-b.invariant (omega arith) c.if-b-element.false c.if-not-b-component.true
     ∙ sym (bytes_bad c.args.separators c.args.segment.now))
 

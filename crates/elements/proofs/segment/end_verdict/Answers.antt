@@ -9,7 +9,7 @@ use Rattle.elements.proofs.segment.end_verdict.Goals as goal
 
 pub returns-then-k-hollow : goal.returns-then-k-hollow
 returns-then-k-hollow c =
-    rw c.ending.ensures
+    rw c.at_element.ensures
     (ended_badly c.loop-b.invariant (omega arith) c.if-b-element.true c.if-k-hollow.true
     ∙ sym (ends_pass c.args.separators c.args.segment.now))
 
@@ -17,7 +17,7 @@ pub returns-then-k-bare : goal.returns-then-k-bare
 returns-then-k-bare c =
     let at_end = c.loop-b in
     let badly : (eqb at_end.k 0 || at_end.bare) || at_end.hollow ≡ true = c.if-k-bare.true in
-    rw c.ending-then-k-bare.ensures
+    rw c.at_element-then-k-bare.ensures
     (rw badly at (ended_all c.loop-b.invariant (omega arith)) ∙ sym (ends_pass c.args.separators c.args.segment.now))
 
 pub returns : goal.returns

@@ -1,6 +1,6 @@
 -- `past_special` meets its contract.
 -- Assumes nothing.
-use Rattle.reading.proofs.cut.PastLineEnds.{past_entry, past_used_up}
+use Rattle.reading.proofs.cut.PastLineEnds.{past_entry}
 use Rattle.reading.proofs.between.past_special.Goals as goal
 
 pub returns-then-head-tail : goal.returns-then-head-tail

@@ -1,7 +1,7 @@
 -- `index` meets its contract: each byte passed is counted, as `Index` says.
 -- Assumes nothing.
 use native.Mathlib.Omega.{arith}
-use Rattle.reading.proofs.cut.Index.{counted_none, counted_more, counted_at, counted_all, at_most_one_lem}
+use Rattle.reading.proofs.cut.Index.{counted_more, counted_at, at_most_one_lem}
 use Rattle.reading.proofs.cutting.index.Goals as goal
 
 pub overflow_add-number : goal.overflow_add-number

@@ -16,13 +16,14 @@ inside c = rw (sym c.admits.ensures ∙ c.if-not-admits.false) tt
 pub returns-in_default : goal.returns-in_default
 returns-in_default c = λ before gs rows g more fit nt st.
     let known = c.requires.known_tag in
-    judges_row fit nt st _ known.tagged known.listed known.ended c.requires.next_table c.in_default.ensures
+    rw c.at_element.ensures (judges_row fit nt st _ known.tagged known.listed known.ended c.requires.next_table c.in_default.ensures)
 
 pub returns-then-not-admits : goal.returns-then-not-admits
 returns-then-not-admits c = λ before gs rows g more fit nt st.
     let known = c.requires.known_tag in
-    judges_outside fit nt st _ known.tagged known.listed known.ended c.requires.next_table _ c.in-Some.ensures
-    (λ a. rw (sym c.admits.ensures ∙ c.if-not-admits.true) at a)
+    rw c.at_element-then-not-admits.ensures
+    (judges_outside fit nt st _ known.tagged known.listed known.ended c.requires.next_table _ c.in-Some.ensures
+    (λ a. rw (sym c.admits.ensures ∙ c.if-not-admits.true) at a))
 
 pub returns-then-is_plain : goal.returns-then-is_plain
 returns-then-is_plain c = λ before gs rows g more fit nt st.

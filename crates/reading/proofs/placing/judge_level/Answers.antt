@@ -7,7 +7,7 @@ use mathlib.Core.List.{List}
 use native.Mathlib.Omega.{arith}
 use lib.ListN.{length}
 use borrow.Author.Tests.{eqb-true, eqb-false}
-use Rattle.std.specs.Prelude.{Some, None, is_some}
+use Rattle.std.specs.Prelude.{Some, None, is_some, Err}
 use Rattle.text.specs.internal.Search.{Free}
 use Rattle.levels.specs.Levels.{Claim, Level, called, level_at}
 use Rattle.gate.specs.Profile.{profile_of}
@@ -68,7 +68,8 @@ pub returns-then-is_some : goal.returns-then-is_some
 returns-then-is_some c = λ m ls h f e.
     let start = (goal.at.returns-then-is_some c).Start in
     let own = own-found (goal.at.returns-then-is_some c).After-find m ls h f.0 e in
-    judged_used (profile_of c.args.how).levels ls (claim start) (called (claim start).id ls) refl
+    ap Err c.at_element.ensures
+    ∙ judged_used (profile_of c.args.how).levels ls (claim start) (called (claim start).id ls) refl
     (is_number (called (claim start).id ls) (c.if-is_some.ensures ∙ ap is_some own))
 
 -- an HL02 is there, where the test says so
@@ -90,7 +91,8 @@ returns-in_default c = λ m ls h f e.
     let own = own-found (goal.at.returns-in_default c).After-find m ls h f.0 e in
     let new = no_number (called (claim start).id ls) (c.if-is_some.ensures ∙ ap is_some own) in
     let above = above-found (goal.at.returns-in_default c).After-find-2 m ls h f.1 in
-    judged_nobody (profile_of c.args.how).levels ls (claim start) new (called (claim start).parent ls) refl
+    ap Err c.at_element-in_default.ensures
+    ∙ judged_nobody (profile_of c.args.how).levels ls (claim start) new (called (claim start).parent ls) refl
     (some-parent (goal.at.returns-in_default c).Else-is_empty) (none_found (called (claim start).parent ls) (sym c.in_default.is ∙ above))
 
 pub returns : goal.returns

@@ -13,4 +13,4 @@ returns-in-Err c =
 pub returns-in-Ok : goal.returns-in-Ok
 returns-in-Ok c =
     let a = c.args in
-    c.refused-in-Ok.ensures ∙ ap (λ (d : Verdict). refused_by d a.count a.at) (sym c.in-Ok.is ∙ c.byte_verdict.ensures)
+    rw c.at_element.ensures at c.refused-in-Ok.ensures ∙ ap (λ (d : Verdict). refused_by d a.count a.at) (sym c.in-Ok.is ∙ c.byte_verdict.ensures)

@@ -23,10 +23,10 @@ small : (c : Start) (n : ℕ) → n < length c.args.segments.now / segment_width
 small c n room = omega arith
 
 pub returns-then-not-segment_room : goal.returns-then-not-segment_room
-returns-then-not-segment_room c = λ how before s gs rows g more t. full_level t _ _ refl (no_room c.segment_room.result _ _ c.segment_room.ensures (ap not c.if-not-segment_room.true)) _ c.refusal.ensures
+returns-then-not-segment_room c = λ how before s gs rows g more t. full_level t _ _ refl (no_room c.segment_room.result _ _ c.segment_room.ensures (ap not c.if-not-segment_room.true)) _ c.no_room.ensures
 
 pub returns-then-not-level_room : goal.returns-then-not-level_room
-returns-then-not-level_room c = λ how before s gs rows g more t. full_levels t _ _ refl (no_room c.level_room.result _ _ c.level_room.ensures (ap not c.if-not-level_room.true)) _ c.refusal-then-not-level_room.ensures
+returns-then-not-level_room c = λ how before s gs rows g more t. full_levels t _ _ refl (no_room c.level_room.result _ _ c.level_room.ensures (ap not c.if-not-level_room.true)) _ c.no_room-then-not-level_room.ensures
 
 pub overflow_add-number : goal.overflow_add-number
 overflow_add-number c = omega (arith, level-fits (goal.at.overflow_add-number c).Else-not-level_room)

@@ -17,7 +17,7 @@ fits c = room c.segment_room.result _ _ c.segment_room.ensures (ap not c.if-not-
 pub returns-then-not-segment_room : goal.returns-then-not-segment_room
 returns-then-not-segment_room c = λ levels lasts how before s gs rows g more t.
     let asked = c.segment_room in
-    full_other t _ refl (no_room asked.result _ _ asked.ensures (ap not c.if-not-segment_room.true)) _ c.refusal.ensures
+    full_other t _ refl (no_room asked.result _ _ asked.ensures (ap not c.if-not-segment_room.true)) _ c.no_room.ensures
 
 pub put_segment-requires : goal.put_segment-requires
 put_segment-requires c = record { at_le_end = c.requires.at_le_end; n_in_bounds = fits (goal.at.put_segment-requires c).Else-not-segment_room }

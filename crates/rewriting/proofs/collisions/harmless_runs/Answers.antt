@@ -2,7 +2,7 @@
 -- Assumes nothing.
 use native.Mathlib.Omega.{arith}
 use Rattle.rewriting.proofs.SegmentBytes.{used_within}
-use Rattle.rewriting.proofs.HarmlessRuns.{tested_start, tested_passed, tested_bin, tested_end}
+use Rattle.rewriting.proofs.HarmlessRuns.{tested_start, tested_passed, tested_bin}
 use Rattle.rewriting.proofs.collisions.harmless_runs.Goals as goal
 use Rattle.rewriting.proofs.collisions.harmless_runs.Goals.{then-attached, else-attached}
 

@@ -13,7 +13,8 @@ loop-byte-init c = apart_none _ _ _ (plain_of _ _ (rw c.attached_from.ensures at
 
 pub returns-then-byte-change-2 : goal.returns-then-byte-change-2
 returns-then-byte-change-2 c =
-    apart_not _ _ _ c.loop-byte.invariant c.loop-byte-test.true c.if-byte-change.false (rw c.separates.ensures at c.if-byte-change-2.true)
+    rw c.at_element.ensures
+    (apart_not _ _ _ c.loop-byte.invariant c.loop-byte-test.true c.if-byte-change.false (rw c.separates.ensures at c.if-byte-change-2.true))
 
 pub loop-byte-preserved : goal.loop-byte-preserved
 loop-byte-preserved c =

@@ -1,7 +1,6 @@
 -- `write_accepted` meets its contract.
 -- Assumes nothing.
 use mathlib.Core.Path.{sym, ◌∙◌}
-use native.Mathlib.Omega.{arith}
 use Rattle.rewriting.proofs.Outcomes.{collided, too_short, put}
 use Rattle.rewriting.proofs.rewriting.write_accepted.Goals as goal
 

@@ -38,7 +38,7 @@ returns-in_err-unused_verdict c =
     let p = err_from_is_err_and c.from_residual.result c.from_residual.ensures.1 in
     let f = c.in_err-unused_verdict.field-0.0 in
     rw (p.1, p.2)
-    (unwanted_decides _ _ _ _ _ c.args.profile (there (goal.at.returns-in_err-unused_verdict c).Start) f.number f.element
+    (unwanted_decides _ _ _ _ _ c.args.profile (there (goal.at.returns-in_err-unused_verdict c).Start) f.reason f.element
     c.in_err-unused_verdict.ensures)
 
 pub returns-in_err-too_many : goal.returns-in_err-too_many
@@ -46,7 +46,7 @@ returns-in_err-too_many c =
     let p = err_from_is_err_and c.from_residual-in_err-too_many.result c.from_residual-in_err-too_many.ensures.1 in
     let f = c.in_err-too_many.field-0.0 in
     rw (p.1, p.2)
-    (early_many _ _ _ _ _ f.number f.element c.in_err-too_many.ensures
+    (early_many _ _ _ _ _ f.reason f.element c.in_err-too_many.ensures
     ∙ others_decide _ _ _ _ _ c.args.profile (there (goal.at.returns-in_err-too_many c).Start) (silent (goal.at.returns-in_err-too_many c).In_ok-unused_verdict))
 
 pub returns : goal.returns

@@ -33,7 +33,7 @@ returns-in_err-early_verdict c =
     let p = err_from_is_err_and c.from_residual.result c.from_residual.ensures.1 in
     let f = c.in_err-early_verdict.field-0.0 in
     rw (p.1, p.2)
-    (decide_early _ _ _ _ c.args.profile _ (ruled (goal.at.returns-in_err-early_verdict c).Else-is_plain) f.number f.element
+    (decide_early _ _ _ _ c.args.profile _ (ruled (goal.at.returns-in_err-early_verdict c).Else-is_plain) f.reason f.element
     c.in_err-early_verdict.ensures)
 
 pub notes_verdict-requires : goal.notes_verdict-requires

@@ -20,13 +20,13 @@ few c = sym c.is_few.ensures ∙ c.if-not-is_few.false
 
 pub returns-then-not-is_few : goal.returns-then-not-is_few
 returns-then-not-is_few c =
-    rw c.surplus.ensures
+    rw c.at_element.ensures
     (too_many_five c.args.tag c.args.parts.layout.count (at (goal.at.returns-then-not-is_few c).Start) (λ l. at_past _ _ _ _ 5 l)
     (sym c.is_few.ensures ∙ c.if-not-is_few.true))
 
 pub returns-then-last-parts : goal.returns-then-last-parts
 returns-then-last-parts c =
-    rw c.surplus-then-last-parts.ensures
+    rw c.at_element-then-last-parts.ensures
     (too_many_past c.args.tag c.args.parts.layout.count (at (goal.at.returns-then-last-parts c).Start) (few (goal.at.returns-then-last-parts c).Else-not-is_few) _ c.last_ruled-last.ensures c.if-last-parts.true)
 
 pub returns : goal.returns

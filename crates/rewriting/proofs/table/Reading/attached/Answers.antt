@@ -5,4 +5,4 @@ use Rattle.text.proofs.BinSpans.{attached_most}
 use Rattle.rewriting.proofs.table.Reading.attached.Goals as goal
 
 pub overflow_add-result : goal.overflow_add-result
-overflow_add-result c = omega (arith, c.attached_from-attached.ensures, attached_most c.args.self.change.old.element c.segment-segment.result.now)
+overflow_add-result c = omega (arith, attached_most, c.attached_from-attached.ensures)
