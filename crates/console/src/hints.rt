@@ -4,6 +4,7 @@ use elements::verdict::Reason;
 use gate::answer::Refusal;
 use std::io::Write;
 use text::separators;
+use text::separators::Separators;
 
 // Whether a byte order mark comes first, of UTF-8 or of UTF-16.
 fn marked(report: &[u8]) -> bool {
@@ -20,8 +21,12 @@ fn otherwise_separated(report: &[u8]) -> bool {
     };
     behind
         .iter()
-        .find(|byte| separators::may_serve(**byte) && **byte != b'*' && **byte != b':')
-        .is_some_and(|byte| *byte != b'~')
+        .find(|byte| {
+            separators::may_serve(**byte)
+                && **byte != Separators::ELEMENT
+                && **byte != Separators::COMPONENT
+        })
+        .is_some_and(|byte| *byte != Separators::TERMINATOR)
 }
 
 // What was sent, where the bytes of a report that is refused so show it.

@@ -46,6 +46,7 @@ fn read_full<I: Read>(input: &mut I, buffer: &mut [u8]) -> io::Result<usize>
     ensures { ReadsAtMost result buffer.new }
 {
     let mut done = 0;
+    // It counts up to a bound so that it ends, whatever the input gives; what is read goes straight into the lent buffer.
     'filling: for _ in 0..u64::MAX {
         if done == buffer.len() {
             break;

@@ -9,6 +9,18 @@ use std::alloc::Global;
 use std::io;
 use std::io::{IsTerminal, LineWriter, Read, Stdout, Write};
 
+// How many bytes a report may have.
+const LONGEST: usize = 65_536;
+
+// Room in the segment table: four numbers for each of 1,000 segments.
+const SEGMENT_ROOM: usize = 4_000;
+
+// Room in the level table: four numbers for each of 200 levels.
+const LEVEL_ROOM: usize = 800;
+
+// How many bytes the name of a file may have.
+const NAME_ROOM: usize = 4_096;
+
 // A report that is accepted, how many segments, levels and bytes it has, and the records of these.
 #[derive(Clone, Copy)]
 pub struct Judged<'a> {
@@ -28,8 +40,8 @@ fn judge<O: Write, E: Write, F: FnOnce(&mut O, Judged<'_>) -> io::Result<()>>(
 ) -> io::Result<()>
     requires { F.IsAlwaysCallable list }
 {
-    let mut segments = [0u64; 4000];
-    let mut levels = [0u64; 800];
+    let mut segments = [0u64; SEGMENT_ROOM];
+    let mut levels = [0u64; LEVEL_ROOM];
     let Some(accepted) = judging::judge(out, err, report, name, &mut segments, &mut levels)? else {
         return Ok(());
     };
@@ -53,7 +65,7 @@ fn run_on<
 >(input: &mut I, out: &mut O, err: &mut E, alloc: Global, name: &[u8], list: F) -> io::Result<()>
     requires { F.IsAlwaysCallable list }
 {
-    let mut buffer = [0u8; 65536];
+    let mut buffer = [0u8; LONGEST];
     match input::fill(input, out, err, alloc, name, &mut buffer)? {
         Some(len) => judge(out, err, &buffer[..len], name, list),
         None => Ok(()),
@@ -70,7 +82,7 @@ pub fn run<F: FnOnce(&mut LineWriter<Stdout>, Judged<'_>) -> io::Result<()>>(
     let alloc = rt.alloc();
     let mut out = LineWriter::new(alloc, rt.stdout())?;
     let mut err = rt.stderr();
-    let mut space = [0u8; 4096];
+    let mut space = [0u8; NAME_ROOM];
     match input::open(rt, &mut err, alloc, &mut space)? {
         Some(Source::Standard) => run_on(
             &mut rt.stdin(),

@@ -8,6 +8,9 @@ use std::io::Write;
 use text::lookup;
 use text::separators::Separators;
 
+// The most levels of a report that the program reads.
+const LEVELS: usize = 200;
+
 // Record k of a table of either kind, counted from 1.
 fn record(table: &[u64], k: u64) -> Option<[u64; 4]> {
     let (records, _) = table.as_chunks();
@@ -42,8 +45,7 @@ fn part(bytes: &[u8], start: usize, len: usize) -> &[u8] {
 
 // The HL01 of a level's segment.
 fn name(segment: &[u8]) -> &[u8] {
-    let span = lookup::part_span(segment, Separators::standard(), 1, 0);
-    part(segment, span.start, span.len)
+    lookup::lookup(segment, Separators::standard(), 1, 0)
 }
 
 // The line of a level: the code in words and letters, HL01, where its HL stands, and how many segments belong to the level. A record that is not
@@ -62,7 +64,7 @@ fn line<O: Write>(out: &mut O, judged: Judged<'_>, level: u64) -> io::Result<()>
 // A line for each level, under its parent. No walk of what an accepted report leaves is refused: the order has room for as many levels as the
 // program reads.
 pub(crate) fn list<O: Write>(out: &mut O, judged: Judged<'_>) -> io::Result<()> {
-    let mut order = [0u64; 200];
+    let mut order = [0u64; LEVELS];
     if let Ok(count) = walking::walk(judged.levels, judged.accepted.levels, &mut order) {
         for level in order.iter().take(count) {
             line(out, judged, *level)?;

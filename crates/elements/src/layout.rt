@@ -14,9 +14,9 @@ pub struct Layout {
 
 // A segment by its layout: the bytes it stands in, where its tag and its first elements start, and the layout.
 #[derive(Clone, Copy, Drop)]
-pub struct Parts<'a> {
+pub struct Parts<'a, 's> {
     pub bytes: &'a [u8],
-    pub starts: &'a [usize; 33],
+    pub starts: &'s [usize; 33],
     pub layout: Layout,
 }
 
@@ -27,7 +27,7 @@ fn part_between<'a>(s: &'a [u8], from: usize, to: usize) -> &'a [u8]
     s.get(from..to).unwrap_or(&[])
 }
 
-impl<'a> Parts<'a> {
+impl<'a, 's> Parts<'a, 's> {
     // The bytes of element k, the tag being element 0; none past the last, and none past element 31.
     #[tactic(auto, unfolding(crate::specs::internal::Layouts::element_in))]
     pub fn element(self, k: usize) -> &'a [u8]

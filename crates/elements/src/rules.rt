@@ -99,7 +99,7 @@ fn item_rule(k: usize) -> Rule
     ensures { Renders (rule_of (rules_of (tag_number (bytes "LIN"))) k) result }
 {
     if (k == 0) | (31 < k) {
-        return simple(false, Kind::AN, 0, 0);
+        return Rule::from(FREE);
     }
     if k == 1 {
         return simple(false, Kind::AN, 1, 20);
@@ -157,7 +157,7 @@ pub(crate) fn rule_of(tag: u8, k: usize) -> Rule
     }
     let extent = extent_of(tag);
     if (k == 0) | (extent.last < k) {
-        return simple(false, Kind::AN, 0, 0);
+        return Rule::from(FREE);
     }
     Rule::from(entry_at(extent.first + k - 1))
 }

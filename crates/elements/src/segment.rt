@@ -17,8 +17,7 @@ pub fn byte_verdict(segment: &[u8], separators: Separators) -> Verdict
         ..
     } = separators;
     let mut k: usize = 0;
-    for b in segment {
-        let b = *b;
+    for &b in segment {
         if b == element {
             k += 1;
         } else if !((b == component) | ((32 <= b) & (b <= 126))) {
@@ -41,8 +40,7 @@ pub fn end_verdict(segment: &[u8], separators: Separators) -> Verdict
     // The element has no byte so far; its last component has none.
     let mut bare = true;
     let mut hollow = true;
-    for b in segment {
-        let b = *b;
+    for &b in segment {
         if b == element {
             if (k != 0) & hollow & !bare {
                 return Err(Reason::BadEnd.at_element(k));

@@ -1,6 +1,7 @@
 // What the rules of a segment find, and why a transaction is refused.
-ghost use Rattle.std.specs.Prelude.{◌≡◌};
+ghost use Rattle.std.specs.Prelude.{◌≡◌, [], ◌∷◌};
 ghost use Rattle.elements.specs.Reasons.{number_of};
+ghost use Rattle.elements.specs.Checks.{check, first_broken};
 // Why a transaction is refused: the answers but 0, by their numbers.
 #[derive(Clone, Copy, Debug, Drop, PartialEq, Eq)]
 pub enum Reason {
@@ -54,7 +55,7 @@ impl Reason {
         self as usize
     }
 
-    // The fault for this reason that names the element; 0 is the tag, or that none is named.
+    // The fault for this reason that names the element; 0 is the tag, or that none is named, as callers in C are told.
     pub fn at_element(self, element: usize) -> Fault
         ensures { result ≡ record { reason = self; element = element } }
     {
@@ -62,6 +63,16 @@ impl Reason {
             reason: self,
             element,
         }
+    }
+
+    // The verdict of one rule: the fault for this reason that names the element, unless the rule holds.
+    pub fn unless(self, holds: bool, element: usize) -> Verdict
+        ensures { result ≡ first_broken (check self element holds ∷ []) }
+    {
+        if holds {
+            return Ok(());
+        }
+        Err(self.at_element(element))
     }
 }
 

@@ -63,7 +63,7 @@ fn how_of(element: u8, component: u8, terminator: u8, how: u64) -> How
     }
 }
 
-// The four numbers of an answer.
+// The four numbers of an answer. Functions and no `From`, here and below: neither type is this crate's.
 fn four(answer: Answer) -> [u64; 4]
     ensures { result ≡ numbers_of answer }
 {
@@ -167,7 +167,7 @@ pub extern "C" fn stormhlaw_rewrite(
     ));
 }
 
-// Lists the levels 1 to count of a level table under their parents, as `outline::walk` does: the output, and the two numbers of the answer.
+// Lists the levels 1 to count of a level table under their parents, as `outline::walking::walk` does: the output, and the two numbers of the answer.
 #[unsafe(no_mangle)]
 pub extern "C" fn stormhlaw_walk(
     levels: &[u64],

@@ -11,5 +11,5 @@ pub fn all_filled(levels: &[u64], count: usize) -> bool
     ensures { result ≡ none_owes levels.now (count_in levels.now count) }
 {
     let total = tables::level_count(levels, count);
-    (1..total + 1).all(|n| !matches!(notes::asks_in(tables::level_note(levels, n)), Asks::Owes))
+    (1..total + 1).all(|n| notes::asks_in(tables::level_note(levels, n)) != Asks::Owes)
 }

@@ -1,5 +1,5 @@
 // Lists of levels whose HL01s fall together, so that a name is compared with few others. A list is known by its last level, and each
-// level's note names the one before it.
+// level's note names the one before it: numbers in lent tables, since the library has no heap.
 ghost use Rattle.std.specs.Prelude.{◌≡◌, ◌%◌, get_or, set};
 ghost use Rattle.finding.specs.internal.Lists.{lists, place_of};
 
@@ -18,7 +18,7 @@ pub fn place_of(id: &[u8]) -> usize
     place
 }
 
-// The last level of a list; 0 for none.
+// The last level of a list; 0 for none, as the lent array holds it.
 pub fn last_in(lasts: &[u32; LISTS], place: usize) -> usize
     ensures { result ≡ get_or lasts.now (place % lists) 0 }
 {

@@ -7,7 +7,7 @@ use crate::tables;
 use levels::widths::LEVEL_WIDTH;
 
 // What a mark asks of the levels to come: nothing, that none hangs under its own, or that one does.
-#[derive(Clone, Copy, Drop)]
+#[derive(Clone, Copy, Debug, Drop, PartialEq, Eq)]
 pub enum Asks {
     Nothing,
     Shut,
@@ -26,7 +26,7 @@ pub fn asks_of(mark: &[u8]) -> Asks
     }
 }
 
-// The note of a level with that code, mark and level before it in its list.
+// The note of a level with that code, mark and level before it in its list. What the mark asks is a number here: the promise holds of any.
 pub fn note(code: usize, asks: usize, before: usize) -> usize
     ensures { result ≡ note_of code asks before }
 {
@@ -59,7 +59,7 @@ pub(crate) fn link_in(note: usize) -> usize
 }
 
 // A note once a child was met: none is owed any more.
-fn answer(note: usize) -> usize
+fn answered(note: usize) -> usize
     ensures { result ≡ answered note }
 {
     match asks_in(note) {
@@ -74,7 +74,7 @@ pub fn meet_child(levels: &mut [u64], parent: usize)
 {
     if tables::has_record(levels, LEVEL_WIDTH, parent) {
         let at = (parent - 1) * LEVEL_WIDTH + 3;
-        levels[at] = answer(levels[at] as usize) as u64;
+        levels[at] = answered(levels[at] as usize) as u64;
     }
 }
 

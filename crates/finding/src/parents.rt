@@ -15,7 +15,7 @@ pub fn parent_at(levels: &[u64], n: usize) -> Parent
     Parent {
         number: n,
         code: notes::code_in(note),
-        shut: matches!(notes::asks_in(note), Asks::Shut),
+        shut: notes::asks_in(note) == Asks::Shut,
         below: tables::level_depth(levels, n) + 1,
     }
 }

@@ -1,4 +1,4 @@
-// Reading the two tables. A record that a table lacks reads as zeros.
+// Reading the two tables. A record that a table lacks reads as zeros, since what is promised of a table is promised of any.
 ghost use Rattle.std.specs.Prelude.{◌≡◌, ◌/◌, ◌<◌, min, length};
 ghost use Rattle.text.specs.Bytes.{between};
 ghost use Rattle.finding.specs.internal.Entries.{entry_of, start_of, level_entry, deepest, count_in};

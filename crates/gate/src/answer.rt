@@ -9,7 +9,8 @@ pub struct Accepted {
     pub bytes: usize,
 }
 
-// Any other answer: its reason, which has the answer's number, the segment, the byte where that segment starts, and the element.
+// Any other answer: its reason, which has the answer's number, the segment, the byte where that segment starts, and the element; 0
+// where none is named, as callers in C are told.
 #[derive(Clone, Copy, Debug, Drop, PartialEq, Eq)]
 pub struct Refusal {
     pub reason: Reason,

@@ -58,7 +58,7 @@ pub(crate) fn known(profile: ProfileName, text: &[u8]) -> Option<Code>
     code_in(text).filter(|code| knows(profile, *code))
 }
 
-// The number of the code; 0 where the profile does not know it.
+// The number of the code; 0 where the profile does not know it, as the definition `code_of` has it.
 pub fn code_number(profile: ProfileName, code: &[u8]) -> usize
     ensures { result ≡ code_of (level_profile profile) code.now }
 {
@@ -115,7 +115,7 @@ fn may_hang_in_report(parent: Code, child: Code) -> bool
     }
 }
 
-// Whether a level of the code may hang under one whose code has the parent's number.
+// Whether a level of the code may hang under one whose code has the parent's number, which a table tells and may be any.
 #[tactic(auto, unfolding(crate::specs::Profile::may_hang))]
 pub(crate) fn may_hang(profile: ProfileName, parent: usize, child: Code) -> bool
     ensures { result ≡ may_hang (level_profile profile) parent (number child) }

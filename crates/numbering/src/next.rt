@@ -102,8 +102,8 @@ pub fn next_table() -> [u8; ENTRIES]
     NEXT
 }
 
-// The row that comes after `row` with that tag number, if there is one. `row` is 0 where nothing is read yet; `again` says that it stands
-// right behind itself.
+// The row that comes after `row` with that tag number, if there is one. `row` is 0 where nothing is read yet, as the definition `RowAfter`
+// has it; `again` says that it stands right behind itself.
 pub fn row_after(table: &[u8; ENTRIES], row: u8, again: bool, tag: u8) -> Option<u8>
     ensures { RowAfter table.now row again tag result }
 {

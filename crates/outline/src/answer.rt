@@ -18,6 +18,16 @@ impl Reason {
     {
         self as usize
     }
+
+    // The refusal for this reason that names the level; 0 where none is named, as callers in C are told.
+    pub fn at_level(self, level: usize) -> Unlisted
+        ensures { result ≡ record { reason = self; level = level } }
+    {
+        Unlisted {
+            reason: self,
+            level,
+        }
+    }
 }
 
 // Why, and the level that is named; 0 where none is.

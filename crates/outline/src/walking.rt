@@ -13,9 +13,9 @@ use levels::widths::LEVEL_WIDTH;
 
 // A table's levels: how many, and the last that strays from the order of an outline.
 #[derive(Clone, Copy, Drop)]
-pub struct Forest {
-    pub count: usize,
-    pub stray: usize,
+struct Forest {
+    count: usize,
+    stray: usize,
 }
 
 // Writes the levels under `of`, which has that depth, from place `at` on, each followed by its own; the place behind them. Level 0 is above
@@ -57,22 +57,13 @@ fn listable(levels: &[u64], count: usize, places: usize) -> Result<(), Unlisted>
     ensures { Listable levels.now count places result }
 {
     if levels.len() / LEVEL_WIDTH < count {
-        return Err(Unlisted {
-            reason: Reason::UnfitTable,
-            level: 0,
-        });
+        return Err(Reason::UnfitTable.at_level(0));
     }
     if let Some(level) = fitting::first_unfit(levels, count) {
-        return Err(Unlisted {
-            reason: Reason::UnfitTable,
-            level,
-        });
+        return Err(Reason::UnfitTable.at_level(level));
     }
     if places < count {
-        return Err(Unlisted {
-            reason: Reason::ShortOutput,
-            level: 0,
-        });
+        return Err(Reason::ShortOutput.at_level(0));
     }
     Ok(())
 }

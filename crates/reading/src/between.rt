@@ -12,9 +12,7 @@ fn past_special(left: Left, at: usize) -> Left
     requires { at < limit }
     ensures { PastSpecial at left result }
 {
-    let head = left.head;
-    let tail = left.tail;
-    let seen = left.seen;
+    let Left { head, tail, seen } = left;
     if head < tail {
         return Left {
             head: head + 1,
@@ -36,8 +34,7 @@ fn skipped_at(s: &[u8], how: How, at: usize) -> usize
     if at == 0 {
         return 0;
     }
-    let choice = how.lines;
-    lines::skipped(s, at, how.separators, choice)
+    lines::skipped(s, at, how.separators, how.lines)
 }
 
 // Past the line end at `at`, if there is one. All its bytes are special.

@@ -1,7 +1,7 @@
 // The next segment: where it ends, where its elements start, and what its bytes alone tell of it. The bytes are looked at once, 64 at a
 // time: the places of the separators, and of bytes that are no data, go into a lent queue, and a segment visits only those places. A BIN is not
 // searched for its terminator: its count says where that is due.
-ghost use Rattle.std.specs.Prelude.{◌≡◌, ◌==◌, ◌+◌, ◌≤◌, ◌<◌, T, length, drop, set, position};
+ghost use Rattle.std.specs.Prelude.{◌≡◌, ◌+◌, ◌≤◌, ◌<◌, T, length, drop, set};
 ghost use Rattle.reading.specs.internal.SpecialBytes.{is_special_in, SpecialTable, Fills};
 ghost use Rattle.reading.specs.internal.Queue.{bit, Indexed, Window, Ready};
 ghost use Rattle.reading.specs.internal.Between.{Serves};
@@ -10,9 +10,9 @@ ghost use Rattle.text.specs.Separators.{Fitted};
 ghost use Rattle.text.specs.Bin.{begins_bin};
 
 use elements::layout::Layout;
-use text::bin;
 use text::bin::Uncounted;
 use text::separators::Separators;
+use text::{bin, search};
 
 // A segment that was cut, by its layout, and what is left of the queue behind it.
 #[derive(Clone, Copy, Drop)]
@@ -32,7 +32,8 @@ pub(crate) enum Uncut {
     Broken(usize),
 }
 
-// What is left of the queue: the entries from `head` up to `tail`, which are the special places from here as far as `seen`.
+// What is left of the queue: the entries from `head` up to `tail`, which are the special places from here as far as `seen`. The queue is an array
+// beside it, lent down: the library has no heap.
 #[derive(Clone, Copy, Drop)]
 pub(crate) struct Left {
     pub head: usize,
@@ -132,19 +133,12 @@ fn keep_start(starts: &mut [usize; 33], number: usize, place: usize)
     }
 }
 
-// The first place among these bytes where the byte stands.
-fn first_place(bytes: &[u8], byte: u8) -> Option<usize>
-    ensures { result ≡ position (λ b. b == byte) bytes.now }
-{
-    bytes.iter().position(|b| *b == byte)
-}
-
 // Why no segment was cut where the byte at `from` is bad: `Bad` where a terminator follows, else `Open`.
 fn stop(s: &[u8], from: usize, terminator: u8) -> Uncut
     requires { from ≤ length s.now }
     ensures { Stops s.now from terminator result }
 {
-    match first_place(&s[from..], terminator) {
+    match search::first_place(&s[from..], terminator) {
         Some(place) => Uncut::Bad(from + place),
         None => Uncut::Open,
     }

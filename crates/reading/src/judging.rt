@@ -46,7 +46,7 @@ pub(crate) struct Records<'a> {
 }
 
 // What the reader carries from segment to segment: how many segments were passed, the last row, how many levels they made, and
-// whether the row stands for the second time in a row. The two small fields stand apart, since they are copied faster so.
+// whether the row stands for the second time in a row, the row and this as `row_after` takes them. The two small fields stand apart, since they are copied faster so.
 #[derive(Clone, Copy, Drop)]
 pub(crate) struct State {
     pub count: usize,
@@ -76,14 +76,13 @@ fn tag_of(parts: Parts) -> u8
 fn opening_control<'a>(s: &'a [u8], separators: Separators, segments: &[u64]) -> &'a [u8]
     ensures { result.now ≡ opening_control s.now separators.element segments.now }
 {
-    if segments.len() < SEGMENT_WIDTH {
-        return &s[0..0];
-    }
-    let len = segments[1] as usize;
-    if s.len() < len {
-        return &s[0..0];
-    }
-    lookup::lookup(&s[..len], separators, 2, 0)
+    let Some(record) = segments.get(..SEGMENT_WIDTH) else {
+        return &[];
+    };
+    let Some(first) = s.get(..record[1] as usize) else {
+        return &[];
+    };
+    lookup::lookup(first, separators, 2, 0)
 }
 
 // The verdict of the closing rules on an SE.
@@ -92,10 +91,7 @@ fn judge_se(separators: Separators, parts: Parts, state: State, records: Records
 {
     let total = parts.element(1);
     let told = digits::number_of(total);
-    if told == 0 {
-        return Err(Reason::BadClose.at_element(1));
-    }
-    if told - 1 != state.count {
+    if told.checked_sub(1) != Some(state.count) {
         return Err(Reason::BadClose.at_element(1));
     }
     let control = parts.element(2);

@@ -21,7 +21,7 @@ pub(crate) struct NewLevel {
     pub place: usize,
 }
 
-// Whether the segment table has room for one record behind the first n.
+// Whether the segment table has room for one record behind the first n. One function a table, so that a call says which it asks.
 pub(crate) fn segment_room(segments: &[u64], n: usize) -> bool
     ensures { result ≡ ltb n (length segments.now / segment_width) }
 {

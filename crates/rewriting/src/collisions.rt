@@ -14,7 +14,8 @@ use crate::table::Reading;
 use elements::verdict::{Reason, Verdict};
 use text::bin;
 
-// Where a data byte equals a new separator: the segment's number, the byte where the segment starts, and the element; the tag is element 0.
+// Where a data byte equals a new separator: the segment's number, the byte where the segment starts, and the element; the tag is element 0. So
+// the definition `collision` has it.
 #[derive(Clone, Copy, Drop)]
 pub(crate) struct Clash {
     pub segment: usize,

@@ -89,7 +89,7 @@ const ROWS: [Row; 79] = [
     Row(33, 1, true, 0), // 79 SE
 ];
 
-// The row of that number, 1 to 79; for any other number a row that no tag has.
+// The row of that number, 1 to 79; for any other number a row that no tag has, as the definition `row_at` has it.
 pub fn row_at(number: u8) -> Row
     ensures { result ≡ row_at number }
 {

@@ -1,7 +1,6 @@
 // The rules of a ruled segment, by its layout.
 ghost use Rattle.std.specs.Prelude.{◌≡◌, ◌+◌, ◌<◌, [], ◌∷◌};
-ghost use Rattle.elements.specs.Checks.{check, first_broken};
-ghost use Rattle.elements.specs.declared.verdict.Reason.TheVariants.{BrokenNote};
+ghost use Rattle.elements.specs.Checks.{first_broken};
 ghost use Rattle.elements.specs.Data.{Paired, Required, pairs_from, rules_dtm, element_profile};
 ghost use Rattle.elements.specs.Rules.{rule_of, few_components, is_unused, note_holds, note_checks, ruled_checks};
 ghost use Rattle.elements.specs.internal.Layouts.{there_in, components_in, layout_view};
@@ -31,16 +30,6 @@ fn is_paired(parts: Parts, k: usize) -> bool
     is_there(parts, k) == is_there(parts, k + 1)
 }
 
-// Answer 11 with that element, unless the note holds.
-fn note(holds: bool, element: usize) -> Verdict
-    ensures { result ≡ first_broken (check BrokenNote element holds ∷ []) }
-{
-    if holds {
-        return Ok(());
-    }
-    Err(Reason::BrokenNote.at_element(element))
-}
-
 // N1 and NCA: R0203, and the pair from element `pair` on.
 fn party_notes(parts: Parts, pair: usize) -> Verdict
     requires { pair < 31 }
@@ -49,8 +38,8 @@ fn party_notes(parts: Parts, pair: usize) -> Verdict
 {
     let name = is_there(parts, 2);
     let code = is_there(parts, 3);
-    note(name | code, 2)?;
-    note(is_paired(parts, pair), pair)
+    Reason::BrokenNote.unless(name | code, 2)?;
+    Reason::BrokenNote.unless(is_paired(parts, pair), pair)
 }
 
 // DTM: R020305, C0403, P0506.
@@ -61,9 +50,9 @@ fn date_notes(parts: Parts) -> Verdict
     let time = is_there(parts, 3);
     let zone = is_there(parts, 4);
     let format = is_there(parts, 5);
-    note(date | time | format, 2)?;
-    note(!zone | time, 4)?;
-    note(is_paired(parts, 5), 5)
+    Reason::BrokenNote.unless(date | time | format, 2)?;
+    Reason::BrokenNote.unless(!zone | time, 4)?;
+    Reason::BrokenNote.unless(is_paired(parts, 5), 5)
 }
 
 // LIN: P0405, P0607, .. P3031.
@@ -75,7 +64,7 @@ fn item_notes(parts: Parts) -> Verdict
 {
     for pair in 2..=parts.layout.count / 2 {
         let k = 2 * pair;
-        note(is_paired(parts, k), k)?;
+        Reason::BrokenNote.unless(is_paired(parts, k), k)?;
     }
     Ok(())
 }

@@ -42,6 +42,8 @@ fn unit_suits(p: &[u8]) -> bool
     p.is_empty() || quick::short_id(p, 2, 2)
 }
 
+// A function for each tag, here and below, and no loop over the table of rules: what is usual is fewer elements than have rules, and each has its name.
+
 // The first two elements of ST.
 fn usual_st(parts: Parts) -> bool
     ensures { result ≡ true → FromOne (SuitsAt parts.entry.bytes.now parts.entry.starts.now parts.entry.layout (tag_number (bytes "ST"))) 2 }

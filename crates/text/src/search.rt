@@ -4,7 +4,7 @@ ghost use Rattle.text.specs.Bytes.{among};
 ghost use Rattle.text.specs.internal.Search.{Finds};
 
 // The first place where the byte stands.
-fn first_place(s: &[u8], byte: u8) -> Option<usize>
+pub fn first_place(s: &[u8], byte: u8) -> Option<usize>
     ensures { result ≡ position (eqb byte) s.now }
 {
     s.iter().position(|b| byte == *b)

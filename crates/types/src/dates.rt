@@ -11,7 +11,7 @@ pub(crate) fn is_leap(year: usize) -> bool
     (year % 4 == 0) & ((year % 100 != 0) | (year % 400 == 0))
 }
 
-// The days in a month; 0 where there is no such month.
+// The days in a month; 0 where there is no such month, as the definition `days_in` has it.
 #[tactic(auto, using(crate::proofs::Months::thirty_one, crate::proofs::Months::no_month), unfolding(crate::specs::Types::days_in))]
 pub(crate) fn days_in(year: usize, month: usize) -> usize
     ensures { result ≡ days_in year month }

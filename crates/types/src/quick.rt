@@ -1,4 +1,5 @@
 // Quick tests of values: each admits the usual values of its type by a few comparisons, and no other value that does not fit.
+// Each has a function, since each promises its own.
 ghost use Rattle.std.specs.Prelude.{◌≡◌};
 ghost use Rattle.types.specs.internal.Quick.{is_short_id, is_early_date, is_short_time, is_sized, fits_quickly};
 ghost use Rattle.types.specs.declared.kind.Kind.TheVariants.{AN, ID, R, DT, TM};

@@ -4,10 +4,10 @@ use Rattle.elements.proofs.RuleTable.{item_none, item_first, item_even, item_odd
 use Rattle.elements.proofs.rules.item_rule.Goals as goal
 
 pub returns-then-k : goal.returns-then-k
-returns-then-k c = item_none c.args.k _ c.if-k.true c.simple.ensures
+returns-then-k c = item_none c.args.k _ c.if-k.true c.from.ensures
 
 pub returns-then-k-eq1 : goal.returns-then-k-eq1
-returns-then-k-eq1 c = item_first c.args.k _ c.if-k.false c.if-k-eq1.true c.simple-then-k-eq1.ensures
+returns-then-k-eq1 c = item_first c.args.k _ c.if-k.false c.if-k-eq1.true c.simple.ensures
 
 pub returns-then-k-eq0 : goal.returns-then-k-eq0
 returns-then-k-eq0 c = item_even c.args.k _ c.if-k.false c.if-k-eq1.false c.if-k-eq0.true c.simple-then-k-eq0.ensures

@@ -10,7 +10,7 @@ unfolding tag_number
 returns-then-tag-eq-LIN c = rw c.if-tag-eq-LIN.true c.item_rule.ensures
 
 pub returns-then-k-extent : goal.returns-then-k-extent
-returns-then-k-extent c = outside_renders c.args.tag c.args.k _ _ c.extent_of-extent.ensures c.if-k-extent.true c.simple.ensures
+returns-then-k-extent c = outside_renders c.args.tag c.args.k _ _ c.extent_of-extent.ensures c.if-k-extent.true c.from.ensures
 
 pub overflow_add-extent : goal.overflow_add-extent
 overflow_add-extent c = omega (arith, place_small c.args.tag c.args.k _ c.extent_of-extent.ensures c.if-k-extent.false)
@@ -18,4 +18,4 @@ overflow_add-extent c = omega (arith, place_small c.args.tag c.args.k _ c.extent
 pub returns : goal.returns
 unfolding tag_number
 returns c = table_renders c.args.tag c.args.k _ c.extent_of-extent.ensures c.if-k-extent.false c.if-tag-eq-LIN.false _ _ c.entry_at.ensures
-    c.from.ensures
+    c.from-2.ensures

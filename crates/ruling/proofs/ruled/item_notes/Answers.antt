@@ -18,27 +18,27 @@ there c = there_in c.args.parts.bytes.now c.args.parts.starts.now c.args.parts.l
 pub loop-pair-init : goal.loop-pair-init
 loop-pair-init c = pairs_none _
 
-pub returns-in_err-note : goal.returns-in_err-note
-returns-in_err-note c =
+pub returns-in_err-unless : goal.returns-in_err-unless
+returns-in_err-unless c =
     let p = err_from_is_err_and c.from_residual.result c.from_residual.ensures.1 in
-    let found = note_found _ c.is_paired.result _ (sym c.in_err-note.ensures) in
+    let found = note_found _ c.is_paired.result _ (sym c.in_err-unless.ensures) in
     rw (p.1, p.2)
     (sym found.1
-    ∙ pairs_broken (there (goal.at.returns-in_err-note c).Start) c.loop-pair.invariant (omega arith) (sym c.is_paired.ensures ∙ found.0))
+    ∙ pairs_broken (there (goal.at.returns-in_err-unless c).Start) c.loop-pair.invariant (omega arith) (sym c.is_paired.ensures ∙ found.0))
 
 pub loop-pair-preserved : goal.loop-pair-preserved
 loop-pair-preserved c =
     pairs_more (there (goal.at.loop-pair-preserved c).Start) c.loop-pair.invariant (omega arith)
-    (sym c.is_paired.ensures ∙ note_silent _ c.is_paired.result (sym c.in_ok-note.ensures))
+    (sym c.is_paired.ensures ∙ note_silent _ c.is_paired.result (sym c.in_ok-unless.ensures))
 
 pub returns : goal.returns
 returns c =
     pairs_all (there (goal.at.returns c).Start) c.loop-pair.invariant
     (λ j l. there_past c.args.parts.bytes.now c.args.parts.starts.now c.args.parts.layout j (omega arith))
 
-pub returns-in_ok-note : goal.returns-in_ok-note
-returns-in_ok-note c =
-    pairs_all (there (goal.at.returns-in_ok-note c).Start)
-    (pairs_more (there (goal.at.returns-in_ok-note c).Start) c.loop-pair.invariant (omega arith)
-    (sym c.is_paired.ensures ∙ note_silent _ c.is_paired.result (sym c.in_ok-note.ensures)))
+pub returns-in_ok-unless : goal.returns-in_ok-unless
+returns-in_ok-unless c =
+    pairs_all (there (goal.at.returns-in_ok-unless c).Start)
+    (pairs_more (there (goal.at.returns-in_ok-unless c).Start) c.loop-pair.invariant (omega arith)
+    (sym c.is_paired.ensures ∙ note_silent _ c.is_paired.result (sym c.in_ok-unless.ensures)))
     (λ j l. there_past c.args.parts.bytes.now c.args.parts.starts.now c.args.parts.layout j (omega arith))
