@@ -26,7 +26,7 @@ pub(crate) struct Reading<'a> {
 
 impl<'a> Reading<'a> {
     // Where the segment of record k starts, from 0.
-    pub fn start(self, k: usize) -> usize
+    pub(crate) fn start(self, k: usize) -> usize
         requires { k * segment_width < length self.segments.now }
         ensures { result ≡ start_in self.entry.segments.now k }
     {
@@ -34,7 +34,7 @@ impl<'a> Reading<'a> {
     }
 
     // Its bytes, without the terminator.
-    pub fn segment(self, k: usize) -> &'a [u8]
+    pub(crate) fn segment(self, k: usize) -> &'a [u8]
         requires { Names self.bytes.now self.segments.now k }
         ensures { result.now ≡ segment_in self.entry.bytes.now self.entry.segments.now k }
     {
@@ -44,7 +44,7 @@ impl<'a> Reading<'a> {
     }
 
     // BIN02 of a whole BIN; of any other segment nothing, at its end.
-    pub fn attached(self, k: usize) -> Part
+    pub(crate) fn attached(self, k: usize) -> Part
         requires { Names self.bytes.now self.segments.now k }
         ensures { result ≡ attached_part self.entry.change.old.element self.entry.bytes.now self.entry.segments.now k }
     {
