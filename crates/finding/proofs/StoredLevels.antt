@@ -21,7 +21,7 @@ use Rattle.finding.specs.declared.notes.Asks.{Asks}
 use Rattle.finding.specs.declared.notes.Asks.TheVariants.{Nothing, Shut, Owes}
 use Rattle.finding.specs.internal.Entries.{level_entry, start_of, stored_at, deepest}
 use Rattle.finding.specs.internal.Lists.{lists, place_of, last_in}
-use Rattle.finding.specs.internal.Notes.{asks_number, note_with, code_in, asks_numbered, asks_in, is_owing, link_in, asks_of, answered, child_met}
+use Rattle.finding.specs.internal.Notes.{asks_number, note_of, note_with, code_in, asks_in, is_owing, link_in, asks_of, answered, child_met}
 use Rattle.finding.specs.internal.Answers.{id_at}
 use Rattle.finding.specs.internal.TablesHold.{has_child, still_asks, Held, HeldAll, TablesHold, HlBytes}
 use Rattle.finding.proofs.TableEntries.{SameRecords, same_entry, stored_same, stored_entry}
@@ -89,15 +89,15 @@ answered_link note = by_value (is_owing (asks_in note)) refl
     by_value true e = omega (arith, owing_two note e)
     by_value false e = refl
 
-met_asks : (note : ℕ) (asks : Asks) → asks_in note ≡ asks → asks_in (answered note) ≡ cond (is_owing asks) Nothing asks
+met_asks : (note : ℕ) (asks : Asks) → note / 8 % 4 ≡ asks_number asks → answered note / 8 % 4 ≡ asks_number (cond (is_owing asks) Nothing asks)
 met_asks note Nothing e = rw e e
 met_asks note Shut e = rw e e
 met_asks note Owes e =
-    let two : note / 8 % 4 ≡ 2 = owing_two note (ap is_owing e) in
-    let none : (note - 16) / 8 % 4 ≡ 0 = omega arith in
+    let none : (note - 16) / 8 % 4 ≡ 0 = omega (arith, e) in
     rw (e, none)
 
-answered_asks : (note : ℕ) (shut owes : Bool) → asks_in note ≡ cond shut Shut (cond owes Owes Nothing) → asks_in (answered note) ≡ cond shut Shut Nothing
+answered_asks : (note : ℕ) (shut owes : Bool) → note / 8 % 4 ≡ asks_number (cond shut Shut (cond owes Owes Nothing))
+    → answered note / 8 % 4 ≡ asks_number (cond shut Shut Nothing)
 answered_asks note true owes e = met_asks note Shut e
 answered_asks note false true e = met_asks note Owes e
 answered_asks note false false e = met_asks note Nothing e
@@ -108,18 +108,11 @@ few_asks Nothing = omega arith
 few_asks Shut = omega arith
 few_asks Owes = omega arith
 
-asks_back : (asks : Asks) → asks_numbered (asks_number asks) ≡ asks
-asks_back Nothing = refl
-asks_back Shut = refl
-asks_back Owes = refl
+pub noted_code : (code asks before : ℕ) → code < 8 → code_in (note_of code asks before) ≡ code
+noted_code code asks before h = omega arith
 
-pub noted_code : (code : ℕ) (asks : Asks) (before : ℕ) → code < 8 → code_in (note_with code asks before) ≡ code
-noted_code code asks before h = omega (arith, few_asks asks)
-
-noted_asks : (code : ℕ) (asks : Asks) (before : ℕ) → asks_in (note_with code asks before) ≡ asks
-noted_asks code asks before =
-    let number : note_with code asks before / 8 % 4 ≡ asks_number asks = omega (arith, few_asks asks) in
-    ap asks_numbered number ∙ asks_back asks
+noted_asks : (code : ℕ) (asks : Asks) (before : ℕ) → note_with code asks before / 8 % 4 ≡ asks_number asks
+noted_asks code asks before = omega (arith, few_asks asks)
 
 noted_link : (code : ℕ) (asks : Asks) (before : ℕ) → before < 4294967296 → link_in (note_with code asks before) ≡ before
 noted_link code asks before h = omega (arith, few_asks asks)
@@ -178,12 +171,12 @@ module _ (s : Bytes) (separator : ℕ) {segments segments' : List ℕ} (levels :
         by_value true = same-part (level_entry levels k 3)
         by_value false = refl
 
-    asks_then : (k : ℕ) → 1 ≤ k → k ≤ n → (mark : Bytes) → asks_in (level_entry levels k 3) ≡ still_asks all k mark
-        → asks_in (level_entry levels' k 3) ≡ still_asks (new ∷ all) k mark
-    asks_then k low high mark e = ap asks_in (note_then k low high) ∙ by_value (eqb new.parent k)
+    asks_then : (k : ℕ) → 1 ≤ k → k ≤ n → (mark : Bytes) → level_entry levels k 3 / 8 % 4 ≡ asks_number (still_asks all k mark)
+        → level_entry levels' k 3 / 8 % 4 ≡ asks_number (still_asks (new ∷ all) k mark)
+    asks_then k low high mark e = ap (λ (n : ℕ). n / 8 % 4) (note_then k low high) ∙ by_value (eqb new.parent k)
       where
-        by_value : (b : Bool) → asks_in (cond b (answered (level_entry levels k 3)) (level_entry levels k 3))
-            ≡ cond (same mark (bytes "0")) Shut (cond (same mark (bytes "1") && not (b || has_child k all)) Owes Nothing)
+        by_value : (b : Bool) → cond b (answered (level_entry levels k 3)) (level_entry levels k 3) / 8 % 4
+            ≡ asks_number (cond (same mark (bytes "0")) Shut (cond (same mark (bytes "1") && not (b || has_child k all)) Owes Nothing))
         by_value true = rw (and_false (same mark (bytes "1"))) (answered_asks (level_entry levels k 3) (same mark (bytes "0")) (same mark (bytes "1") && not (has_child k all)) e)
         by_value false = e
 
@@ -272,8 +265,8 @@ module _ {s : Bytes} {separator : ℕ} {segments levels lasts : List ℕ} {m : �
           earlier = early;
           segment_is = entry_then 0 (omega arith) ∙ sym number;
           depth_is = ap (min deepest) (entry_then 2 (omega arith)) ∙ omega arith;
-          code_is = ap code_in (entry_then 3 (omega arith)) ∙ noted_code l.code (asks_of l.mark) (get_or lasts place 0) coded;
-          asks_is = ap asks_in (entry_then 3 (omega arith)) ∙ noted_asks l.code (asks_of l.mark) (get_or lasts place 0) ∙ asks_own;
+          code_is = ap code_in (entry_then 3 (omega arith)) ∙ noted_code l.code (asks_number (asks_of l.mark)) (get_or lasts place 0) coded;
+          asks_is = ap (λ (n : ℕ). n / 8 % 4) (entry_then 3 (omega arith)) ∙ noted_asks l.code (asks_of l.mark) (get_or lasts place 0) ∙ ap asks_number asks_own;
           link_is = ap link_in (entry_then 3 (omega arith)) ∙ noted_link l.code (asks_of l.mark) (get_or lasts place 0) link ∙ last_one;
         }
 

@@ -1,6 +1,6 @@
 -- Lent bytes and tables, and the last level of each list, that hold the levels so far.
 -- Assumes nothing.
-use Rattle.std.specs.Prelude.{ℕ, suc, ◌/◌, ◌≤◌, ◌<◌, min, ◌≡◌, Bool, not, cond, ◌&&◌, List, [], ◌∷◌, eqb, length, take, drop, get_or}
+use Rattle.std.specs.Prelude.{ℕ, suc, ◌/◌, ◌%◌, ◌≤◌, ◌<◌, min, ◌≡◌, Bool, not, cond, ◌&&◌, List, [], ◌∷◌, eqb, length, take, drop, get_or}
 use Rattle.text.specs.Bytes.{Bytes, bytes, any, same}
 use Rattle.text.specs.Pieces.{pieces}
 use Rattle.levels.specs.Widths.{level_width}
@@ -9,7 +9,7 @@ use Rattle.finding.specs.declared.notes.Asks.{Asks}
 use Rattle.finding.specs.declared.notes.Asks.TheVariants.{Nothing, Shut, Owes}
 use Rattle.finding.specs.internal.Entries.{start_of, level_entry, deepest}
 use Rattle.finding.specs.internal.Lists.{lists, place_of, last_in}
-use Rattle.finding.specs.internal.Notes.{code_in, asks_in, link_in}
+use Rattle.finding.specs.internal.Notes.{asks_number, code_in, link_in}
 use Rattle.finding.specs.internal.Answers.{id_at}
 
 -- whether one of the levels has level n as its parent
@@ -28,7 +28,7 @@ pub record Held (s : Bytes) (separator : ℕ) (segments levels : List ℕ) (m : 
   pub segment_is : level_entry levels (suc (length ls)) 0 ≡ l.segment
   pub depth_is : min deepest (level_entry levels (suc (length ls)) 2) ≡ l.depth
   pub code_is : code_in (level_entry levels (suc (length ls)) 3) ≡ l.code
-  pub asks_is : asks_in (level_entry levels (suc (length ls)) 3) ≡ still_asks all (suc (length ls)) l.mark
+  pub asks_is : level_entry levels (suc (length ls)) 3 / 8 % 4 ≡ asks_number (still_asks all (suc (length ls)) l.mark)
   pub link_is : link_in (level_entry levels (suc (length ls)) 3) ≡ last_in (place_of l.id) ls
 
 -- they hold each of the levels, latest first

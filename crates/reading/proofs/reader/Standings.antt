@@ -47,7 +47,7 @@ use Rattle.reading.specs.internal.Settling.{state_after}
 use Rattle.reading.specs.internal.Judgements.{new_level}
 use Rattle.finding.specs.internal.Entries.{count_in}
 use Rattle.finding.specs.internal.Lists.{lists, place_of}
-use Rattle.finding.specs.internal.Notes.{note_with, asks_of, code_in, child_met, plain, cleared}
+use Rattle.finding.specs.internal.Notes.{asks_number, note_with, asks_of, code_in, child_met, plain, cleared}
 use Rattle.finding.proofs.PlainTable.{plain_long, plain_stored, met_long, plain_met}
 use Rattle.finding.proofs.StoredLevels.{holds_none, holds_segment, holds_level, noted_code}
 use Rattle.elements.specs.declared.verdict.Reason.{Reason}
@@ -284,7 +284,7 @@ module _ {how : How} {before : Tables} {s : Bytes} {segments levels lasts : List
           let n = state.levels in
           let note = note_with level.code level.asks (get_or lasts (level.place % lists) 0) in
           let fits : n < length (child_met levels level.parent) / level_width = rw (met_long levels level.parent) room in
-          let own : code_in note ≡ level.code = noted_code level.code level.asks (get_or lasts (level.place % lists) 0) (rw code_is coded) in
+          let own : code_in note ≡ level.code = noted_code level.code (asks_number level.asks) (get_or lasts (level.place % lists) 0) (rw code_is coded) in
           plain_stored n (child_met levels level.parent) (state.count + 1) level.parent level.depth note fits
           ∙ rw (plain_met n levels level.parent (omega (arith, parent_is, early, st.counted)), own, number_is, st.levels_are)
           (over_stored level_width before.levels (level_records profile how gs) n (suc (length before_views) ∷ level.parent ∷ level.depth ∷ level.code ∷ [])
