@@ -2,14 +2,15 @@
 -- Assumes nothing.
 use Rattle.std.specs.Prelude.{slice_get}
 use Rattle.std.specs.Cmp.Lexicographic.{pointwise}
-use Prim.Native.Nat.{ℕ, ◌≤◌, ◌<◌}
+use Rattle.std.proofs.lemmas.List.{length-take-le}
+use Prim.Native.Nat.{ℕ, zero, suc, ◌≤◌, ◌<◌}
 use mathlib.Core.Path.{◌≡◌, refl, sym, ap, ◌∙◌}
 use mathlib.Core.Bool.{Bool, true, false, ◌&&◌}
 use mathlib.Core.List.{List, [], ◌∷◌}
 use native.Mathlib.Omega.{arith}
 use lib.Dec.{eqb}
 use lib.ListN.{length, take, drop, get_or}
-use borrow.Author.Tests.{ne_eqb, eqb-true}
+use borrow.Author.Tests.{eq-eqb, ne_eqb, eqb-true}
 use Rattle.text.specs.Bytes.{Bytes, same}
 use Rattle.text.specs.Pieces.{before, pieces}
 use Rattle.text.specs.internal.Search.{Free}
@@ -45,6 +46,26 @@ starts_other_end separator id s h e = rw e at (starts_compared separator id s h)
 pub starts_ended : (separator : ℕ) (id s : Bytes) → length id ≤ length s → ends_by separator (slice_get (drop (length id) s) 0) ≡ true
     → pointwise eqb (take (length id) s) id ≡ starts_with separator id s
 starts_ended separator id s h e = rw e at (starts_compared separator id s h)
+
+-- a byte differs: they do not
+pub starts_other_byte : (separator : ℕ) (id s : Bytes) (i : ℕ) → i < length id → (get_or (take (length id) s) i 0 ≡ get_or id i 0 → ⊥)
+    → false ≡ starts_with separator id s
+starts_other_byte separator [] s i l h = absurd (omega arith)
+starts_other_byte separator (c ∷ id) [] i l h = refl
+starts_other_byte separator (c ∷ id) (b ∷ s) zero l h = rw (ne_eqb b c h)
+starts_other_byte separator (c ∷ id) (b ∷ s) (suc i) l h = rw (← starts_other_byte separator id s i (omega arith) h) (sym (and_false (eqb b c)))
+
+-- each byte agrees, and they may end there: they do
+pointwise_agreed : (a b : Bytes) → length a ≡ length b → ((i : ℕ) → i < length b → get_or a i 0 ≡ get_or b i 0) → pointwise eqb a b ≡ true
+pointwise_agreed [] [] e h = refl
+pointwise_agreed [] (y ∷ b) e h = absurd (omega (arith, e))
+pointwise_agreed (x ∷ a) [] e h = absurd (omega (arith, e))
+pointwise_agreed (x ∷ a) (y ∷ b) e h = rw (eq-eqb x y (h 0 (omega arith))) (pointwise_agreed a b (omega (arith, e)) (λ i l. h (suc i) (omega arith)))
+
+pub starts_agreed : (separator : ℕ) (id s : Bytes) → length id ≤ length s → ends_by separator (slice_get (drop (length id) s) 0) ≡ true
+    → ((i : ℕ) → i < length id → get_or (take (length id) s) i 0 ≡ get_or id i 0) → true ≡ starts_with separator id s
+starts_agreed separator id s h e agree =
+    rw (pointwise_agreed (take (length id) s) id (length-take-le (length id) s h) agree) at (starts_ended separator id s h e)
 
 -- the first piece is empty exactly where a separator comes first
 first_none : (t : Bool) (b : ℕ) (ps : List Bytes) → t ≡ same (get_or (before t b ps) 0 []) []

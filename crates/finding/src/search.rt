@@ -3,7 +3,7 @@ ghost use Rattle.std.specs.Prelude.{◌≡◌, ◌+◌, ◌-◌, min, drop, slic
 ghost use Rattle.finding.specs.internal.Entries.{start_of, level_entry};
 ghost use Rattle.finding.specs.internal.Notes.{link_in};
 ghost use Rattle.finding.specs.internal.PieceEnds.{ends_by};
-ghost use Rattle.finding.specs.internal.Answers.{calls, sought};
+ghost use Rattle.finding.specs.internal.Answers.{sought};
 
 use crate::known::Known;
 use crate::{lists, notes, tables};
@@ -24,17 +24,6 @@ fn may_end(rest: &[u8], separator: u8) -> bool
     rest.first().is_none_or(|next| *next == separator)
 }
 
-// Whether level n has the HL01: its segment has it there, and it ends there. The lengths are compared first.
-#[tactic(auto, using(crate::proofs::FirstPiece::starts_short, crate::proofs::FirstPiece::starts_other_end, crate::proofs::FirstPiece::starts_ended))]
-fn calls(known: Known, n: usize, id: &[u8]) -> bool
-    ensures { result ≡ calls known.entry.bytes.now known.entry.separator known.entry.segments.now known.entry.levels.now n id.now }
-{
-    let Some((name, rest)) = from_id(known, n).split_at_checked(id.len()) else {
-        return false;
-    };
-    may_end(rest, known.separator) && name == id
-}
-
 // The level before level n in its list, which has a lesser number; 0 where there is none.
 fn before(levels: &[u64], n: usize) -> usize
     ensures { result ≡ min (link_in (level_entry levels.now n 3)) (n - 1) }
@@ -42,18 +31,28 @@ fn before(levels: &[u64], n: usize) -> usize
     notes::link_in(tables::level_note(levels, n)).min(n.saturating_sub(1))
 }
 
-// The number of the level that has the HL01, of the list that it belongs to; none where none has.
-#[tactic(auto, using(crate::proofs::LevelSearch::sought_starts, crate::proofs::LevelSearch::sought_hit, crate::proofs::LevelSearch::sought_miss))]
+// The number of the level that has the HL01, of the list that it belongs to; none where none has. The lengths are compared first, then the bytes.
+#[tactic(auto, using(crate::proofs::FirstPiece::starts_short, crate::proofs::FirstPiece::starts_other_end, crate::proofs::FirstPiece::starts_agreed, crate::proofs::LevelSearch::sought_starts, crate::proofs::LevelSearch::sought_hit, crate::proofs::LevelSearch::sought_miss))]
 pub fn find(known: Known, place: usize, id: &[u8]) -> Option<usize>
     ensures { result ≡ sought known.entry.bytes.now known.entry.separator known.entry.segments.now known.entry.levels.now known.entry.lasts.now place id.now }
 {
     let mut left = lists::last_in(known.lasts, place);
     // A `while`: what comes next is told by the level itself, which names the one before it in its list.
-    while 0 < left {
-        if calls(known, left, id) {
-            return Some(left);
+    'levels: while 0 < left {
+        let level = left;
+        left = before(known.levels, level);
+        let Some((name, rest)) = from_id(known, level).split_at_checked(id.len()) else {
+            continue 'levels;
+        };
+        if !may_end(rest, known.separator) {
+            continue 'levels;
         }
-        left = before(known.levels, left);
+        for i in 0..id.len() {
+            if name[i] != id[i] {
+                continue 'levels;
+            }
+        }
+        return Some(level);
     }
     None
 }
