@@ -13,9 +13,9 @@ use levels::widths::LEVEL_WIDTH;
 
 // A table's levels: how many, and the last that strays from the order of an outline.
 #[derive(Clone, Copy, Drop)]
-struct Forest {
-    count: usize,
-    stray: usize,
+pub struct Forest {
+    pub count: usize,
+    pub stray: usize,
 }
 
 // Writes the levels under `of`, which has that depth, from place `at` on, each followed by its own; the place behind them. Level 0 is above
