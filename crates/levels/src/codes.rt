@@ -50,19 +50,37 @@ fn knows(profile: ProfileName, code: Code) -> bool
     }
 }
 
-// The code that the bytes are, if the profile knows it.
-#[tactic(auto, unfolding(crate::specs::Profile::code_of))]
-pub(crate) fn known(profile: ProfileName, text: &[u8]) -> Option<Code>
-    ensures { number_or_0 result ≡ code_of (level_profile profile) text.now }
-{
-    code_in(text).filter(|code| knows(profile, *code))
-}
-
 // The number of the code; 0 where the profile does not know it, as the definition `code_of` has it.
+#[tactic(auto, unfolding(crate::specs::Profile::code_of))]
 pub fn code_number(profile: ProfileName, code: &[u8]) -> usize
     ensures { result ≡ code_of (level_profile profile) code.now }
 {
-    known(profile, code).map_or(0, |known| known.number())
+    code_in(code)
+        .filter(|code| knows(profile, *code))
+        .map_or(0, |known| known.number())
+}
+
+// The code with that number.
+fn numbered(number: usize) -> Option<Code>
+    ensures { result ≡ numbered number }
+{
+    match number {
+        1 => Some(Code::Report),
+        2 => Some(Code::Item),
+        3 => Some(Code::Component),
+        4 => Some(Code::Characteristic),
+        5 => Some(Code::Serial),
+        6 => Some(Code::Response),
+        _ => None,
+    }
+}
+
+// The code that the bytes are, if the profile knows it: the code with its number.
+#[tactic(auto, using(crate::proofs::CodeLetters::number_again))]
+pub(crate) fn known(profile: ProfileName, text: &[u8]) -> Option<Code>
+    ensures { number_or_0 result ≡ code_of (level_profile profile) text.now }
+{
+    numbered(code_number(profile, text))
 }
 
 // Whether a level of the code may stand without a parent.
@@ -84,21 +102,6 @@ pub(crate) fn may_be_marked(profile: ProfileName, code: Code) -> bool
     match profile {
         ProfileName::Report => matches!(code, Code::Report | Code::Item | Code::Component),
         ProfileName::Reply => false,
-    }
-}
-
-// The code with that number.
-fn numbered(number: usize) -> Option<Code>
-    ensures { result ≡ numbered number }
-{
-    match number {
-        1 => Some(Code::Report),
-        2 => Some(Code::Item),
-        3 => Some(Code::Component),
-        4 => Some(Code::Characteristic),
-        5 => Some(Code::Serial),
-        6 => Some(Code::Response),
-        _ => None,
     }
 }
 
