@@ -1,8 +1,8 @@
 -- The rows of a reply, stretch by stretch, against those of the profile, by one computed check.
 -- Assumes nothing.
 use Prim.Native.Nat.{ℕ, ◌<◌}
-use mathlib.Core.Path.{◌≡◌, refl}
-use mathlib.Core.Bool.{Bool, ◌||◌}
+use mathlib.Core.Path.{◌≡◌, refl, sym, ◌∙◌}
+use mathlib.Core.Bool.{Bool, false, ◌||◌}
 use Rattle.text.specs.Bytes.{among, between}
 use Rattle.text.proofs.Tables.{tab, tab_at}
 use Rattle.rows.specs.RowSets.{reply_rows}
@@ -19,3 +19,7 @@ checked_reply = refl
 
 pub reply_row_lem : (row : ℕ) → row < 256 → reply_row row ≡ among reply_rows row
 reply_row_lem row h = tab_at 256 reply_row (among reply_rows) checked_reply row h
+
+-- a row of no stretch is in no reply
+pub in_no_stretch : (row : ℕ) → row < 256 → reply_row row ≡ false → false ≡ among reply_rows row
+in_no_stretch row h e = sym e ∙ reply_row_lem row h

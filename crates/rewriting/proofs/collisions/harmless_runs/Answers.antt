@@ -2,7 +2,7 @@
 -- Assumes nothing.
 use native.Mathlib.Omega.{arith}
 use Rattle.rewriting.proofs.SegmentBytes.{used_within}
-use Rattle.rewriting.proofs.HarmlessRuns.{tested_start, tested_passed, tested_bin}
+use Rattle.rewriting.proofs.HarmlessRuns.{tested_start, tested_passed, tested_bin, tested_end}
 use Rattle.rewriting.proofs.collisions.harmless_runs.Goals as goal
 use Rattle.rewriting.proofs.collisions.harmless_runs.Goals.{then-attached, else-attached}
 
@@ -24,3 +24,6 @@ pub slice_bounds-harmless-end-2 : goal.slice_bounds-harmless-end-2
 slice_bounds-harmless-end-2 c =
     let within = used_within _ _ _ c.requires.cut_off in
     omega (arith, within)
+
+pub returns : goal.returns
+returns c = tested_end _ _ _ _ _ c.loop-k.invariant _ c.loop-k-test.false c.requires.used_value _ c.harmless.ensures
