@@ -43,6 +43,9 @@ split_is c (b ∷ p) = rw (split_is c p) (onto_is (eqb b c) (pieces c p))
 count_pieces : (c : ℕ) (p : Bytes) → length (pieces c p) ≡ count_by (λ (b : ℕ). b == c) p + 1
 count_pieces c p = ap length (sym (split_is c p)) ∙ length-slice_split (λ (b : ℕ). b == c) p
 
+pub few_single : (c : ℕ) (p : Bytes) → true ≡ leb (length (components_by true c p)) 15
+few_single c p = refl
+
 pub few_pieces : (c : ℕ) (p : Bytes) → leb (count_by (λ (b : ℕ). b == c) p) 14 ≡ leb (length (components_by false c p)) 15
 few_pieces c p = rw (count_pieces c p, add-one) (sym (leb-suc-suc (count_by (λ (b : ℕ). b == c) p) 14))
 

@@ -43,7 +43,11 @@ pub outside_renders : (t k : ℕ) (x : Extent) (r : Rule) → x ≡ extent_of t 
 unfolding extent_of
 outside_renders t k x r e o f = rw f (renders_none (rules_of t) k (rw e at o))
 
--- each segment's start is among the table's entries, or at its end
+-- the table has 27 entries, and each segment's start is among them or at their end
+pub table_length : length rule_table ≡ 27
+unfolding rule_table tag_number
+table_length = refl
+
 first_among_lem : (xs : List (ℕ × Rules)) (t : ℕ) → first_among xs t ≤ length (table_among xs)
 first_among_lem [] t = omega arith
 first_among_lem (x ∷ xs) t = by_test (eqb x.0 t) (omega (arith, length-append (tabled x) (table_among xs), first_among_lem xs t))
@@ -97,6 +101,9 @@ module _ (t k : ℕ) (x : Extent) (e : x ≡ extent_of t) (inside : eqb k 0 || l
 
   pub place_small : x.first + k ≤ 58
   place_small = omega (arith, near, last_is, last_small t, first_small t, ap (λ (x : Extent). x.first) e)
+
+  pub place_some : 1 ≤ x.first + k
+  place_some = omega (arith, some)
 
   -- its rule stands in the table
   pub table_renders : (t ≡ tag "LIN" → ⊥) → (entry : Entry) (r : Rule) → entry ≡ get_or rule_table (x.first + k - 1) no_entry → r ≡ rule_by entry

@@ -41,9 +41,17 @@ module _ (needed : Bool) (kind : Kind) (least most : ℕ) where
   fits_suits [] n e = absurd (n refl)
   fits_suits (b ∷ p) n e = record { complete = asked needed; suited = e }
 
+  pub absent_suits : (p : Bytes) → length p ≡ 0 → not needed ≡ true → Suits (simple needed kind least most) p
+  absent_suits [] l e = record { complete = rw e; suited = refl }
+  absent_suits (b ∷ p) l e = absurd (omega arith)
+
   pub quick_suits : (p : Bytes) (x : Bool) → (length p ≡ 0 → ⊥) → x ≡ fits_quickly kind least most p → x ≡ true
       → Suits (simple needed kind least most) p
   quick_suits p x n e t = fits_suits p n (quickly_fits kind least most p (sym e ∙ t))
+
+pub no_unit : (p : Bytes) → length p ≡ 0 → Suits units p
+no_unit [] l = record { complete = refl; suited = refl }
+no_unit (b ∷ p) l = absurd (omega arith)
 
 pub one_unit : (p : Bytes) (x : Bool) → (length p ≡ 0 → ⊥) → x ≡ fits_quickly first_unit.kind first_unit.least first_unit.most p → x ≡ true
     → Suits units p

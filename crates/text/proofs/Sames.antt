@@ -1,7 +1,7 @@
 -- Laws of `same`: it passes exactly where two lists of bytes are equal.
 -- Assumes nothing.
-use mathlib.Core.Path.{◌≡◌, refl}
-use mathlib.Core.Bool.{true, false}
+use mathlib.Core.Path.{◌≡◌, refl, sym, ◌∙◌}
+use mathlib.Core.Bool.{Bool, true, false}
 use mathlib.Core.List.{[], ◌∷◌}
 use native.Mathlib.Omega.{arith}
 use lib.Dec.{T, eqb, eqb→eq, eqb_refl}
@@ -39,3 +39,7 @@ same_false s t n = fails (same s t) (λ h. n (same_equal s t h))
 
 pub true_same : (s t : Bytes) → same s t ≡ true → s ≡ t
 true_same s t e = same_equal s t (rw e tt)
+
+-- a comparison of equal parts
+pub same_by : {r : Bool} {a a' b b' : Bytes} → r ≡ same a b → a ≡ a' → b ≡ b' → (v : Bool) → r ≡ v → same a' b' ≡ v
+same_by e p q v f = sym (e ∙ (λ i. same (p i) (q i))) ∙ f

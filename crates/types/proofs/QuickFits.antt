@@ -19,7 +19,7 @@ use Rattle.types.proofs.Fitting.{fits_by}
 
 -- a date up to the 28th
 module _ (s : Bytes) where
-  date_day : length s ≡ 8 → is_number s ≡ true → (day last : ℕ) → day ≡ figures 6 2 s → last ≡ days_in (figures 0 4 s) (figures 4 2 s)
+  pub date_day : length s ≡ 8 → is_number s ≡ true → (day last : ℕ) → day ≡ figures 6 2 s → last ≡ days_in (figures 0 4 s) (figures 4 2 s)
       → leb 1 day && leb day last ≡ is_date s
   unfolding is_date
   date_day l e day last d m = rw (eq-eqb (length s) 8 l, e, d, m)

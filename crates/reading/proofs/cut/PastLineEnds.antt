@@ -83,7 +83,7 @@ passing_more {s} {i = i} p next l past = record {
 
 -- what is skipped lies within the bytes, and is no data
 module _ (how : How) (s : Bytes) where
-  skipped_within : (at : ℕ) → skipped_at how s at ≤ length s - at
+  pub skipped_within : (at : ℕ) → skipped_at how s at ≤ length s - at
   skipped_within zero = omega arith
   skipped_within (suc n) = omega (arith, (skip_law how.separators how.lines).few (drop (suc n) s), length-drop (suc n) s)
 

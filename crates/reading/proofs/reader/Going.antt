@@ -110,7 +110,7 @@ module _ {how : How} {s : Bytes} {before : Tables} {segments levels lasts : List
       let e : end - at ≡ length b.segment = ap (λ (x : ℕ). x - at) b.spoilt.place ∙ add-sub_cancel_left at (length b.segment) in
       rw e (ap (take (length b.segment)) b.spoilt.whole ∙ take-append_seam b.segment (how.separators.terminator ∷ b.more))
 
-  bad_within : (next : Result Cut Uncut) (queue starts : List ℕ) (specials : List Bool) → Cuts how.separators specials s at queue starts next → (end : ℕ) → next ≡ Err (Bad end)
+  pub bad_within : (next : Result Cut Uncut) (queue starts : List ℕ) (specials : List Bool) → Cuts how.separators specials s at queue starts next → (end : ℕ) → next ≡ Err (Bad end)
       → (at ≤ end) × (end ≤ length s)
   bad_within next queue starts specials cuts end is =
       let b = subst (λ (n : Result Cut Uncut). Cuts how.separators specials s at queue starts n) is cuts in
