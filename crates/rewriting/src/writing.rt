@@ -35,14 +35,16 @@ fn write_again(s: &[u8], from: usize, to: usize, change: Change, output: &mut [u
     }
 }
 
-// Writes them as they are.
+// Writes them as they are, place by place: a copy of the whole slice would be a call into the C library.
 fn copy(s: &[u8], from: usize, to: usize, output: &mut [u8])
     requires from_le_to { from ≤ to }
     requires to_in_bounds { to ≤ length s.now }
     requires to_in_bounds_2 { to ≤ length output.old }
     ensures { output.new ≡ put_at from (stretch from to s.now) output.old }
 {
-    output[from..to].copy_from_slice(&s[from..to]);
+    for i in from..to {
+        output[i] = s[i];
+    }
 }
 
 // Writes the segments of an accepted reading, each with its terminator, to the start of the output. They are the bytes that it takes, one behind the
