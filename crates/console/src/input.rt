@@ -1,6 +1,7 @@
 // Where a report comes from, and what can go wrong with it.
 ghost use Rattle.std.specs.Prelude.{◌≡◌, ◌≤◌, length, IfOk, IfSome};
 ghost use Rattle.std.specs.Io.{ReadsAtMost};
+ghost use Rattle.console.specs.Sources.{IfNamed};
 
 use crate::{files, refusing, warning};
 use elements::verdict::Reason;
@@ -78,7 +79,9 @@ pub fn open<'a, R: Env + Files, E: Write>(
     err: &mut E,
     alloc: Global,
     space: &'a mut [u8],
-) -> Result<Option<Source<'a, R::File>>, AllocError> {
+) -> Result<Option<Source<'a, R::File>>, AllocError>
+    ensures { IfOk result (λ found. IfSome found (λ source. IfNamed source (λ name. length name ≤ length space.old))) }
+{
     match rt.arg(1, space) {
         Ok(len) => open_named(rt, err, alloc, &space[..len]),
         Err(FillError::NotPresent) => Ok(Some(Source::Standard)),
@@ -96,7 +99,9 @@ fn open_named<'a, R: Files, E: Write>(
     err: &mut E,
     alloc: Global,
     name: &'a [u8],
-) -> Result<Option<Source<'a, R::File>>, AllocError> {
+) -> Result<Option<Source<'a, R::File>>, AllocError>
+    ensures { IfOk result (λ found. IfSome found (λ source. IfNamed source (λ given. given ≡ name.now))) }
+{
     if name == b"-".as_slice() {
         return Ok(Some(Source::Standard));
     }
