@@ -69,11 +69,9 @@ pub fn after_acceptance<E: Write>(err: &mut E, report: &[u8], used: usize, name:
         return;
     };
     if behind.iter().any(|byte| *byte != b'\r' && *byte != b'\n') {
-        let count = behind.len();
-        warning::warn(
-            err,
-            name,
-            format_args!("bytes behind its SE that were not looked at: {count}"),
-        );
+        warning::about(err, name);
+        warning::say(err, ": bytes behind its SE that were not looked at: ");
+        warning::say(err, behind.len());
+        warning::say(err, "\n");
     }
 }

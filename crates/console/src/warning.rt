@@ -1,15 +1,23 @@
-// The programs' lines on standard error.
+// The programs' lines on standard error, each piece a write of its own. Where one cannot be written nobody can be told: the next is tried, and
+// the verdict stands all the same.
 use std::fmt::Display;
-use std::io;
 use std::io::Write;
 
-// A line about the report with this name. Where it cannot be written nobody can be told, and the verdict stands all the same.
+// A line about the report with this name.
 pub fn warn<E: Write, T: Display + Drop>(err: &mut E, name: &[u8], text: T) {
-    let _ = line(err, name, text);
+    about(err, name);
+    say(err, ": ");
+    say(err, text);
+    say(err, "\n");
 }
 
-fn line<E: Write, T: Display + Drop>(err: &mut E, name: &[u8], text: T) -> io::Result<()> {
-    write!(err, "stormhlaw: ")?;
-    err.write_all(name)?;
-    writeln!(err, ": {text}")
+// The front of such a line.
+pub fn about<E: Write>(err: &mut E, name: &[u8]) {
+    say(err, "stormhlaw: ");
+    let _ = err.write_all(name);
+}
+
+// A piece of it.
+pub fn say<E: Write, T: Display + Drop>(err: &mut E, piece: T) {
+    let _ = write!(err, "{piece}");
 }
