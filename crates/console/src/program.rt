@@ -7,7 +7,7 @@ use crate::{hints, input, judging};
 use gate::answer::Accepted;
 use std::alloc::Global;
 use std::io;
-use std::io::{IsTerminal, LineWriter, Read, Stdout, Write};
+use std::io::{IsTerminal, LineWriter, Read, Write};
 
 // How many bytes a report may have.
 const LONGEST: usize = 65_536;
@@ -30,16 +30,19 @@ pub struct Judged<'a> {
     pub levels: &'a [u64],
 }
 
+// How a program lists an accepted report on standard output.
+pub trait Listing {
+    fn list<O: Write>(&self, out: &mut O, judged: Judged<'_>) -> io::Result<()>;
+}
+
 // Reads the report and prints what came of it. Room for 1,000 segments and 200 levels.
-fn judge<O: Write, E: Write, F: FnOnce(&mut O, Judged<'_>) -> io::Result<()>>(
+fn judge<O: Write, E: Write, L: Listing>(
     out: &mut O,
     err: &mut E,
     report: &[u8],
     name: &[u8],
-    list: F,
-) -> io::Result<()>
-    requires { F.IsAlwaysCallable list }
-{
+    listing: &L,
+) -> io::Result<()> {
     let mut segments = [0u64; SEGMENT_ROOM];
     let mut levels = [0u64; LEVEL_ROOM];
     let Some(accepted) = judging::judge(out, err, report, name, &mut segments, &mut levels)? else {
@@ -51,34 +54,29 @@ fn judge<O: Write, E: Write, F: FnOnce(&mut O, Judged<'_>) -> io::Result<()>>(
         segments: &segments,
         levels: &levels,
     };
-    list(out, judged)?;
+    listing.list(out, judged)?;
     hints::after_acceptance(err, report, accepted.bytes, name);
     Ok(())
 }
 
 // Judges what the input gives, at most 65,536 bytes.
-fn run_on<
-    I: Read + IsTerminal,
-    O: Write,
-    E: Write,
-    F: FnOnce(&mut O, Judged<'_>) -> io::Result<()>,
->(input: &mut I, out: &mut O, err: &mut E, alloc: Global, name: &[u8], list: F) -> io::Result<()>
-    requires { F.IsAlwaysCallable list }
-{
+fn run_on<I: Read + IsTerminal, O: Write, E: Write, L: Listing>(
+    input: &mut I,
+    out: &mut O,
+    err: &mut E,
+    alloc: Global,
+    name: &[u8],
+    listing: &L,
+) -> io::Result<()> {
     let mut buffer = [0u8; LONGEST];
     match input::fill(input, out, err, alloc, name, &mut buffer)? {
-        Some(len) => judge(out, err, &buffer[..len], name, list),
+        Some(len) => judge(out, err, &buffer[..len], name, listing),
         None => Ok(()),
     }
 }
 
 // Runs the program that lists a report so. Each line goes out once it is whole, so that a hint comes behind the line that it is about.
-pub fn run<F: FnOnce(&mut LineWriter<Stdout>, Judged<'_>) -> io::Result<()>>(
-    rt: &HostRuntime,
-    list: F,
-) -> io::Result<()>
-    requires { F.IsAlwaysCallable list }
-{
+pub fn run<L: Listing>(rt: &HostRuntime, listing: &L) -> io::Result<()> {
     let alloc = rt.alloc();
     let mut out = LineWriter::new(alloc, rt.stdout())?;
     let mut err = rt.stderr();
@@ -90,10 +88,10 @@ pub fn run<F: FnOnce(&mut LineWriter<Stdout>, Judged<'_>) -> io::Result<()>>(
             &mut err,
             alloc,
             b"standard input",
-            list,
+            listing,
         ),
         Some(Source::File { mut file, name }) => {
-            run_on(&mut file, &mut out, &mut err, alloc, name, list)
+            run_on(&mut file, &mut out, &mut err, alloc, name, listing)
         }
         None => Ok(()),
     }

@@ -1,6 +1,6 @@
 // The lines of an outline, on standard output.
 use console::codes::Code;
-use console::program::Judged;
+use console::program::{Judged, Listing};
 use levels::widths::SEGMENT_WIDTH;
 use outline::walking;
 use std::io;
@@ -63,12 +63,16 @@ fn line<O: Write>(out: &mut O, judged: Judged<'_>, level: u64) -> io::Result<()>
 
 // A line for each level, under its parent. No walk of what an accepted report leaves is refused: the order has room for as many levels as the
 // program reads.
-pub(crate) fn list<O: Write>(out: &mut O, judged: Judged<'_>) -> io::Result<()> {
-    let mut order = [0u64; LEVELS];
-    if let Ok(count) = walking::walk(judged.levels, judged.accepted.levels, &mut order) {
-        for level in order.iter().take(count) {
-            line(out, judged, *level)?;
+pub(crate) struct Outline;
+
+impl Listing for Outline {
+    fn list<O: Write>(&self, out: &mut O, judged: Judged<'_>) -> io::Result<()> {
+        let mut order = [0u64; LEVELS];
+        if let Ok(count) = walking::walk(judged.levels, judged.accepted.levels, &mut order) {
+            for level in order.iter().take(count) {
+                line(out, judged, *level)?;
+            }
         }
+        Ok(())
     }
-    Ok(())
 }

@@ -9,5 +9,5 @@ use console::program;
 use std::io;
 
 fn main(rt: HostRuntime) -> io::Result<()> {
-    program::run(&rt, lines::list)
+    program::run(&rt, &lines::Outline)
 }

@@ -1,6 +1,6 @@
 // The listing of an accepted report, on standard output.
 use console::codes::Code;
-use console::program::Judged;
+use console::program::{Judged, Listing};
 use gate::answer::Accepted;
 use levels::widths::{LEVEL_WIDTH, SEGMENT_WIDTH};
 use std::io;
@@ -26,13 +26,17 @@ fn list_levels<O: Write>(out: &mut O, levels: &[u64], count: usize) -> io::Resul
 }
 
 // How many segments, levels and bytes there are, then the segments and the levels.
-pub(crate) fn list<O: Write>(out: &mut O, judged: Judged<'_>) -> io::Result<()> {
-    let Accepted {
-        segments,
-        levels,
-        bytes,
-    } = judged.accepted;
-    writeln!(out, "842 segments {segments} levels {levels} bytes {bytes}")?;
-    list_segments(out, judged.segments, segments)?;
-    list_levels(out, judged.levels, levels)
+pub(crate) struct Tables;
+
+impl Listing for Tables {
+    fn list<O: Write>(&self, out: &mut O, judged: Judged<'_>) -> io::Result<()> {
+        let Accepted {
+            segments,
+            levels,
+            bytes,
+        } = judged.accepted;
+        writeln!(out, "842 segments {segments} levels {levels} bytes {bytes}")?;
+        list_segments(out, judged.segments, segments)?;
+        list_levels(out, judged.levels, levels)
+    }
 }

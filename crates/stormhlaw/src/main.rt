@@ -8,5 +8,5 @@ use console::program;
 use std::io;
 
 fn main(rt: HostRuntime) -> io::Result<()> {
-    program::run(&rt, listing::list)
+    program::run(&rt, &listing::Tables)
 }
