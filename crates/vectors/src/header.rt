@@ -18,6 +18,7 @@ pub(crate) fn two_at(header: &Header, at: usize) -> usize
 // Three bytes.
 pub(crate) fn three_at(header: &Header, at: usize) -> usize
     requires { at < 14 }
+    ensures { result < 16777216 }
 {
     let top = usize::from(header[at + 2]);
     two_at(header, at) + 65536 * top
