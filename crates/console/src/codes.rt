@@ -1,4 +1,6 @@
 // The codes of a nonconformance report's levels.
+ghost use Rattle.std.specs.Prelude.{◌≡◌};
+ghost use Rattle.console.specs.Codes.{letters_of, words_of};
 
 // A code as it is printed: in the letters of HL03, and in words.
 #[derive(Clone, Copy)]
@@ -9,7 +11,10 @@ pub struct Code {
 
 impl Code {
     // The code that has this number in a level's record.
-    pub fn of(number: u64) -> Code {
+    pub fn of(number: u64) -> Code
+        ensures letters { result.letters.now ≡ letters_of number }
+        ensures words { result.words.now ≡ words_of number }
+    {
         let (letters, words) = match number {
             1 => ("RP", "report"),
             2 => ("I", "item"),
