@@ -142,6 +142,7 @@ pub fn last_ruled(tag: u8) -> usize
 }
 
 // Whether a segment with that tag is plain: no element of it has a rule.
+#[tactic(auto, unfolding(crate::specs::internal::Verdicts::rules_of, rows::specs::Tags::tag_number))]
 pub fn is_plain(tag: u8) -> bool
     ensures { result ≡ eqb (length (rules_of tag).elements) 0 }
 {

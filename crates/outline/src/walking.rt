@@ -38,7 +38,8 @@ fn walk_under(
 {
     let mut next = at;
     if depth < 4 {
-        for level in of + 1..=forest.count {
+        for before in of..forest.count {
+            let level = before + 1;
             if (forest.stray < level) & (records::depth_in(levels, level) <= depth as u64) {
                 break;
             }

@@ -12,29 +12,28 @@ use Rattle.outline.proofs.walking.+walk_under.Goals.{Then-parent_in-of, Joined-p
 
 -- a child and what is beneath it have room in the output
 child_fits : (t : ℕ) (c : Then-parent_in-of t)
-    → c.loop-level.next + (1 + length (beneath c.args.levels.now c.args.forest.count c.args.depth c.loop-level.level)) ≤ length c.loop-level.output
+    → c.loop-before.next + (1 + length (beneath c.args.levels.now c.args.forest.count c.args.depth (c.loop-before.before + 1))) ≤ length c.loop-before.output
 child_fits t c =
-    child_room c.loop-level.invariant (omega arith) c.loop-level-test.true (sym c.parent_in.ensures ∙ c.if-parent_in-of.true)
+    child_room c.loop-before.invariant (omega arith) (omega (arith, c.loop-before-test.true)) (sym c.parent_in.ensures ∙ c.if-parent_in-of.true)
     c.if-depth-lt4.true c.requires.of_in_bounds
 
 -- with this level
 with_this : (t : ℕ) (c : Joined-parent_in-of t)
     → Visited c.args.levels.now c.args.forest.count c.args.of c.args.depth c.args.output.now c.args.at c.if-parent_in-of.output c.if-parent_in-of.next
-    c.loop-level.level
+    (c.loop-before.before + 1)
 with_this t c =
-    let before = c.loop-level.invariant in
+    let before = c.loop-before.invariant in
     elim c.if-parent_in-of.branch [
       | then-parent_in-of w ↦
           rw (w.output-is, w.next-is)
-          (visited_child before (omega arith) c.loop-level-test.true (sym c.parent_in.ensures ∙ w.if-parent_in-of.true) w.walk_under-next.ensures)
+          (visited_child before (omega arith) (omega (arith, c.loop-before-test.true)) (sym c.parent_in.ensures ∙ w.if-parent_in-of.true) w.walk_under-next.ensures)
       | else-parent_in-of w ↦
           rw (w.output-is, w.next-is)
-          (visited_other before (omega arith) c.loop-level-test.true (λ e. w.if-parent_in-of.false (c.parent_in.ensures ∙ e)))
+          (visited_other before (omega arith) (omega (arith, c.loop-before-test.true)) (λ e. w.if-parent_in-of.false (c.parent_in.ensures ∙ e)))
     ]
 
-pub loop-level-init : goal.loop-level-init
-loop-level-init t c =
-    let e : c.args.of + 1 - 1 ≡ c.args.of = omega arith in rw e (visited_none c.requires.fit_table c.requires.of_le_count.0)
+pub loop-before-init : goal.loop-before-init
+loop-before-init t c = visited_none c.requires.fit_table c.requires.of_le_count.0
 
 pub offset_bounds-output-next : goal.offset_bounds-output-next
 offset_bounds-output-next t c = let fits = child_fits t c in omega arith
@@ -49,7 +48,7 @@ pub walk_under-next-requires : goal.walk_under-next-requires
 walk_under-next-requires t c =
     let pre = c.requires in
     let levels = c.args.levels.now in
-    let level = c.loop-level.level in
+    let level = c.loop-before.before + 1 in
     let fits = child_fits t (goal.at.walk_under-next-requires t c).Then-parent_in-of in
     let hangs = sym c.parent_in.ensures ∙ c.if-parent_in-of.true in
     let deeper = child_depth levels level (pre.fit_table level (omega arith) (omega arith)) c.args.of hangs in
@@ -59,22 +58,16 @@ walk_under-next-requires t c =
       (pre.count_in_bounds, (pre.fit_table, (pre.stray_value, ((omega arith, depth), rw length-set (omega arith))))),
     )
 
-pub loop-level-preserved : goal.loop-level-preserved
-loop-level-preserved t c =
-    let e : c.loop-level.level + 1 - 1 ≡ c.loop-level.level = omega arith in
-    rw e (with_this t (goal.at.loop-level-preserved t c).Joined-parent_in-of)
+pub loop-before-preserved : goal.loop-before-preserved
+loop-before-preserved t c = with_this t (goal.at.loop-before-preserved t c).Joined-parent_in-of
 
-pub returns-then-depth-lt4 : goal.returns-then-depth-lt4
-returns-then-depth-lt4 t c = listed_all c.loop-level.invariant c.if-depth-lt4.true (omega arith)
+pub returns-after-loop-before : goal.returns-after-loop-before
+returns-after-loop-before t c = listed_all c.loop-before.invariant c.if-depth-lt4.true (omega arith)
 
 pub returns-then-forest-level : goal.returns-then-forest-level
 returns-then-forest-level t c =
-    listed_ended c.loop-level.invariant (omega arith) c.loop-level-test.true c.if-depth-lt4.true c.requires.fit_table
+    listed_ended c.loop-before.invariant (omega arith) (omega (arith, c.loop-before-test.true)) c.if-depth-lt4.true c.requires.fit_table
     c.requires.stray_value c.requires.of_le_count.1 c.depth_in.ensures c.if-forest-level.true
-
-pub returns-after-parent_in-of : goal.returns-after-parent_in-of
-returns-after-parent_in-of t c =
-    listed_all (with_this t (goal.at.returns-after-parent_in-of t c).Joined-parent_in-of) c.if-depth-lt4.true (omega arith)
 
 pub returns-else-depth-lt4 : goal.returns-else-depth-lt4
 returns-else-depth-lt4 t c =

@@ -7,5 +7,5 @@ use Rattle.outline.proofs.walking.+walk_under.Given as goal
 abbrev pub decreases-walk_under : goal.decreases-walk_under
 decreases-walk_under l = 4 - l.depth
 
-abbrev pub invariant-loop-level : goal.invariant-loop-level
-invariant-loop-level l = Visited l.levels l.forest.count l.of l.depth l.fn.output l.at l.output l.next (l.level - 1)
+abbrev pub invariant-loop-before : goal.invariant-loop-before
+invariant-loop-before l = Visited l.levels l.forest.count l.of l.depth l.fn.output l.at l.output l.next l.before
